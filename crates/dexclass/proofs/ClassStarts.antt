@@ -1,20 +1,12 @@
 -- A class is known by the first unit of its descriptor.
-use Rattle.dexclass.proofs.Common.{◌≡◌, ◌≢◌, ◌≤◌, ℕ, zero, suc, List, [], ◌∷◌, ◌++◌, sym, ◌∙◌, arith, ◌↔◌, replicate, Contains, Text, TypeKind, VoidType, PrimitiveType, ClassType, ArrayType, HasKind, IsClass, IsDescriptor, primitive_letters}
+use Rattle.dexclass.proofs.Common.{◌≡◌, ◌≢◌, ◌≤◌, ℕ, zero, suc, List, [], ◌∷◌, ◌++◌, sym, ◌∙◌, arith, ◌↔◌, replicate, Contains, Text, TypeKind, VoidType, PrimitiveType, ClassType, ArrayType, HasKind, IsClass, IsDescriptor, primitive_letters, eq-eqb, ◌==◌, false≢true, list_any-member}
 
 first_is : (x y : ℕ) (xs ys : List ℕ) → x ∷ xs ≡ y ∷ ys → x ≡ y
 first_is x y xs ys e = cc
 
 -- no primitive type has this letter
 no_letter : (u : ℕ) → Contains primitive_letters u → u ≢ 0x4c
-no_letter u (zero, lt, e) is = omega (arith, e, is)
-no_letter u (suc zero, lt, e) is = omega (arith, e, is)
-no_letter u (suc (suc zero), lt, e) is = omega (arith, e, is)
-no_letter u (suc (suc (suc zero)), lt, e) is = omega (arith, e, is)
-no_letter u (suc (suc (suc (suc zero))), lt, e) is = omega (arith, e, is)
-no_letter u (suc (suc (suc (suc (suc zero)))), lt, e) is = omega (arith, e, is)
-no_letter u (suc (suc (suc (suc (suc (suc zero))))), lt, e) is = omega (arith, e, is)
-no_letter u (suc (suc (suc (suc (suc (suc (suc zero)))))), lt, e) is = omega (arith, e, is)
-no_letter u (suc (suc (suc (suc (suc (suc (suc (suc k))))))), lt, e) is = absurd (omega arith)
+no_letter u c is = false≢true (list_any-member (λ v. v == 0x4c) primitive_letters u c (eq-eqb u 0x4c is))
 
 module _ (s rest : Text) (unit : ℕ) (first : s ≡ unit ∷ rest) where
   by_kind : (kind : TypeKind) → HasKind kind s → unit ≡ 0x4c → IsClass s

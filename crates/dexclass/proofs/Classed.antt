@@ -1,39 +1,7 @@
 -- Classes with their parents number the definitions that they denote.
-use Rattle.dexclass.proofs.Common.{◌≡◌, ℕ, ◌<◌, true, List, [], ◌∷◌, ◌++◌, length, get_or, map, refl, sym, ap, ◌∙◌, subst, arith, inl, inr, Option, Some, None, All, IsSome, option_to_list, option_map, Contains, flat_map, filter, cases_order, length-map, get_or-map, get_or_default, All-contains, Contains-get_or, present, Text, text_cmp, same_text, Definition, parents, is_defined, above, Mentions, Contains-nil, Contains-first, Contains-later, Contains-cons_cases, Contains-flat_map, Contains-flat_map_source, Contains-filter, Contains-filter_source, list_any-member, list_any-source, Contains-map, Contains-map_source, Rises-from_rises, Rises-places, irreflexive, text_total, parents_of, AreWithin, name_at, AreClassesOf}
-use Rattle.std.proofs.lemmas.Slice.Eq.{slice_eq-Decides}
-use Rattle.std.proofs.lemmas.Bool.Decides.{Decides-eqb}
+use Rattle.dexclass.proofs.Common.{◌≡◌, ℕ, ◌<◌, List, [], ◌++◌, length, get_or, map, refl, sym, ap, ◌∙◌, subst, arith, Option, Some, None, All, IsSome, option_to_list, option_map, Contains, flat_map, filter, length-map, get_or-map, get_or_default, All-contains, Contains-get_or, Text, text_cmp, same_text, Definition, parents, is_defined, above, Mentions, Contains-flat_map, Contains-flat_map_source, Contains-filter, Contains-filter_source, list_any-member, list_any-source, Contains-map, Contains-map_source, text_total, parents_of, AreWithin, name_at, AreClassesOf, one_place as one_at, texts_same, same_from_equal, present_has, present_source, some_of, true}
 use Rattle.dexclass.specs.{NumberedClass, type_at, definition_of, parent_numbers, no_class, name_number, ArePlaces, AreNamed}
-use Rattle.dexclass.proofs.Places.{places_some, places_all, defined_parents}
-
-same_is : (s t : Text) → same_text s t ≡ true → s ≡ t
-same_is s t e = (slice_eq-Decides Decides-eqb s t (same_text s t) refl).0 e
-
-equal_same : (s t : Text) → s ≡ t → same_text s t ≡ true
-equal_same s t e = (slice_eq-Decides Decides-eqb s t (same_text s t) refl).1 e
-
--- what is present is one of the options
-present_source : (os : List (Option ℕ)) (k : ℕ) → Contains (present os) k → Contains os (Some k)
-present_source [] k c = absurd (Contains-nil k c)
-present_source (None ∷ os) k c = Contains-later None (Some k) os (present_source os k c)
-present_source (Some i ∷ os) k c = elim (Contains-cons_cases i k (present os) c) [
-  | inl e ↦ subst (λ (n : ℕ). Contains (Some i ∷ os) (Some n)) e (Contains-first (Some i) os)
-  | inr later ↦ Contains-later (Some i) (Some k) os (present_source os k later)
-]
-
-present_has : (os : List (Option ℕ)) (k : ℕ) → Contains os (Some k) → Contains (present os) k
-present_has [] k c = absurd (Contains-nil (Some k) c)
-present_has (None ∷ os) k c = elim (Contains-cons_cases None (Some k) os c) [
-  | inl e ↦ absurd cc
-  | inr later ↦ present_has os k later
-]
-present_has (Some i ∷ os) k c = elim (Contains-cons_cases (Some i) (Some k) os c) [
-  | inl e ↦ let same : i ≡ k = cc in subst (Contains (i ∷ present os)) same (Contains-first i (present os))
-  | inr later ↦ Contains-later i k (present os) (present_has os k later)
-]
-
-option_is : (o : Option ℕ) → IsSome o → (k : ℕ) × (o ≡ Some k)
-option_is None s = absurd cc
-option_is (Some k) s = (k, refl)
+use Rattle.dexclass.proofs.Places.{places_some, places_all, defined_parents, one_place, seen_apart}
 
 module _ (m : Mentions) (cs : List NumberedClass) (named : AreNamed m cs) where
   abbrev D : List Definition
@@ -47,13 +15,7 @@ module _ (m : Mentions) (cs : List NumberedClass) (named : AreNamed m cs) where
 
   -- a type has one number
   pub one_number : (i j : ℕ) → i < length m.types → j < length m.types → type_at m i ≡ type_at m j → i ≡ j
-  one_number i j li lj e = elim (cases_order i j) [
-    | inl same ↦ same
-    | inr other ↦ elim other [
-      | inl less ↦ absurd (irreflexive text_cmp text_total (type_at m i) (type_at m j) e (Rises-places text_cmp text_total m.types i j [] (Rises-from_rises text_cmp text_total m.types named.rising) less lj))
-      | inr more ↦ absurd (irreflexive text_cmp text_total (type_at m j) (type_at m i) (sym e) (Rises-places text_cmp text_total m.types j i [] (Rises-from_rises text_cmp text_total m.types named.rising) more li))
-    ]
-  ]
+  one_number i j li lj e = one_at text_cmp text_total m.types named.rising i j [] li lj e
 
   -- the parents of a definition are the types of its class's parents
   parent_types : (c : NumberedClass) → parents (definition_of m c).1 ≡ map (type_at m) (parent_numbers c)
@@ -72,7 +34,10 @@ module _ (m : Mentions) (cs : List NumberedClass) (named : AreNamed m cs) where
 
     -- a parent's number is that of a class with a parent's name
     parent_source : (c : NumberedClass) (k : ℕ) → Contains (defined_parents places c) k → (p : ℕ) × Contains (parent_numbers c) p × (get_or places p None ≡ Some k)
-    parent_source c k has = Contains-map_source (λ p. get_or places p None) (parent_numbers c) (Some k) (present_source (map (λ p. get_or places p None) (parent_numbers c)) k has)
+    parent_source c k has =
+        let ps = map (λ p. get_or places p None) (parent_numbers c) in
+        let s = present_source ps k has in
+        Contains-map_source (λ p. get_or places p None) (parent_numbers c) (Some k) (s.0, s.1, get_or_default ps s.0 (Some k) None s.1 ∙ s.2)
 
     within : AreWithin classes
     within i d lt =
@@ -80,8 +45,7 @@ module _ (m : Mentions) (cs : List NumberedClass) (named : AreNamed m cs) where
         subst (All (λ p. p < length classes)) (sym (get_or-map (defined_parents places) cs i no_class d few)) (λ k e small.
         let c = get_or cs i no_class in
         let s = parent_source c (get_or (defined_parents places c) k e) (Contains-get_or (defined_parents places c) k e small) in
-        let at = places_some cs places h s.0 (get_or (defined_parents places c) k e) s.2 in
-        omega (arith, at.0, length-map cs (defined_parents places)))
+        omega (arith, (places_some cs places h s.0 (get_or (defined_parents places c) k e) s.2).0, length-map cs (defined_parents places)))
 
     -- a defined parent is above
     is_above : (i : ℕ) (name : Text) → i < length cs → Contains (map (name_at D) (parents_of classes i)) name → Contains (above D (name_at D i)) name
@@ -92,11 +56,11 @@ module _ (m : Mentions) (cs : List NumberedClass) (named : AreNamed m cs) where
         let at = places_some cs places h s.0 k.0 s.2 in
         let name_p : name ≡ type_at m s.0 = sym k.2 ∙ name_is k.0 at.0 ∙ ap (type_at m) at.1 in
         let member : Contains D (definition_of m c) = Contains-map (definition_of m) cs c (Contains-get_or cs i no_class lt) in
-        let own : same_text (definition_of m c).0 (name_at D i) ≡ true = equal_same (type_at m c.name) (name_at D i) (sym (name_is i lt)) in
+        let own : same_text (definition_of m c).0 (name_at D i) ≡ true = same_from_equal (type_at m c.name) (name_at D i) (sym (name_is i lt)) in
         let parent : Contains (parents (definition_of m c).1) name = subst (λ (l : List Text). Contains l name) (sym (parent_types c)) (subst (Contains (map (type_at m) (parent_numbers c))) (sym name_p) (Contains-map (type_at m) (parent_numbers c) s.0 s.1)) in
         let defined : is_defined D name ≡ true =
         let d = get_or cs k.0 no_class in
-        list_any-member (λ x. same_text x.0 name) D (definition_of m d) (Contains-map (definition_of m) cs d (Contains-get_or cs k.0 no_class at.0)) (equal_same (type_at m d.name) name (sym (name_is k.0 at.0) ∙ k.2)) in
+        list_any-member (λ x. same_text x.0 name) D (definition_of m d) (Contains-map (definition_of m) cs d (Contains-get_or cs k.0 no_class at.0)) (same_from_equal (type_at m d.name) name (sym (name_is k.0 at.0) ∙ k.2)) in
         Contains-filter (is_defined D) (flat_map (λ d. parents d.1) (filter (λ d. same_text d.0 (name_at D i)) D)) name
         (Contains-flat_map (λ d. parents d.1) (filter (λ d. same_text d.0 (name_at D i)) D) (definition_of m c) name (Contains-filter (λ d. same_text d.0 (name_at D i)) D (definition_of m c) member own) parent)
         defined
@@ -106,20 +70,8 @@ module _ (m : Mentions) (cs : List NumberedClass) (named : AreNamed m cs) where
     one_class c i member lt e =
         let at : get_or cs member.0 no_class ≡ c = get_or_default cs member.0 no_class c member.1 ∙ member.2 in
         let number : name_number cs member.0 ≡ name_number cs i = one_number _ _ (named.names member.0 member.1) (named.names i lt) (ap (λ (x : NumberedClass). type_at m x.name) at ∙ e ∙ name_is i lt) in
-        let place : member.0 ≡ i = same_place member.0 i member.1 lt number in
+        let place : member.0 ≡ i = one_place (λ (x : NumberedClass). x.name) cs (seen_apart (λ (x : NumberedClass). x.name) cs named.distinct) member.0 i no_class member.1 lt number in
         sym at ∙ ap (λ (k : ℕ). get_or cs k no_class) place
-      where
-        at_name : (k : ℕ) → k < length cs → get_or (map (λ (x : NumberedClass). x.name) cs) k 0 ≡ name_number cs k
-        at_name k small = get_or-map (λ c. c.name) cs k no_class 0 small
-
-        same_place : (j k : ℕ) → j < length cs → k < length cs → name_number cs j ≡ name_number cs k → j ≡ k
-        same_place j k lj lk number = elim (cases_order j k) [
-          | inl same ↦ same
-          | inr other ↦ elim other [
-            | inl less ↦ absurd (named.distinct j k 0 less (omega (arith, lk, length-map cs (λ c. c.name))) (at_name j lj ∙ number ∙ sym (at_name k lk)))
-            | inr more ↦ absurd (named.distinct k j 0 more (omega (arith, lj, length-map cs (λ c. c.name))) (at_name k lk ∙ sym number ∙ sym (at_name j lj)))
-          ]
-        ]
 
     -- and what is above is a defined parent
     of_above : (i : ℕ) (name : Text) → i < length cs → Contains (above D (name_at D i)) name → Contains (map (name_at D) (parents_of classes i)) name
@@ -129,17 +81,18 @@ module _ (m : Mentions) (cs : List NumberedClass) (named : AreNamed m cs) where
         let own = Contains-filter_source (λ d. same_text d.0 (name_at D i)) D d.0 d.1 in
         let c = Contains-map_source (definition_of m) cs d.0 own.0 in
         let first : type_at m c.0.name ≡ d.0.0 = ap (λ (x : Definition). x.0) c.2 in
-        let is : c.0 ≡ get_or cs i no_class = one_class c.0 i c.1 lt (first ∙ same_is d.0.0 (name_at D i) own.1) in
+        let is : c.0 ≡ get_or cs i no_class = one_class c.0 i c.1 lt (first ∙ texts_same d.0.0 (name_at D i) (sym own.1)) in
         let body : Contains (parents (definition_of m c.0).1) name = subst (λ (x : Definition). Contains (parents x.1) name) (sym c.2) d.2 in
         let p = Contains-map_source (type_at m) (parent_numbers c.0) name (subst (λ (l : List Text). Contains l name) (parent_types c.0) body) in
         let e = list_any-source (λ x. same_text x.0 name) D f.1 in
         let k = Contains-map_source (definition_of m) cs e.0 e.1 in
         let other : get_or cs k.1.0 no_class ≡ k.0 = get_or_default cs k.1.0 no_class k.0 k.1.1 ∙ k.1.2 in
-        let named_p : type_at m (name_number cs k.1.0) ≡ type_at m p.0 = ap (λ (x : NumberedClass). type_at m x.name) other ∙ ap (λ (x : Definition). x.0) k.2 ∙ same_is e.0.0 name e.2 ∙ sym p.2 in
+        let named_p : type_at m (name_number cs k.1.0) ≡ type_at m p.0 = ap (λ (x : NumberedClass). type_at m x.name) other ∙ ap (λ (x : Definition). x.0) k.2 ∙ texts_same e.0.0 name (sym e.2) ∙ sym p.2 in
         let number : name_number cs k.1.0 ≡ p.0 = one_number _ _ (named.names k.1.0 k.1.1) (All-contains (λ q. q < length m.types) (parent_numbers c.0) p.0 (named.parents_in c.0 c.1) p.1) named_p in
-        let some = option_is (get_or places p.0 None) (subst (λ (n : ℕ). IsSome (get_or places n None)) number (places_all cs places h k.1.0 k.1.1)) in
+        let some = some_of (get_or places p.0 None) (subst (λ (n : ℕ). IsSome (get_or places n None)) number (places_all cs places h k.1.0 k.1.1)) in
         let at = places_some cs places h p.0 some.0 some.1 in
-        let listed : Contains (defined_parents places c.0) some.0 = present_has (map (λ q. get_or places q None) (parent_numbers c.0)) some.0 (subst (Contains (map (λ q. get_or places q None) (parent_numbers c.0))) some.1 (Contains-map (λ q. get_or places q None) (parent_numbers c.0) p.0 p.1)) in
+        let listed : Contains (defined_parents places c.0) some.0 = let ps = map (λ q. get_or places q None) (parent_numbers c.0) in let q = subst (Contains ps) some.1 (Contains-map (λ q. get_or places q None) (parent_numbers c.0) p.0 p.1) in
+        present_has ps q.0 some.0 q.1 (get_or_default ps q.0 None (Some some.0) q.1 ∙ q.2) in
         let there : Contains (parents_of classes i) some.0 = subst (λ (l : List ℕ). Contains l some.0) (ap (defined_parents places) is ∙ sym (at_class i lt)) listed in
         subst (Contains (map (name_at D) (parents_of classes i))) (name_is some.0 at.0 ∙ ap (type_at m) at.1 ∙ p.2) (Contains-map (name_at D) (parents_of classes i) some.0 there)
 

@@ -5,11 +5,10 @@ module _ (f g : ℕ → ℕ) where
   -- member by member
   pub equivalent : (xs ys : List ℕ) → length xs ≡ length ys → ((k : ℕ) → k < length xs → f (get_or xs k 0) ≡ g (get_or ys k 0)) → map f xs ≡ map g ys
   equivalent [] [] e each = refl
-  equivalent [] (y ∷ ys) e each = absurd (omega (arith, e))
-  equivalent (x ∷ xs) [] e each = absurd (omega (arith, e))
   equivalent (x ∷ xs) (y ∷ ys) e each =
       ap (λ (n : ℕ). n ∷ map f xs) (each 0 (omega arith))
       ∙ ap (λ (l : List ℕ). g y ∷ l) (equivalent xs ys (omega (arith, e)) (λ k lt. each (suc k) (omega (arith, lt))))
+  equivalent v w e each = absurd (omega (arith, e))
 
   -- lists that are mapped to the same list are as long
   pub equivalent_length : (xs ys : List ℕ) → map f xs ≡ map g ys → length xs ≡ length ys

@@ -1,5 +1,5 @@
 -- Indices of classes and texts, and what tests and marks say of them.
-use Rattle.dexclass.proofs.Common.{◌≡◌, ◌≢◌, ℕ, zero, suc, ◌<◌, Bool, false, List, [], ◌∷◌, length, get_or, refl, sym, subst, arith, ◌↔◌, IsTrue, All, nat_lt, Some, None, ltb-true, lt-ltb, ne_eqb, IsClass, TypeIds, table_size, no_index, Mentions, IsDefinedBefore, one_type, ArePools}
+use Rattle.dexclass.proofs.Common.{◌≡◌, ◌≢◌, ℕ, ◌<◌, Bool, false, List, [], ◌∷◌, length, get_or, refl, sym, subst, arith, ◌↔◌, IsTrue, All, nat_lt, Some, None, ltb-true, lt-ltb, ne_eqb, All-nil, All-cons, IsClass, TypeIds, table_size, no_index, Mentions, IsDefinedBefore, one_type, ArePools}
 use Rattle.dexclass.specs.internal.Rows.{AreClassTests, IsClassIndex, IsParentIndex, IsSourceIndex, IsInterfaceIndex, superclass_indices}
 
 -- a test in range says whether the index is that of a class
@@ -35,14 +35,8 @@ interface_is b r i t class before = (λ e. record { class_is = class; before = b
 -- the superclass alone
 pub superclass_before : (b : List ℕ) (r i : ℕ) (t : Bool) → i ≢ no_index → (IsTrue t ↔ IsDefinedBefore b r i) → IsTrue t ↔ All (IsDefinedBefore b r) (superclass_indices i)
 superclass_before b r i t some before =
-    let e : superclass_indices i ≡ i ∷ [] = rw (ne_eqb i no_index some) refl in (
-      λ yes. subst (All (IsDefinedBefore b r)) (sym e) (one (before.0 yes)),
-      λ all. before.1 (subst (All (IsDefinedBefore b r)) e all 0 0 (omega arith)),
-    )
-  where
-    one : IsDefinedBefore b r i → All (IsDefinedBefore b r) (i ∷ [])
-    one h zero d lt = h
-    one h (suc k) d lt = absurd (omega arith)
+    let e : superclass_indices i ≡ i ∷ [] = rw (ne_eqb i no_index some) refl in
+    ((λ yes. subst (All (IsDefinedBefore b r)) (sym e) (All-cons (IsDefinedBefore b r) i [] (before.0 yes) (All-nil (IsDefinedBefore b r)))), (λ all. before.1 (subst (All (IsDefinedBefore b r)) e all 0 0 (omega arith))))
 
 -- a class in range
 pub class_in_range : (b : List ℕ) (i : ℕ) → IsClassIndex b i → i < table_size b TypeIds

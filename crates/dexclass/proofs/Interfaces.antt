@@ -1,18 +1,8 @@
 -- Lists of interfaces.
-use Rattle.dexclass.proofs.Common.{◌≡◌, ◌≢◌, ℕ, zero, suc, ◌+◌, ◌*◌, ◌<◌, ◌≤◌, List, [], ◌∷◌, length, drop, get_or, refl, sym, ap, ◌∙◌, subst, arith, inl, inr, All, AllZip, cases_lt, ne_eqb, uint_at, ushort_at, ushorts_at, Text, IsClass, TypeRow, type_indices, OrNone, ClassListAt, interfaces_off, IsDefinedBefore, ushort_at_rest, IsClassDef, ClassDef}
+use Rattle.dexclass.proofs.Common.{◌≡◌, ◌≢◌, ℕ, ◌+◌, ◌*◌, ◌<◌, ◌≤◌, List, [], ◌∷◌, length, drop, refl, sym, ap, ◌∙◌, subst, arith, inl, inr, All, AllZip, below_more, ne_eqb, All-cons, All-tail, uint_at, ushort_at, ushorts_at, Text, IsClass, TypeRow, type_indices, OrNone, ClassListAt, interfaces_off, IsDefinedBefore, ushort_at_rest, IsClassDef, ClassDef, length-ushorts_at}
+use Rattle.dexrows.proofs.Shorts.{short_of}
 use Rattle.dexpool.specs.Reading.{HasRoom}
 use Rattle.dexclass.specs.internal.Rows.{IsClassIndex, IsInterfaceIndex, interface_indices, HasInterfaceList, HasInterfaces}
-
--- ---- indices one by one
-
-length-ushorts : (b : List ℕ) (o n : ℕ) → length (ushorts_at b o n) ≡ n
-length-ushorts b o zero = refl
-length-ushorts b o (suc n) = ap suc (length-ushorts b (o + 2) n)
-
-ushort-index : (b : List ℕ) (o n k d : ℕ) → k < n → get_or (ushorts_at b o n) k d ≡ ushort_at b (o + 2 * k)
-ushort-index b o zero k d lt = absurd (omega arith)
-ushort-index b o (suc n) zero d lt = ap (ushort_at b) (omega arith)
-ushort-index b o (suc n) (suc k) d lt = ushort-index b (o + 2) n k d (omega arith) ∙ ap (ushort_at b) (omega arith)
 
 -- an index that is read from the rest of the file
 pub index_is : (b list : List ℕ) (off k m n : ℕ) → n ≡ m → m ≡ ushort_at list (4 + 2 * k) → list ≡ drop off b → n ≡ ushort_at b (off + 4 + 2 * k)
@@ -22,21 +12,18 @@ module _ (b : List ℕ) (off count : ℕ) (room : HasRoom b off count) where
   -- what holds of each index holds of all
   pub all_indices : (P : ℕ → Type 0) → ((k : ℕ) → k < count → P (ushort_at b (off + 4 + 2 * k))) → All P (type_indices b off)
   all_indices P each k d lt =
-      let small : k < uint_at b off = omega (arith, lt, length-ushorts b (off + 4) (uint_at b off)) in
-      subst P (sym (ushort-index b (off + 4) (uint_at b off) k d small)) (each k (omega (arith, small, room.count)))
+      let small : k < uint_at b off = omega (arith, lt, length-ushorts_at b (off + 4) (uint_at b off)) in
+      subst P (sym (short_of b (off + 4) (uint_at b off) k d small)) (each k (omega (arith, small, room.count)))
 
   -- and the other way round
   pub index_of_all : (P : ℕ → Type 0) (k : ℕ) → k < count → All P (type_indices b off) → P (ushort_at b (off + 4 + 2 * k))
   index_of_all P k lt all =
       let small : k < uint_at b off = omega (arith, lt, room.count) in
-      subst P (ushort-index b (off + 4) (uint_at b off) k 0 small) (all k 0 (omega (arith, small, length-ushorts b (off + 4) (uint_at b off))))
+      subst P (short_of b (off + 4) (uint_at b off) k 0 small) (all k 0 (omega (arith, small, length-ushorts_at b (off + 4) (uint_at b off))))
 
 -- one index more
 pub interface_more : (b : List ℕ) (r o k n : ℕ) → ((j : ℕ) → j < k → IsInterfaceIndex b r (ushort_at b (o + 2 * j))) → n ≡ ushort_at b (o + 2 * k) → IsInterfaceIndex b r n → (j : ℕ) → j < k + 1 → IsInterfaceIndex b r (ushort_at b (o + 2 * j))
-interface_more b r o k n before e is j lt = elim (cases_lt j k) [
-  | inl small ↦ before j small
-  | inr large ↦ let same : k ≡ j = omega arith in subst (λ (m : ℕ). IsInterfaceIndex b r (ushort_at b (o + 2 * m))) same (subst (IsInterfaceIndex b r) e is)
-]
+interface_more b r o k n before e is = below_more (λ j. IsInterfaceIndex b r (ushort_at b (o + 2 * j))) k before (subst (IsInterfaceIndex b r) e is)
 
 -- ---- the classes of a list
 
@@ -46,26 +33,18 @@ pub record AreClasses (b : List ℕ) (indices : List ℕ) : Type 0 where
   pub rows : AllZip (TypeRow b) indices types
   pub classes : All IsClass types
 
-all_later : {X : Type 0} (P : X → Type 0) (x : X) (xs : List X) → All P (x ∷ xs) → All P xs
-all_later P x xs h k d lt = h (suc k) d (omega (arith, lt))
-
-all_more : {X : Type 0} (P : X → Type 0) (x : X) (xs : List X) → P x → All P xs → All P (x ∷ xs)
-all_more P x xs p h zero d lt = p
-all_more P x xs p h (suc k) d lt = h k d (omega (arith, lt))
-
 classes_of : (b : List ℕ) (indices : List ℕ) → All (IsClassIndex b) indices → AreClasses b indices
 classes_of b [] h = record { types = []; rows = tt; classes = λ k d lt. absurd (omega arith) }
 classes_of b (i ∷ is) h =
     let first = h 0 0 (omega arith) in
-    let rest = classes_of b is (all_later (IsClassIndex b) i is h) in
-    record { types = first.0 ∷ rest.types; rows = (first.1.row, rest.rows); classes = all_more IsClass first.0 rest.types first.1.class rest.classes }
+    let rest = classes_of b is (All-tail (IsClassIndex b) i is h) in
+    record { types = first.0 ∷ rest.types; rows = (first.1.row, rest.rows); classes = All-cons IsClass first.0 rest.types first.1.class rest.classes }
 
 pub of_classes : (b : List ℕ) (indices : List ℕ) (ts : List Text) → AllZip (TypeRow b) indices ts → All IsClass ts → All (IsClassIndex b) indices
 of_classes b [] [] rows classes = λ k d lt. absurd (omega arith)
-of_classes b [] (t ∷ ts) rows classes = absurd rows
-of_classes b (i ∷ is) [] rows classes = absurd rows
 of_classes b (i ∷ is) (t ∷ ts) rows classes =
-    all_more (IsClassIndex b) i is (t, record { row = rows.0; class = classes 0 [] (omega arith) }) (of_classes b is ts rows.1 (all_later IsClass t ts classes))
+    All-cons (IsClassIndex b) i is (t, record { row = rows.0; class = classes 0 [] (omega arith) }) (of_classes b is ts rows.1 (All-tail IsClass t ts classes))
+of_classes b x v rows classes = absurd rows
 
 -- ---- the list at an offset
 
@@ -74,7 +53,7 @@ listed_interfaces b o ne = rw (ne_eqb o 0 ne) refl
 
 -- there are as many as there is room for
 pub interfaces_count : (b : List ℕ) (off count : ℕ) → off ≢ 0 → HasRoom b off count → count ≡ length (interface_indices b off)
-interfaces_count b off count some room = room.count ∙ sym (length-ushorts b (off + 4) (uint_at b off)) ∙ ap length (sym (listed_interfaces b off some))
+interfaces_count b off count some room = room.count ∙ sym (length-ushorts_at b (off + 4) (uint_at b off)) ∙ ap length (sym (listed_interfaces b off some))
 
 -- a list at an offset has room
 pub listed_room : (b : List ℕ) (off : ℕ) → off ≢ 0 → HasInterfaceList b off → HasRoom b off (uint_at b off)

@@ -1,30 +1,8 @@
 -- The symbols that are marked are those that occur, and so are those that they mention.
-use Rattle.dexclass.proofs.Common.{◌≡◌, ℕ, ◌==◌, ◌&&◌, Bool, true, false, List, [], ◌∷◌, ◌++◌, map, get_or, refl, sym, ap, ◌∙◌, subst, inl, inr, eq-eqb, All, AllZip, Contains, flat_map, eqb-true, Contains-append_left, Contains-append_right, Contains-append_cases, Text, text_cmp, Proto, Field, Method, Symbol, TextSymbol, TypeSymbol, ProtoSymbol, FieldSymbol, MethodSymbol, proto_cmp, field_cmp, method_cmp, Mentions, closed, texts_in, types_in, protos_in, fields_in, methods_in, AreAmong, Contains-nil, Contains-first, Contains-later, Contains-cons_cases, AreAmong-flat_map, and_first, and_second, list_any-member, list_any-source, in_order-same, text_total, text_exact, proto_total, proto_exact, field_total, field_exact, method_total, method_exact, SymbolKind, Marks, IsNumbered, IsOfKind, marked, Use, IsUseOf, IsMarkedUse, marks_of, same_kind, kept_from, kept_has}
+use Rattle.dexclass.proofs.Common.{◌≡◌, ℕ, ◌==◌, ◌&&◌, Bool, true, false, List, ◌++◌, map, get_or, refl, sym, ap, ◌∙◌, subst, inl, inr, eq-eqb, AllZip, Contains, flat_map, eqb-true, Contains-append_left, Contains-append_right, Contains-append_cases, Text, text_cmp, Proto, Field, Method, Symbol, TextSymbol, TypeSymbol, ProtoSymbol, FieldSymbol, MethodSymbol, proto_cmp, field_cmp, method_cmp, Mentions, closed, texts_in, types_in, protos_in, fields_in, methods_in, AreAmong, AreAmong-flat_map, and_first, and_second, list_any-member, list_any-source, Contains-map_source, Contains-map, in_order-same, text_total, text_exact, proto_total, proto_exact, field_total, field_exact, method_total, method_exact, SymbolKind, Marks, IsAt, IsNumbered, IsOfKind, marked, Use, IsUseOf, IsMarkedUse, marks_of, same_kind, kept_from, kept_has, zip_source, zip_target}
 use Rattle.dexpool.specs.Cut.{kept}
 use Rattle.dexpool.specs.declared.symbols.SymbolKind.TheVariants as kinds
-use Rattle.dexpool.proofs.Pairs.{zip_source, zip_target}
 use Rattle.dexclass.specs.{HaveMarked}
-
--- ---- members of mapped lists
-
-module _ {X Y : Type 0} (f : X → Y) where
-  pub Contains-map : (xs : List X) (x : X) → Contains xs x → Contains (map f xs) (f x)
-  Contains-map [] x c = absurd (Contains-nil x c)
-  Contains-map (y ∷ ys) x c = elim (Contains-cons_cases y x ys c) [
-    | inl e ↦ subst (λ (z : X). Contains (map f (y ∷ ys)) (f z)) e (Contains-first (f y) (map f ys))
-    | inr later ↦ Contains-later (f y) (f x) (map f ys) (Contains-map ys x later)
-  ]
-
-  pub Contains-map_source : (xs : List X) (y : Y) → Contains (map f xs) y → (x : X) × Contains xs x × (f x ≡ y)
-  Contains-map_source [] y c = absurd (Contains-nil y c)
-  Contains-map_source (x ∷ xs) y c = elim (Contains-cons_cases (f x) y (map f xs) c) [
-    | inl e ↦ (x, Contains-first x xs, e)
-    | inr later ↦ let r = Contains-map_source xs y later in (r.0, Contains-later x r.0 xs r.1, r.2)
-  ]
-
--- a member of a list of which all pass
-pub All-member : {X : Type 0} (P : X → Type 0) (xs : List X) (x : X) → All P xs → Contains xs x → P x
-All-member P xs x all c = subst P c.2 (all c.0 x c.1)
 
 -- ---- symbols of a kind and a number
 
@@ -40,10 +18,7 @@ same_is _ _ e = cc
 -- each kind is itself
 is_same : (k : SymbolKind) → same_kind k k ≡ true
 is_same kinds.Text = refl
-is_same kinds.Typ = refl
-is_same kinds.Proto = refl
-is_same kinds.Field = refl
-is_same kinds.Method = refl
+is_same x = refl
 
 module _ (m : Mentions) (i : ℕ) where
   text_is : (s : Symbol) (x : Text) → IsNumbered m i s → IsOfKind kinds.Text s → ((d : Text) → get_or m.texts i d ≡ x) → s ≡ TextSymbol x
@@ -67,6 +42,10 @@ module _ (m : Mentions) (i : ℕ) where
   method_is _ x at of is = absurd of
 
 -- ---- the symbols that are marked
+
+-- a member whose place is marked
+kept_part : {X : Type 0} (wrap : X → Symbol) (bits : List Bool) (xs : List X) (i : ℕ) (x : X) → get_or bits i false ≡ true → IsAt xs i x → Contains (map wrap (kept bits xs)) (wrap x)
+kept_part wrap bits xs i x e at = Contains-map wrap (kept bits xs) x (subst (Contains (kept bits xs)) (at.is x) (kept_has bits xs i x e at.within))
 
 module _ (m : Mentions) (marks : Marks) where
   abbrev pub texts_part : List Symbol
@@ -93,30 +72,17 @@ module _ (m : Mentions) (marks : Marks) where
   abbrev after_texts : List Symbol
   after_texts = types_part ++ after_types
 
-  -- each symbol of one of the five parts is marked
-  in_types : (s : Symbol) → Contains types_part s → Contains (marked m marks) s
-  in_types s c = Contains-append_right texts_part after_texts s (Contains-append_left types_part after_types s c)
-
-  in_protos : (s : Symbol) → Contains protos_part s → Contains (marked m marks) s
-  in_protos s c = Contains-append_right texts_part after_texts s (Contains-append_right types_part after_types s (Contains-append_left protos_part after_protos s c))
-
   in_members : (s : Symbol) → Contains after_protos s → Contains (marked m marks) s
   in_members s c = Contains-append_right texts_part after_texts s (Contains-append_right types_part after_types s (Contains-append_right protos_part after_protos s c))
 
   -- a symbol whose number is marked
   pub is_kept : (kind : SymbolKind) (i : ℕ) (s : Symbol) → get_or (marks_of kind marks) i false ≡ true → IsNumbered m i s → IsOfKind kind s → Contains (marked m marks) s
-  is_kept kinds.Text i (TextSymbol x) e at of =
-      Contains-append_left texts_part after_texts (TextSymbol x) (Contains-map TextSymbol (kept marks.strings.items m.texts) x (subst (Contains (kept marks.strings.items m.texts)) (at.is x) (kept_has marks.strings.items m.texts i x e at.within)))
-  is_kept kinds.Typ i (TypeSymbol x) e at of =
-      in_types (TypeSymbol x) (Contains-map TypeSymbol (kept marks.types.items m.types) x (subst (Contains (kept marks.types.items m.types)) (at.is x) (kept_has marks.types.items m.types i x e at.within)))
+  is_kept kinds.Text i (TextSymbol x) e at of = Contains-append_left texts_part after_texts (TextSymbol x) (kept_part TextSymbol marks.strings.items m.texts i x e at)
+  is_kept kinds.Typ i (TypeSymbol x) e at of = Contains-append_right texts_part after_texts (TypeSymbol x) (Contains-append_left types_part after_types (TypeSymbol x) (kept_part TypeSymbol marks.types.items m.types i x e at))
   is_kept kinds.Proto i (ProtoSymbol x) e at of =
-      in_protos (ProtoSymbol x) (Contains-map ProtoSymbol (kept marks.protos.items m.protos) x (subst (Contains (kept marks.protos.items m.protos)) (at.is x) (kept_has marks.protos.items m.protos i x e at.within)))
-  is_kept kinds.Field i (FieldSymbol x) e at of =
-      in_members (FieldSymbol x) (Contains-append_left fields_part methods_part (FieldSymbol x)
-      (Contains-map FieldSymbol (kept marks.fields.items m.fields) x (subst (Contains (kept marks.fields.items m.fields)) (at.is x) (kept_has marks.fields.items m.fields i x e at.within))))
-  is_kept kinds.Method i (MethodSymbol x) e at of =
-      in_members (MethodSymbol x) (Contains-append_right fields_part methods_part (MethodSymbol x)
-      (Contains-map MethodSymbol (kept marks.methods.items m.methods) x (subst (Contains (kept marks.methods.items m.methods)) (at.is x) (kept_has marks.methods.items m.methods i x e at.within))))
+      Contains-append_right texts_part after_texts (ProtoSymbol x) (Contains-append_right types_part after_types (ProtoSymbol x) (Contains-append_left protos_part after_protos (ProtoSymbol x) (kept_part ProtoSymbol marks.protos.items m.protos i x e at)))
+  is_kept kinds.Field i (FieldSymbol x) e at of = in_members (FieldSymbol x) (Contains-append_left fields_part methods_part (FieldSymbol x) (kept_part FieldSymbol marks.fields.items m.fields i x e at))
+  is_kept kinds.Method i (MethodSymbol x) e at of = in_members (MethodSymbol x) (Contains-append_right fields_part methods_part (MethodSymbol x) (kept_part MethodSymbol marks.methods.items m.methods i x e at))
   is_kept _ i _ e at of = absurd of
 
 -- ---- what is marked is what occurs
@@ -140,51 +106,25 @@ module _ (m : Mentions) (us : List Use) (ss : List Symbol) (marks : Marks) (zip 
         kind_is = subst (λ k. IsOfKind k s.0) (same_is u.0.kind kind (and_first (same_kind u.0.kind kind) (u.0.number == i) u.2)) s.2.1;
       }
 
-  from_texts : (s : Symbol) → Contains (texts_part m marks) s → Contains ss s
-  from_texts s c =
-      let t = Contains-map_source TextSymbol (kept marks.strings.items m.texts) s c in
-      let k = kept_from marks.strings.items m.texts t.0 t.1 in
-      let o = occurs_there kinds.Text k.at k.marked in
-      subst (Contains ss) (text_is m k.at o.symbol t.0 o.number_is o.kind_is k.is ∙ t.2) o.occurs
-
-  from_types : (s : Symbol) → Contains (types_part m marks) s → Contains ss s
-  from_types s c =
-      let t = Contains-map_source TypeSymbol (kept marks.types.items m.types) s c in
-      let k = kept_from marks.types.items m.types t.0 t.1 in
-      let o = occurs_there kinds.Typ k.at k.marked in
-      subst (Contains ss) (type_is m k.at o.symbol t.0 o.number_is o.kind_is k.is ∙ t.2) o.occurs
-
-  from_protos : (s : Symbol) → Contains (protos_part m marks) s → Contains ss s
-  from_protos s c =
-      let t = Contains-map_source ProtoSymbol (kept marks.protos.items m.protos) s c in
-      let k = kept_from marks.protos.items m.protos t.0 t.1 in
-      let o = occurs_there kinds.Proto k.at k.marked in
-      subst (Contains ss) (proto_is m k.at o.symbol t.0 o.number_is o.kind_is k.is ∙ t.2) o.occurs
-
-  from_fields : (s : Symbol) → Contains (fields_part m marks) s → Contains ss s
-  from_fields s c =
-      let t = Contains-map_source FieldSymbol (kept marks.fields.items m.fields) s c in
-      let k = kept_from marks.fields.items m.fields t.0 t.1 in
-      let o = occurs_there kinds.Field k.at k.marked in
-      subst (Contains ss) (field_is m k.at o.symbol t.0 o.number_is o.kind_is k.is ∙ t.2) o.occurs
-
-  from_methods : (s : Symbol) → Contains (methods_part m marks) s → Contains ss s
-  from_methods s c =
-      let t = Contains-map_source MethodSymbol (kept marks.methods.items m.methods) s c in
-      let k = kept_from marks.methods.items m.methods t.0 t.1 in
-      let o = occurs_there kinds.Method k.at k.marked in
-      subst (Contains ss) (method_is m k.at o.symbol t.0 o.number_is o.kind_is k.is ∙ t.2) o.occurs
+  -- so a symbol of one of the five parts occurs
+  from_part : {X : Type 0} (kind : SymbolKind) (bits : List Bool) (xs : List X) (wrap : X → Symbol) → ((i : ℕ) → get_or bits i false ≡ true → Occurs kind i)
+      → ((i : ℕ) (s : Symbol) (x : X) → IsNumbered m i s → IsOfKind kind s → ((d : X) → get_or xs i d ≡ x) → s ≡ wrap x) → (s : Symbol) → Contains (map wrap (kept bits xs)) s → Contains ss s
+  from_part kind bits xs wrap there is s c =
+      let t = Contains-map_source wrap (kept bits xs) s c in
+      let k = kept_from bits xs t.0 t.1 in
+      let o = there k.at k.marked in
+      subst (Contains ss) (is k.at o.symbol t.0 o.number_is o.kind_is k.is ∙ t.2) o.occurs
 
   pub marked_occur : AreAmong (marked m marks) ss
   marked_occur s c = elim (Contains-append_cases (texts_part m marks) (after_texts m marks) s c) [
-    | inl t ↦ from_texts s t
+    | inl t ↦ from_part kinds.Text marks.strings.items m.texts TextSymbol (occurs_there kinds.Text) (text_is m) s t
     | inr c1 ↦ elim (Contains-append_cases (types_part m marks) (after_types m marks) s c1) [
-      | inl t ↦ from_types s t
+      | inl t ↦ from_part kinds.Typ marks.types.items m.types TypeSymbol (occurs_there kinds.Typ) (type_is m) s t
       | inr c2 ↦ elim (Contains-append_cases (protos_part m marks) (after_protos m marks) s c2) [
-        | inl t ↦ from_protos s t
+        | inl t ↦ from_part kinds.Proto marks.protos.items m.protos ProtoSymbol (occurs_there kinds.Proto) (proto_is m) s t
         | inr c3 ↦ elim (Contains-append_cases (fields_part m marks) (methods_part m marks) s c3) [
-          | inl t ↦ from_fields s t
-          | inr t ↦ from_methods s t
+          | inl t ↦ from_part kinds.Field marks.fields.items m.fields FieldSymbol (occurs_there kinds.Field) (field_is m) s t
+          | inr t ↦ from_part kinds.Method marks.methods.items m.methods MethodSymbol (occurs_there kinds.Method) (method_is m) s t
         ]
       ]
     ]

@@ -1,6 +1,7 @@
 -- Trimmed classes that can be merged.
-use Rattle.dexclass.proofs.Common.{◌≡◌, ℕ, ◌<◌, List, length, get_or, map, sym, ap, ◌∙◌, subst, arith, All, length-map, get_or-map, AreDistinct, Definition, Mentions, mentions, AreWellFormed, IsGood, greatest_caps}
-use Rattle.dexclass.specs.{NumberedClass, type_at, definition_of, IsKnownClass, no_class, AreMergeable}
+use Rattle.dexclass.proofs.Common.{◌≡◌, ℕ, ◌<◌, List, length, get_or, map, sym, ap, ◌∙◌, subst, arith, length-map, get_or-map, AreDistinct, Definition, Mentions, mentions, AreWellFormed, IsGood, greatest_caps}
+use Rattle.dexclass.specs.internal.Trimming.{AreTrimmed}
+use Rattle.dexclass.specs.{NumberedClass, type_at, definition_of, no_class, AreMergeable}
 
 -- ---- names
 
@@ -16,23 +17,9 @@ names_differ : (n : Mentions) (cs : List NumberedClass) → ((i j : ℕ) (d : De
 names_differ n cs one i j e less lt same =
     let few : j < length cs = omega (arith, lt, length-map cs (λ (c : NumberedClass). c.name)) in
     let d = definition_of n no_class in
-    let is = one i j d (omega (arith, less, few)) few (named n cs i d e (omega (arith, less, few)) ∙ ap (type_at n) same ∙ sym (named n cs j d e few)) in
-    omega (arith, is, less)
+    omega (arith, (one i j d (omega (arith, less, few)) few (named n cs i d e (omega (arith, less, few)) ∙ ap (type_at n) same ∙ sym (named n cs j d e few))), less)
 
 -- ---- trimmed classes
-
--- the classes denote the definitions, over the numbering of just what these mention
-pub record AreTrimmed (D : List Definition) (n : Mentions) (cs : List NumberedClass) : Type 0 where
-  pub mentions_are : n ≡ mentions D
-  pub same : map (definition_of n) cs ≡ D
-  pub known : All (IsKnownClass n) cs
-
--- as they are trimmed
-pub are_trimmed : (m k n : Mentions) (old new : List NumberedClass) → k ≡ m → n ≡ mentions (map (definition_of k) old) → map (definition_of n) new ≡ map (definition_of k) old → All (IsKnownClass n) new
-    → AreTrimmed (map (definition_of m) old) n new
-are_trimmed m k n old new e is same known =
-    let there : map (definition_of k) old ≡ map (definition_of m) old = ap (λ (x : Mentions). map (definition_of x) old) e in
-    record { mentions_are = is ∙ ap mentions there; same = same ∙ there; known = known }
 
 -- trimmed classes can be merged where the definitions are good and well formed, and no two have one name
 pub trimmed_mergeable : (D : List Definition) (n : Mentions) (cs : List NumberedClass) → AreTrimmed D n cs → ((i j : ℕ) (d : Definition) → i < length D → j < length D → (get_or D i d).0 ≡ (get_or D j d).0 → i ≡ j)

@@ -1,25 +1,21 @@
 -- The numbers of names order as the names.
-use Rattle.dexclass.proofs.Common.{◌≡◌, ℕ, ◌<◌, List, [], length, get_or, map, sym, ap, ◌∙◌, arith, inl, inr, ◌↔◌, cases_order, length-map, get_or-map, text_cmp, Mentions, Rises-from_rises, Rises-places, irreflexive, asymmetric, text_total, AreNamesOf}
+use Rattle.dexclass.proofs.Common.{◌≡◌, ℕ, ◌<◌, List, [], length, map, sym, ap, ◌∙◌, arith, inl, inr, ◌↔◌, cases_order, length-map, text_cmp, Mentions, Rises-from_rises, Rises-places, irreflexive, asymmetric, text_total, AreNamesOf}
 use Rattle.std.specs.declared.cmp.Ordering.TheVariants.{Less}
-use Rattle.dexclass.specs.{NumberedClass, type_at, definition_of, no_class, name_number, AreNamed}
+use Rattle.dexclass.specs.{NumberedClass, type_at, definition_of, name_number, AreNamed}
 use Rattle.dexclass.proofs.Classed.{name_is}
+use Rattle.dexclass.proofs.Places.{name_at as number_is}
 
 module _ (m : Mentions) (cs : List NumberedClass) (named : AreNamed m cs) where
   abbrev numbers : List ℕ
   numbers = map (λ c. c.name) cs
-
-  number_is : (i : ℕ) → i < length cs → get_or numbers i 0 ≡ name_number cs i
-  number_is i lt = get_or-map (λ (c : NumberedClass). c.name) cs i no_class 0 lt
 
   less_text : (i j : ℕ) → i < length m.types → j < length m.types → (i < j) ↔ (text_cmp (type_at m i) (type_at m j) ≡ Less)
   less_text i j li lj = (
     λ less. Rises-places text_cmp text_total m.types i j [] (Rises-from_rises text_cmp text_total m.types named.rising) less lj,
     λ e. elim (cases_order i j) [
       | inl same ↦ absurd (irreflexive text_cmp text_total (type_at m i) (type_at m j) (ap (type_at m) same) e)
-      | inr other ↦ elim other [
-        | inl less ↦ less
-        | inr more ↦ absurd (asymmetric text_cmp text_total (type_at m i) (type_at m j) e (Rises-places text_cmp text_total m.types j i [] (Rises-from_rises text_cmp text_total m.types named.rising) more li))
-      ]
+      | inr (inl less) ↦ less
+      | inr (inr more) ↦ absurd (asymmetric text_cmp text_total (type_at m i) (type_at m j) e (Rises-places text_cmp text_total m.types j i [] (Rises-from_rises text_cmp text_total m.types named.rising) more li))
     ],
   )
 
@@ -30,8 +26,8 @@ module _ (m : Mentions) (cs : List NumberedClass) (named : AreNamed m cs) where
         let ci : i < length cs = omega (arith, li, length-map cs (definition_of m)) in
         let cj : j < length cs = omega (arith, lj, length-map cs (definition_of m)) in
         let both = less_text (name_number cs i) (name_number cs j) (named.names i ci) (named.names j cj) in
-        let ni = number_is i ci in
-        let nj = number_is j cj in
+        let ni = number_is cs i ci in
+        let nj = number_is cs j cj in
         let ti = name_is m cs named i ci in
         let tj = name_is m cs named j cj in (
           λ less. (λ k. text_cmp (ti k) (tj k)) ∙ both.0 (omega (arith, less, ni, nj)),

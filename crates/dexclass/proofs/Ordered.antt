@@ -1,21 +1,14 @@
 -- Classes in the order of their definitions.
-use Rattle.dexclass.proofs.Common.{◌≡◌, ℕ, suc, ◌+◌, ◌<◌, true, List, [], ◌∷◌, length, get_or, map, refl, sym, ap, ◌∙◌, subst, arith, Option, Some, None, All, Contains, range_with_len, length-map, get_or-map, get_or_default, get_or-range_with_len, length-range_with_len, All-contains, Contains-get_or, rises, AreDistinct, Text, Definition, IsAcyclic, depth, in_class_order, Mentions, Rises-from_rises, AreDistinct-from_Rises, Contains-map, Contains-map_source, AreDistinct-map_source, AreWithin, AreDepths, AreClassesOf, AreDepthsOf, AreNamesOf, all_known}
+use Rattle.dexclass.proofs.Common.{◌≡◌, ℕ, ◌<◌, true, List, [], length, get_or, map, refl, sym, ap, ◌∙◌, subst, arith, Option, Some, None, All, Contains, range_with_len, length-map, get_or-map, get_or_default, length-range_with_len, All-contains, Contains-get_or, rises, AreDistinct, Text, Definition, IsAcyclic, depth, in_class_order, Mentions, Rises-from_rises, AreDistinct-from_Rises, Contains-map, Contains-map_source, AreDistinct-map_source, AreWithin, AreDepths, AreClassesOf, AreDepthsOf, AreNamesOf, all_known, map_both}
 use Rattle.std.specs.List.Sorted.{IsPermutation}
 use Rattle.std.proofs.lemmas.List.Sorted.{Contains-permutation, IsPermutation-sym, length_permutation}
 use Rattle.dexorder.specs.Places.{class_place, class_cmp}
 use Rattle.dexorder.proofs.PlaceLaws.{class_total}
-use Rattle.dexorder.proofs.DefinitionOrder.{own_depths, same_order}
+use Rattle.dexorder.proofs.DefinitionOrder.{range_below, own_depths, same_order}
 use Rattle.dexclass.specs.{NumberedClass, type_at, definition_of, no_class, name_number, IsHierarchy, AreNamed, AreDepthsByName}
 use Rattle.dexclass.proofs.Classed.{name_is, one_number, classes_of}
 use Rattle.dexclass.proofs.NamesOf.{names_of}
 use Rattle.dexclass.proofs.Places.{parents_are}
-
--- a number of the first n
-below : (n i : ℕ) → Contains (range_with_len 0 n) i → i < n
-below n i c =
-    let few : c.0 < n = omega (arith, c.1, length-range_with_len 0 n) in
-    let at : 0 + c.0 ≡ i = sym (get_or-range_with_len 0 n c.0 i few) ∙ c.2 in
-    omega (arith, few, at)
 
 module _ (m : Mentions) (cs : List NumberedClass) (named : AreNamed m cs) where
   abbrev D : List Definition
@@ -34,10 +27,8 @@ module _ (m : Mentions) (cs : List NumberedClass) (named : AreNamed m cs) where
 
   -- the classes at places are the definitions there
   arranged_are : (order : List ℕ) → All (λ i. i < length cs) order → map (definition_of m) (map (λ i. get_or cs i no_class) order) ≡ map (λ i. get_or D i (definition_of m no_class)) order
-  arranged_are [] within = refl
-  arranged_are (i ∷ is) within =
-      ap (λ (x : Definition). x ∷ map (definition_of m) (map (λ k. get_or cs k no_class) is)) (sym (get_or-map (definition_of m) cs i no_class (definition_of m no_class) (within 0 0 (omega arith))))
-      ∙ ap (λ (l : List Definition). get_or D i (definition_of m no_class) ∷ l) (arranged_are is (λ k d lt. within (suc k) d (omega (arith, lt))))
+  arranged_are order within =
+      map_both (λ i. get_or cs i no_class) (definition_of m) (λ i. get_or D i (definition_of m no_class)) order (λ k d lt. sym (get_or-map (definition_of m) cs (get_or order k d) no_class (definition_of m no_class) (within k d lt)))
 
   module _ (H : List (List ℕ)) (h : IsHierarchy cs H) where
     pub are_classes : AreClassesOf D H
@@ -82,8 +73,7 @@ module _ (m : Mentions) (cs : List NumberedClass) (named : AreNamed m cs) where
 
     pub order_within : All (λ i. i < length cs) order
     order_within k d lt =
-        let c = Contains-permutation order (range_with_len 0 (length names)) (get_or order k d) (IsPermutation-sym (range_with_len 0 (length names)) order p) (Contains-get_or order k d lt) in
-        omega (arith, below (length names) (get_or order k d) c, length_names)
+        omega (arith, range_below (length names) (get_or order k d) (Contains-permutation order (range_with_len 0 (length names)) (get_or order k d) (IsPermutation-sym (range_with_len 0 (length names)) order p) (Contains-get_or order k d lt)), length_names)
 
     -- each is one of the classes
     pub arranged_among : (arranged : List NumberedClass) → arranged ≡ map (λ i. get_or cs i no_class) order → (c : NumberedClass) → Contains arranged c → Contains cs c

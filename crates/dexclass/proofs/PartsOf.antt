@@ -1,8 +1,10 @@
 -- Some of the classes that can be merged, and the classes of a program, can be merged.
-use Rattle.dexclass.proofs.Common.{◌≡◌, ◌≢◌, ℕ, ◌+◌, ◌<◌, List, [], ◌∷◌, ◌++◌, length, get_or, map, take, drop, sym, ap, ◌∙◌, subst, arith, inl, inr, append-nil, All, Contains, flat_map, cases_order, length-map, get_or-map, get_or-take, get_or-drop, length-take, length-drop, take-map, drop-map, take-append-drop, map-append, append_assoc, flat_map-append, All-take, All-drop, Contains-append_left, Contains-append_right, AreDistinct, Definition, Collection, definitions, Mentions, mentions, in_class_order, AreWellFormed, IsGood, greatest_caps, IsGood-within, mentions-same, definitions-distinct, in_class_order-only, in_class_order-has, class_names-apart, IsNumbering}
+use Rattle.dexclass.proofs.Common.{◌≡◌, ℕ, ◌+◌, List, [], ◌∷◌, ◌++◌, map, take, drop, sym, ap, ◌∙◌, subst, arith, append-nil, All, Contains, flat_map, get_or-take, get_or-drop, length-take, length-drop, take-map, drop-map, take-append-drop, map-append, append_assoc, flat_map-append, All-take, All-drop, Contains-append_left, Contains-append_right, AreDistinct, Definition, Collection, definitions, Mentions, mentions, in_class_order, AreWellFormed, IsGood, greatest_caps, IsGood-within, mentions-same, definitions-distinct, in_class_order-only, in_class_order-has, class_names-apart, IsNumbering, AreAmong-map}
 use Rattle.dexclass.specs.{NumberedClass, definition_of, IsKnownClass, AreClassesOf, AreMergeable}
 use Rattle.dexclass.specs.internal.Parts.{AreGoodClasses}
-use Rattle.dexclass.proofs.Mergeable.{AreTrimmed, trimmed_mergeable}
+use Rattle.dexclass.proofs.Places.{one_place, seen_apart}
+use Rattle.dexclass.specs.internal.Trimming.{AreTrimmed}
+use Rattle.dexclass.proofs.Mergeable.{trimmed_mergeable}
 use Rattle.dexclass.proofs.Ordered.{names_apart}
 use Rattle.dexclass.proofs.ProgramsOf.{named}
 
@@ -17,25 +19,7 @@ AreDistinct-take n xs h i j d less lt e =
 -- and so has a suffix
 AreDistinct-drop : {X : Type 0} (n : ℕ) (xs : List X) → AreDistinct xs → AreDistinct (drop n xs)
 AreDistinct-drop n xs h i j d less lt e =
-    let few = length-drop n xs in
-    h (n + i) (n + j) d (omega (arith, less)) (omega (arith, lt, few)) (sym (get_or-drop n xs i d) ∙ e ∙ get_or-drop n xs j d)
-
--- definitions of different names are at one place each
-one_place : (D : List Definition) → ((i j : ℕ) (d : Definition) → i < j → j < length D → (get_or D i d).0 ≢ (get_or D j d).0) → (i j : ℕ) (d : Definition) → i < length D → j < length D → (get_or D i d).0 ≡ (get_or D j d).0 → i ≡ j
-one_place D apart i j d li lj e = elim (cases_order i j) [
-  | inl is ↦ is
-  | inr other ↦ elim other [
-    | inl less ↦ absurd (apart i j d less lj e)
-    | inr more ↦ absurd (apart j i d more li (sym e))
-  ]
-]
-
--- different names, of the definitions at two places
-names_differ : (D : List Definition) → AreDistinct (map (λ d. d.0) D) → (i j : ℕ) (d : Definition) → i < j → j < length D → (get_or D i d).0 ≢ (get_or D j d).0
-names_differ D names i j d less lt e =
-    let few = length-map D (λ (x : Definition). x.0) in
-    let at : (k : ℕ) → k < length D → get_or (map (λ (x : Definition). x.0) D) k d.0 ≡ (get_or D k d).0 = λ k within. get_or-map (λ (x : Definition). x.0) D k d d.0 within in
-    names i j d.0 less (omega (arith, lt, few)) (at i (omega (arith, less, lt)) ∙ e ∙ sym (at j lt))
+    h (n + i) (n + j) d (omega (arith, less)) (omega (arith, lt, (length-drop n xs))) (sym (get_or-drop n xs i d) ∙ e ∙ get_or-drop n xs j d)
 
 -- ---- some of the classes
 
@@ -49,15 +33,11 @@ module _ (m : Mentions) (cs : List NumberedClass) where
 
   -- the first ones are among all
   prefix_within : (n : ℕ) (d : Definition) → Contains (map (definition_of m) (take n cs)) d → Contains D d
-  prefix_within n d c =
-      let there : Contains (take n D) d = subst (λ (l : List Definition). Contains l d) (sym (take-map (definition_of m) n cs)) c in
-      subst (λ (l : List Definition). Contains l d) (take-append-drop n D) (Contains-append_left (take n D) (drop n D) d there)
+  prefix_within n = AreAmong-map (definition_of m) (take n cs) cs (λ c h. subst (λ l. Contains l c) (take-append-drop n cs) (Contains-append_left (take n cs) (drop n cs) c h))
 
   -- and so are the others
   back_within : (n : ℕ) (d : Definition) → Contains (map (definition_of m) (drop n cs)) d → Contains D d
-  back_within n d c =
-      let there : Contains (drop n D) d = subst (λ (l : List Definition). Contains l d) (sym (drop-map (definition_of m) n cs)) c in
-      subst (λ (l : List Definition). Contains l d) (take-append-drop n D) (Contains-append_right (take n D) (drop n D) d there)
+  back_within n = AreAmong-map (definition_of m) (drop n cs) cs (λ c h. subst (λ l. Contains l c) (take-append-drop n cs) (Contains-append_right (take n cs) (drop n cs) c h))
 
   -- the first of good classes are good
   pub prefix_good : AreGoodClasses m cs → (n : ℕ) → AreGoodClasses m (take n cs)
@@ -78,8 +58,8 @@ module _ (m : Mentions) (cs : List NumberedClass) where
   }
 
   -- trimmed, good classes can be merged
-  pub trimmed_good : AreGoodClasses m cs → (n : Mentions) (new : List NumberedClass) → n ≡ mentions D → map (definition_of n) new ≡ D → All (IsKnownClass n) new → AreMergeable n new
-  trimmed_good h n new is same known = trimmed_mergeable D n new (record { mentions_are = is; same = same; known = known }) (one_place D (names_differ D h.names_differ)) h.good h.formed
+  pub trimmed_good : AreGoodClasses m cs → (n : Mentions) (new : List NumberedClass) → AreTrimmed D n new → AreMergeable n new
+  trimmed_good h n new trimmed = trimmed_mergeable D n new trimmed (one_place (λ (d : Definition). d.0) D (seen_apart (λ (d : Definition). d.0) D h.names_differ)) h.good h.formed
 
 -- one more part of the first of the classes
 pub one_more_part : (f : NumberedClass → Definition) (parts : List (List Definition)) (part : List Definition) (cs front back : List NumberedClass) (n : ℕ) (whole : List Definition) → flat_map (λ p. p) parts ++ map f cs ≡ whole → front ≡ take n cs → back ≡ drop n cs → part ≡ map f front
@@ -103,4 +83,4 @@ program_mergeable K n cs e of good formed =
       same = ap (λ (m : Mentions). map (definition_of m) cs) e ∙ of.are;
       known = subst (λ (m : Mentions). All (IsKnownClass m) cs) (sym e) of.known;
     } in
-    trimmed_mergeable E n cs trimmed (one_place E (class_names-apart (definitions K))) (IsGood-within E (definitions K) only greatest_caps good) (λ d c. formed d (only d c))
+    trimmed_mergeable E n cs trimmed (one_place (λ (d : Definition). d.0) E (class_names-apart (definitions K))) (IsGood-within E (definitions K) only greatest_caps good) (λ d c. formed d (only d c))

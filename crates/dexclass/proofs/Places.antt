@@ -1,8 +1,20 @@
 -- Which class has a type as its name, and which classes are parents.
-use Rattle.dexclass.proofs.Common.{◌≡◌, ℕ, ◌<◌, List, length, get_or, map, sym, ◌∙◌, subst, arith, Option, Some, None, IsSome, length-map, get_or-map}
+use Rattle.dexclass.proofs.Common.{◌≡◌, ℕ, ◌<◌, List, length, get_or, map, sym, ◌∙◌, subst, arith, inl, inr, Option, Some, None, IsSome, cases_order, length-map, get_or-map, AreDistinct, map-map}
 use Rattle.dexorder.specs.Parents.{classes_of_types}
-use Rattle.dexorder.proofs.ByType.{map-after}
 use Rattle.dexclass.specs.{NumberedClass, no_class, name_number, parent_numbers, ArePlaces, IsHierarchy}
+
+-- members of which no two are seen as the same are at one place each
+pub one_place : {X Y : Type 0} (key : X → Y) (xs : List X) → ((i j : ℕ) (d : X) → i < j → j < length xs → key (get_or xs i d) ≡ key (get_or xs j d) → ⊥) → (i j : ℕ) (d : X) → i < length xs → j < length xs → key (get_or xs i d) ≡ key (get_or xs j d) → i ≡ j
+one_place key xs apart i j d li lj e = elim (cases_order i j) [
+  | inl same ↦ same
+  | inr (inl less) ↦ absurd (apart i j d less lj e)
+  | inr (inr more) ↦ absurd (apart j i d more li (sym e))
+]
+
+-- where what they are seen as is different
+pub seen_apart : {X Y : Type 0} (key : X → Y) (xs : List X) → AreDistinct (map key xs) → (i j : ℕ) (d : X) → i < j → j < length xs → key (get_or xs i d) ≡ key (get_or xs j d) → ⊥
+seen_apart key xs distinct i j d less lt e =
+    distinct i j (key d) less (omega (arith, lt, length-map xs key)) (get_or-map key xs i d (key d) (omega (arith, less, lt)) ∙ e ∙ sym (get_or-map key xs j d (key d) lt))
 
 -- the classes that are parents
 abbrev pub defined_parents : List (Option ℕ) → NumberedClass → List ℕ
@@ -12,7 +24,7 @@ module _ (cs : List NumberedClass) where
   abbrev names : List ℕ
   names = map (λ c. c.name) cs
 
-  name_at : (i : ℕ) → i < length cs → get_or names i 0 ≡ name_number cs i
+  pub name_at : (i : ℕ) → i < length cs → get_or names i 0 ≡ name_number cs i
   name_at i lt = get_or-map (λ (c : NumberedClass). c.name) cs i no_class 0 lt
 
   module _ (places : List (Option ℕ)) (h : ArePlaces cs places) where
@@ -29,4 +41,4 @@ module _ (cs : List NumberedClass) where
 
   -- each class has those of its parents that are among them
   pub parents_are : (H : List (List ℕ)) (h : IsHierarchy cs H) → H ≡ map (defined_parents h.by_type) cs
-  parents_are H h = h.is ∙ sym (map-after parent_numbers (classes_of_types h.by_type) cs)
+  parents_are H h = h.is ∙ map-map (classes_of_types h.by_type) parent_numbers cs

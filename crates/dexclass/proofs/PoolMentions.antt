@@ -1,13 +1,9 @@
 -- What the definitions of readable class rows mention is in the pools, and weighs no more than these.
-use Rattle.dexclass.proofs.Common.{◌≡◌, ℕ, ◌+◌, ◌<◌, ◌≤◌, List, [], ◌∷◌, get_or, subst, inl, inr, arith, Contains, Contains-get_or, ushort_at, Proto, Field, Method, Symbol, TextSymbol, TypeSymbol, ProtoSymbol, FieldSymbol, MethodSymbol, StringIds, TypeIds, ProtoIds, FieldIds, MethodIds, ClassDefs, table_size, row_at, StringRow, TypeRow, ProtoRow, FieldRow, MethodRow, Definition, Mentions, mentions, texts_in, types_in, protos_in, fields_in, methods_in, mentions_weight, HoldBelow, AreRows, Contains-nil, Contains-cons_cases, AreMentioned, mentions-rising, mentions_weight-among, one_string, one_type, one_proto, one_field, one_method, row_of, has_classes, AreReadable, AreAll, ArePools}
-use Rattle.dexspec.proofs.merge.MentionMembers.{Occurs, texts-source, types-source, protos-source, fields-source, methods-source}
+use Rattle.dexclass.proofs.Common.{◌≡◌, ℕ, ◌+◌, ◌<◌, ◌≤◌, List, get_or, subst, arith, Contains, Contains-get_or, ushort_at, Proto, Field, Method, Symbol, ProtoSymbol, FieldSymbol, MethodSymbol, StringIds, TypeIds, ProtoIds, FieldIds, MethodIds, ClassDefs, table_size, row_at, StringRow, TypeRow, ProtoRow, FieldRow, MethodRow, Definition, Mentions, mentions, texts_in, types_in, protos_in, fields_in, methods_in, mentions_weight, HoldBelow, AreRows, Contains-nil, AreMentioned, mentions-rising, mentions_weight-among, one_string, one_type, one_proto, one_field, one_method, row_of, has_classes, AreReadable, AreAll, ArePools}
+use Rattle.dexspec.proofs.merge.MentionMembers.{Occurs, one_member, texts-source, types-source, protos-source, fields-source, methods-source}
 use Rattle.dexspec.proofs.wellformed.Fitting.{HasRow, DefinitionsHaveRows, type_rows, text_rows}
 use Rattle.dexspec.proofs.wellformed.SymbolRows.{row_symbols}
 use Rattle.dexclass.proofs.RowsBelow.{IsRow}
-
--- the one member
-only_one : {X : Type 0} (x y : X) → Contains (x ∷ []) y → x ≡ y
-only_one x y c = elim (Contains-cons_cases x y [] c) [ inl e ↦ e | inr l ↦ absurd (Contains-nil y l) ]
 
 -- what a row is, is one of a pool
 in_pool : {X : Type 0} (Row : List ℕ → ℕ → X → Type 0) (b : List ℕ) (one : (i : ℕ) (x y : X) → Row b i x → Row b i y → x ≡ y) (n : ℕ) (xs : List X) → AreAll Row b n xs → (x : X) (i : ℕ) → i < n → Row b i x → Contains xs x
@@ -16,27 +12,18 @@ in_pool Row b one n xs all x i lt row = subst (Contains xs) (one i (get_or xs i 
 module _ (b : List ℕ) (m : Mentions) (pools : ArePools b m) where
   -- the parts of a symbol that has a row
   proto_in_pool : (s : Symbol) → HasRow b s → (p : Proto) → Contains (protos_in s) p → Contains m.protos p
-  proto_in_pool (ProtoSymbol q) (i, h) p c = subst (Contains m.protos) (only_one q p c) (in_pool ProtoRow b (one_proto b) (table_size b ProtoIds) m.protos pools.protos_are q i h.row h)
+  proto_in_pool (ProtoSymbol q) (i, h) p c = subst (Contains m.protos) (one_member q p c) (in_pool ProtoRow b (one_proto b) (table_size b ProtoIds) m.protos pools.protos_are q i h.row h)
   proto_in_pool (MethodSymbol x) (i, h) p c =
-      let k = ushort_at b (row_at b MethodIds i + 2) in
-      subst (Contains m.protos) (only_one x.proto p c) (in_pool ProtoRow b (one_proto b) (table_size b ProtoIds) m.protos pools.protos_are x.proto k h.proto.row h.proto)
-  proto_in_pool (TextSymbol s) h p c = absurd (Contains-nil p c)
-  proto_in_pool (TypeSymbol s) h p c = absurd (Contains-nil p c)
-  proto_in_pool (FieldSymbol s) h p c = absurd (Contains-nil p c)
+      subst (Contains m.protos) (one_member x.proto p c) (in_pool ProtoRow b (one_proto b) (table_size b ProtoIds) m.protos pools.protos_are x.proto (ushort_at b (row_at b MethodIds i + 2)) h.proto.row h.proto)
+  proto_in_pool _ h p c = absurd (Contains-nil p c)
 
   field_in_pool : (s : Symbol) → HasRow b s → (f : Field) → Contains (fields_in s) f → Contains m.fields f
-  field_in_pool (FieldSymbol g) (i, h) f c = subst (Contains m.fields) (only_one g f c) (in_pool FieldRow b (one_field b) (table_size b FieldIds) m.fields pools.fields_are g i h.row h)
-  field_in_pool (TextSymbol s) h f c = absurd (Contains-nil f c)
-  field_in_pool (TypeSymbol s) h f c = absurd (Contains-nil f c)
-  field_in_pool (ProtoSymbol s) h f c = absurd (Contains-nil f c)
-  field_in_pool (MethodSymbol s) h f c = absurd (Contains-nil f c)
+  field_in_pool (FieldSymbol g) (i, h) f c = subst (Contains m.fields) (one_member g f c) (in_pool FieldRow b (one_field b) (table_size b FieldIds) m.fields pools.fields_are g i h.row h)
+  field_in_pool _ h f c = absurd (Contains-nil f c)
 
   method_in_pool : (s : Symbol) → HasRow b s → (x : Method) → Contains (methods_in s) x → Contains m.methods x
-  method_in_pool (MethodSymbol y) (i, h) x c = subst (Contains m.methods) (only_one y x c) (in_pool MethodRow b (one_method b) (table_size b MethodIds) m.methods pools.methods_are y i h.row h)
-  method_in_pool (TextSymbol s) h x c = absurd (Contains-nil x c)
-  method_in_pool (TypeSymbol s) h x c = absurd (Contains-nil x c)
-  method_in_pool (ProtoSymbol s) h x c = absurd (Contains-nil x c)
-  method_in_pool (FieldSymbol s) h x c = absurd (Contains-nil x c)
+  method_in_pool (MethodSymbol y) (i, h) x c = subst (Contains m.methods) (one_member y x c) (in_pool MethodRow b (one_method b) (table_size b MethodIds) m.methods pools.methods_are y i h.row h)
+  method_in_pool _ h x c = absurd (Contains-nil x c)
 
   module _ (D : List Definition) (have : DefinitionsHaveRows b D) where
     -- a symbol that occurs has a row

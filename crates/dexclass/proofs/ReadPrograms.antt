@@ -3,14 +3,14 @@ use Rattle.dexclass.proofs.Common.{◌≡◌, ℕ, List, map, sym, ap, ◌∙◌
 use Rattle.std.specs.FinMap as finite
 use Rattle.dexclass.specs.{NumberedClass, definition_of, AreMergeable, IsReadAs}
 use Rattle.dexclass.specs.internal.Reading.{bodies_weight, IsWhole}
-use Rattle.dexclass.proofs.Mergeable.{AreTrimmed, trimmed_mergeable}
+use Rattle.dexclass.specs.internal.Trimming.{AreTrimmed}
+use Rattle.dexclass.proofs.Mergeable.{trimmed_mergeable}
 use Rattle.dexclass.proofs.RowsBelow.{weight_is, one_name, collection_denoted, light_accepted}
 
 -- trimmed classes have the weight that was computed for them
 pub total_is : (D : List Definition) (n : Mentions) (cs : List NumberedClass) → AreTrimmed D n cs → (bodies total : ℕ) → bodies ≡ bodies_weight D → IsWhole n bodies total → total ≡ weight (map (definition_of n) cs)
 total_is D n cs trimmed bodies total sum whole =
-    let mentioned = ap mentions_weight trimmed.mentions_are in
-    let all : total ≡ weight D = omega (arith, whole.weight_is, sum, mentioned, weight_is D) in
+    let all : total ≡ weight D = omega (arith, whole.weight_is, sum, (ap mentions_weight trimmed.mentions_are), weight_is D) in
     all ∙ ap weight (sym trimmed.same)
 
 module _ (b : List ℕ) (h : HoldBelow 17 b) (D : List Definition) (readable : AreReadable b) (rows : AreRows b (table_size b ClassDefs) D) (n : Mentions) (cs : List NumberedClass) (trimmed : AreTrimmed D n cs) (bodies total : ℕ) (sum : bodies ≡ bodies_weight D)

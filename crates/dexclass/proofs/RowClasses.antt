@@ -1,5 +1,5 @@
 -- The numbers of a class row denote the definition that the row is.
-use Rattle.dexclass.proofs.Common.{◌≡◌, ℕ, ◌+◌, ◌*◌, ◌<◌, Bool, true, false, List, [], ◌∷◌, ◌++◌, length, refl, sym, ap, ◌∙◌, subst, arith, inl, inr, sum_by, ◌==◌, if◌then◌else◌, map, Option, Some, None, option_map, AllZip, eqb-true, false≢true, length-map, OrNone, Text, ClassDefs, table_size, StringRow, TypeRow, type_indices, Body, ClassRow, ClassTypeRow, ClassListAt, IndexOrNone, class_idx, access_flags, superclass_idx, interfaces_off, source_file_idx, no_index, Mentions, set_weight, field_weight, method_weight, static_values_weight, body_weight, HasClass, one_string, one_type, ArePools, Members, members_weight, MembersRow}
+use Rattle.dexclass.proofs.Common.{◌≡◌, ℕ, ◌+◌, ◌*◌, ◌<◌, Bool, true, false, List, [], ◌∷◌, ◌++◌, length, refl, sym, ap, ◌∙◌, subst, arith, inl, inr, sum_by, ◌==◌, if◌then◌else◌, map, Option, Some, None, option_map, AllZip, eqb-true, false≢true, length-map, OrNone, Text, ClassDefs, table_size, StringRow, TypeRow, type_indices, Body, ClassRow, ClassTypeRow, ClassListAt, IndexOrNone, class_idx, access_flags, superclass_idx, interfaces_off, source_file_idx, no_index, Mentions, set_weight, field_weight, method_weight, static_values_weight, body_weight, HasClass, one_string, one_type, ArePools, Members, members_weight, MembersRow, members_of}
 use Rattle.dexclass.specs.internal.Rows.{interface_indices}
 use Rattle.dexclass.specs.{text_at, type_at, number_of}
 use Rattle.dexclass.proofs.Interfaces.{listed_interfaces}
@@ -19,13 +19,15 @@ row_body b m r z = record {
   static_values = z.static_values;
 }
 
+-- what a body weighs besides its interfaces is what it declares
+pub body_weighs : (c : Body) → body_weight c ≡ 96 + 2 * length c.interfaces + members_weight (members_of c)
+body_weighs c =
+    let parts : body_weight c ≡ 96 + 2 * length c.interfaces + set_weight c.annotations + sum_by field_weight (c.static_fields ++ c.instance_fields) + sum_by method_weight (c.direct_methods ++ c.virtual_methods) + static_values_weight c.static_values = refl in
+    omega (arith, parts)
+
 -- what it weighs
 pub row_weight : (b : List ℕ) (m : Mentions) (r : ℕ) (z : Members) → body_weight (row_body b m r z) ≡ 96 + 2 * length (interface_indices b (interfaces_off b r)) + members_weight z
-row_weight b m r z =
-    let is = interface_indices b (interfaces_off b r) in
-    let parts : body_weight (row_body b m r z)
-    ≡ 96 + 2 * length (map (type_at m) is) + set_weight z.annotations + sum_by field_weight (z.static_fields ++ z.instance_fields) + sum_by method_weight (z.direct_methods ++ z.virtual_methods) + static_values_weight z.static_values = refl in
-    omega (arith, parts, length-map is (type_at m))
+row_weight b m r z = omega (arith, body_weighs (row_body b m r z), length-map (interface_indices b (interfaces_off b r)) (type_at m))
 
 module _ (b : List ℕ) (m : Mentions) (pools : ArePools b m) where
   -- a type row is that of its number
@@ -46,9 +48,8 @@ module _ (b : List ℕ) (m : Mentions) (pools : ArePools b m) where
   -- a list of types
   listed_is : (is : List ℕ) (ts : List Text) → AllZip (TypeRow b) is ts → ts ≡ map (type_at m) is
   listed_is [] [] h = refl
-  listed_is [] (t ∷ ts) h = absurd h
-  listed_is (i ∷ is) [] h = absurd h
   listed_is (i ∷ is) (t ∷ ts) h = ap (λ (s : Text). s ∷ ts) (type_is i t h.0) ∙ ap (λ (l : List Text). type_at m i ∷ l) (listed_is is ts h.1)
+  listed_is x v h = absurd h
 
   interfaces_encoded : (o : ℕ) (ts : List Text) → OrNone ClassListAt [] b o ts → OrNone ClassListAt [] b o (map (type_at m) (interface_indices b o))
   interfaces_encoded o ts (inl none) = inl (none.0, ap (λ (k : ℕ). map (type_at m) (interface_indices b k)) none.0)

@@ -1,5 +1,5 @@
 -- Condition 16 at a row, from its parts.
-use Rattle.dexclass.proofs.Common.{◌≡◌, ℕ, ◌+◌, ◌<◌, Bool, true, false, List, get_or, sym, ◌∙◌, subst, arith, inl, inr, All, cases_lt, false≢true, All-append, superclass_idx, interfaces_off, ClassTypeRow, HasClass, IsDefinedBefore, IsClassDef, ClassDef, all_prefix, all_back}
+use Rattle.dexclass.proofs.Common.{◌≡◌, ℕ, Bool, true, false, List, get_or, sym, ◌∙◌, subst, All, false≢true, All-append, superclass_idx, interfaces_off, ClassTypeRow, HasClass, IsDefinedBefore, IsClassDef, ClassDef, all_prefix, all_back}
 use Rattle.dexclass.specs.internal.Rows.{IsClassIndex, IsParentIndex, IsSourceIndex, superclass_indices, interface_indices, HasInterfaces, AreDefinedMarks}
 use Rattle.dexclass.proofs.Indices.{class_in_range}
 
@@ -46,12 +46,3 @@ module _ (b : List ℕ) (r : ℕ) (f : ClassDef) (is : IsClassDef b r f) where
           parents = All-append (IsDefinedBefore b r) (superclass_indices (superclass_idx b r)) (interface_indices b (interfaces_off b r))
               (subst (λ (i : ℕ). All (IsDefinedBefore b r) (superclass_indices i)) (sym is.superclass_is) before) listed.before;
         }
-
--- ---- the rows
-
--- one row more
-pub rows_more : (b : List ℕ) (r : ℕ) → ((k : ℕ) → k < r → HasClass b k) → HasClass b r → (k : ℕ) → k < r + 1 → HasClass b k
-rows_more b r before is k lt = elim (cases_lt k r) [
-  | inl small ↦ before k small
-  | inr large ↦ let same : r ≡ k = omega arith in subst (HasClass b) same is
-]

@@ -20,22 +20,6 @@ class_fault b (Refused r) h = (Condition.Classes, r.place, h.0, refl, inl (omega
 
 -- they are checked at class rows, and their rows are reported
 late_row : (b : List ℕ) (r : ℕ) (c : Condition) → 17 ≤ number c → (rows_checked c b ≡ table_size b ClassDefs) × (r ≡ place c b r)
-late_row b r Condition.Size late = absurd (omega (arith, late))
-late_row b r Condition.Magic late = absurd (omega (arith, late))
-late_row b r Condition.Version late = absurd (omega (arith, late))
-late_row b r Condition.Lengths late = absurd (omega (arith, late))
-late_row b r Condition.Endian late = absurd (omega (arith, late))
-late_row b r Condition.Link late = absurd (omega (arith, late))
-late_row b r Condition.Checksum late = absurd (omega (arith, late))
-late_row b r Condition.Signature late = absurd (omega (arith, late))
-late_row b r Condition.Layout late = absurd (omega (arith, late))
-late_row b r Condition.Map late = absurd (omega (arith, late))
-late_row b r Condition.Strings late = absurd (omega (arith, late))
-late_row b r Condition.Types late = absurd (omega (arith, late))
-late_row b r Condition.Protos late = absurd (omega (arith, late))
-late_row b r Condition.Fields late = absurd (omega (arith, late))
-late_row b r Condition.Methods late = absurd (omega (arith, late))
-late_row b r Condition.Classes late = absurd (omega (arith, late))
 late_row b r Condition.Members late = (refl, refl)
 late_row b r Condition.Code late = (refl, refl)
 late_row b r Condition.Tries late = (refl, refl)
@@ -43,6 +27,7 @@ late_row b r Condition.Debug late = (refl, refl)
 late_row b r Condition.Values late = (refl, refl)
 late_row b r Condition.Annotations late = (refl, refl)
 late_row b r Condition.Weight late = (refl, refl)
+late_row b r _ late = absurd (omega (arith, late))
 
 -- a number of an item's fault is refused at the row
 pub item_refused : (b : List ℕ) (r n : ℕ) → HoldBelow 17 b → r < table_size b ClassDefs → IsMembersFault b r (items.Refused n) → IsRefused b n r
@@ -69,9 +54,8 @@ module _ (b : List ℕ) (m : Mentions) (pools : ArePools b m) (h : HoldBelow 17 
   -- what the row declares weighs more than is left
   members_heavy : (most : ℕ) → most ≡ most_weight - bodies.weight - (96 + 2 * length (interface_indices b (interfaces_off b r))) → AreHeavyMembers b r most → IsRefused b 23 r
   members_heavy most left heavy =
-      let D = map (definition_of m) bodies.classes.items in
       let d : Definition = (type_at m (class_idx b r), row_body b m r heavy.members) in
-      heavy_refused b r (heavy_row b h r D d lt before.readable before.rows heavy.readable (row_encoded b m pools r heavy.members lt has_class heavy.row)
+      heavy_refused b r (heavy_row b h r (map (definition_of m) bodies.classes.items) d lt before.readable before.rows heavy.readable (row_encoded b m pools r heavy.members lt has_class heavy.row)
       (omega (arith, left, heavy.heavy, row_weight b m r heavy.members, before.weight_is)))
 
   -- the fault of a row that is read within what is left
@@ -96,8 +80,7 @@ pub together_fault : (b : List ℕ) → HoldBelow 17 b → (D : List Definition)
     → AreHeavyTogether b n bodies r → IsFaultOf b (Refused r)
 together_fault b h D readable rows n bodies r is sum heavy =
     let more : most_weight < weight D = omega (arith, heavy.heavy, ap mentions_weight is, sum, weight_is D) in
-    let some = some_rows b (table_size b ClassDefs) D rows more in
-    let last : table_size b ClassDefs ≡ r.place + 1 = omega (arith, some, heavy.last) in (
+    let last : table_size b ClassDefs ≡ r.place + 1 = omega (arith, (some_rows b (table_size b ClassDefs) D rows more), heavy.last) in (
       Condition.Weight,
       r.place,
       heavy.number_is,

@@ -1,5 +1,5 @@
 -- Class rows that were checked, and the file whose rows they are.
-use Rattle.dexclass.proofs.Common.{◌≡◌, ℕ, ◌+◌, ◌-◌, ◌*◌, ◌^◌, ◌<◌, ◌≤◌, min, List, [], ◌∷◌, ◌++◌, length, refl, sym, ap, ◌∙◌, arith, length-range_with_len, range_with_len, ClassDefs, table_size, Definition, class_idx, interfaces_off, Collection, definitions, Mentions, mentions_weight, most_weight, Condition, HoldBelow, AreRows, IsRefused, length-among, has_classes, denoted_rows, ArePools}
+use Rattle.dexclass.proofs.Common.{◌≡◌, ℕ, ◌+◌, ◌-◌, ◌*◌, ◌^◌, ◌<◌, ◌≤◌, min, List, [], ◌∷◌, ◌++◌, length, refl, sym, ap, ◌∙◌, arith, length-range_with_len, range_with_len, ClassDefs, table_size, Definition, class_idx, interfaces_off, Collection, definitions, Mentions, mentions_weight, most_weight, Condition, HoldBelow, IsReadable, AreRows, IsRefused, length-among, has_classes, denoted_rows, ArePools, below_more}
 use Rattle.std.proofs.lemmas.Slice.Zip.{AllZip-long}
 use Rattle.dexspec.proofs.merge.Collections.{definitions-distinct}
 use Rattle.dexspec.proofs.determined.OneCollection.{one_collection}
@@ -7,7 +7,7 @@ use Rattle.dexmembers.specs.Checking.{HasMembersOf}
 use Rattle.dexclass.specs.internal.Rows.{interface_indices}
 use Rattle.dexclass.specs.{type_at, IsReadAs, HaveBodiesOf, IsCheckedAs}
 use Rattle.dexclass.proofs.RowClasses.{row_body, row_weight, row_encoded}
-use Rattle.dexclass.proofs.RowsBelow.{IsRow, weight_is, bodies_more, rows_more, readable_more, rows_distinct, heavy_row, light_accepted}
+use Rattle.dexclass.proofs.RowsBelow.{IsRow, weight_is, bodies_more, rows_more, rows_distinct, heavy_row, light_accepted}
 use Rattle.dexclass.proofs.RowFaults.{heavy_refused}
 use Rattle.dexclass.proofs.PoolMentions.{mentions_light}
 
@@ -34,7 +34,7 @@ module _ (b : List ℕ) (m : Mentions) (pools : ArePools b m) (h : HoldBelow 17 
   pub checked_more : new ≤ most_weight → HaveBodiesOf b (r + 1) new
   checked_more light = record {
     definitions = old.definitions ++ here ∷ [];
-    readable = readable_more b r old.readable is.readable;
+    readable = below_more (IsReadable b) r old.readable is.readable;
     rows = rows_more b r old.definitions here old.rows row_here;
     weighs = omega (arith, light, more, old.weighs, is.weight_is, row_weight b m r is.members, bodies_more old.definitions here);
     light = light;
@@ -54,8 +54,7 @@ all_checked b m pools h bodies are light =
       counted = λ K denotes.
           let same = denoted_rows b classes D are.rows K denotes in
           let fewer = length-among (definitions K) D (definitions-distinct K) (λ d c. (same d).0 c) in
-          let no_fewer = length-among D (definitions K) (rows_distinct b classes (table_size b ClassDefs) D are.rows) (λ d c. (same d).1 c) in
-          omega (arith, fewer, no_fewer, rows_many b (table_size b ClassDefs) D are.rows);
+          omega (arith, fewer, (length-among D (definitions K) (rows_distinct b classes (table_size b ClassDefs) D are.rows) (λ d c. (same d).1 c)), rows_many b (table_size b ClassDefs) D are.rows);
     }
 
 -- a file that was read

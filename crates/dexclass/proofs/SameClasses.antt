@@ -1,10 +1,9 @@
 -- Classes that are remapped denote the same definitions; remapped into one numbering they are the same if and only if
 -- their definitions are.
-use Rattle.dexclass.proofs.Common.{◌≡◌, ℕ, ◌-◌, ◌^◌, ◌<◌, min, List, ◌∷◌, ◌++◌, length, map, option_to_list, sym, ap, ◌∙◌, subst, ◌↔◌, IsSome, All, All-head, All-tail, Text, Definition, Mentions, body_weight, AreRising, Maps, AllMapTo, image, Use, IsMappedUse, NumberedMembers, members_in, members_of, AreKnownMembers, AreOrdered, AreOfClass, members_uses, all_prefix, all_back}
+use Rattle.dexclass.proofs.Common.{◌≡◌, ℕ, ◌-◌, ◌^◌, ◌<◌, min, List, ◌∷◌, ◌++◌, length, map, option_to_list, sym, ap, ◌∙◌, subst, ◌↔◌, IsSome, All, All-head, All-tail, Text, Definition, Mentions, body_weight, AreRising, Maps, AllMapTo, image, Use, IsMappedUse, NumberedMembers, members_in, members_of, AreKnownMembers, AreOrdered, AreOfClass, members_uses, all_prefix, all_back, all_seen}
 use Rattle.dexpool.specs.declared.symbols.SymbolKind.TheVariants as kinds
 use Rattle.dexmembers.specs.Renumbering.{renumbered_members}
 use Rattle.dexclass.specs.{NumberedClass, type_at, definition_of, type_numbers, text_numbers, type_use, text_use, IsKnownClass, remapped, renumbered, IsMappedClass, StaysSame, IsPartClass}
-use Rattle.dexclass.proofs.OwnUses.{all_mapped}
 use Rattle.dexclass.proofs.Remapped.{remapped_is, all_remapped, optional_remapped, all_within, optional_numbers, numbers_after, one_at, one_list, one_optional}
 
 -- ---- a class that is remapped
@@ -17,25 +16,22 @@ module _ (r : Maps) (c : NumberedClass) (maps_to : IsMappedClass r c) where
   texts_used = map text_use (text_numbers c)
 
   types_mapped : All (λ i. IsSome (image r.types i)) (type_numbers c)
-  types_mapped = all_mapped (λ i. IsSome (image r.types i)) (IsMappedUse r) type_use (type_numbers c) (λ i h. h) (all_prefix (IsMappedUse r) types_used (texts_used ++ members_uses c.members) maps_to)
+  types_mapped = all_seen type_use (IsMappedUse r) (type_numbers c) (all_prefix (IsMappedUse r) types_used (texts_used ++ members_uses c.members) maps_to)
 
   after_mapped : All (IsMappedUse r) (texts_used ++ members_uses c.members)
   after_mapped = all_back (IsMappedUse r) types_used (texts_used ++ members_uses c.members) maps_to
 
   texts_mapped : All (λ i. IsSome (image r.texts i)) (text_numbers c)
-  texts_mapped = all_mapped (λ i. IsSome (image r.texts i)) (IsMappedUse r) text_use (text_numbers c) (λ i h. h) (all_prefix (IsMappedUse r) texts_used (members_uses c.members) after_mapped)
+  texts_mapped = all_seen text_use (IsMappedUse r) (text_numbers c) (all_prefix (IsMappedUse r) texts_used (members_uses c.members) after_mapped)
 
   name_mapped : IsSome (image r.types c.name)
   name_mapped = All-head (λ i. IsSome (image r.types i)) c.name (option_to_list c.superclass ++ c.interfaces) types_mapped
 
-  parents_mapped : All (λ i. IsSome (image r.types i)) (option_to_list c.superclass ++ c.interfaces)
-  parents_mapped = All-tail (λ i. IsSome (image r.types i)) c.name (option_to_list c.superclass ++ c.interfaces) types_mapped
-
   superclass_mapped : All (λ i. IsSome (image r.types i)) (option_to_list c.superclass)
-  superclass_mapped = all_prefix (λ i. IsSome (image r.types i)) (option_to_list c.superclass) c.interfaces parents_mapped
+  superclass_mapped = all_prefix (λ i. IsSome (image r.types i)) (option_to_list c.superclass) c.interfaces (All-tail (λ i. IsSome (image r.types i)) c.name (option_to_list c.superclass ++ c.interfaces) types_mapped)
 
   interfaces_mapped : All (λ i. IsSome (image r.types i)) c.interfaces
-  interfaces_mapped = all_back (λ i. IsSome (image r.types i)) (option_to_list c.superclass) c.interfaces parents_mapped
+  interfaces_mapped = all_back (λ i. IsSome (image r.types i)) (option_to_list c.superclass) c.interfaces (All-tail (λ i. IsSome (image r.types i)) c.name (option_to_list c.superclass ++ c.interfaces) types_mapped)
 
   -- what it declares
   pub members_mapped : All (IsMappedUse r) (members_uses c.members)
@@ -54,27 +50,21 @@ module _ (m n : Mentions) (r : Maps) (h : AllMapTo m n r) (c : NumberedClass) (m
 
   module _ (stay : MembersStay m n r (type_at m c.name) c.members) where
     definition_remapped : definition_of n (renumbered r c) ≡ definition_of m c
-    definition_remapped =
-        let superclass = optional_remapped m.types n.types r.types h.types_mapped c.superclass (superclass_mapped r c maps_to) in
-        let interfaces = all_remapped m.types n.types r.types h.types_mapped c.interfaces (interfaces_mapped r c maps_to) in
-        let source = optional_remapped m.texts n.texts r.texts h.texts_mapped c.source (texts_mapped r c maps_to) in
-        let name = name_remapped in
-        let members = stay.same in
-        λ i. (
-          name i,
-          record {
-            flags = c.flags;
-            superclass = superclass i;
-            interfaces = interfaces i;
-            source = source i;
-            annotations = (members i).annotations;
-            static_fields = (members i).static_fields;
-            instance_fields = (members i).instance_fields;
-            direct_methods = (members i).direct_methods;
-            virtual_methods = (members i).virtual_methods;
-            static_values = (members i).static_values;
-          },
-        )
+    definition_remapped = λ i. (
+      name_remapped i,
+      record {
+        flags = c.flags;
+        superclass = optional_remapped m.types n.types r.types h.types_mapped c.superclass (superclass_mapped r c maps_to) i;
+        interfaces = all_remapped m.types n.types r.types h.types_mapped c.interfaces (interfaces_mapped r c maps_to) i;
+        source = optional_remapped m.texts n.texts r.texts h.texts_mapped c.source (texts_mapped r c maps_to) i;
+        annotations = (stay.same i).annotations;
+        static_fields = (stay.same i).static_fields;
+        instance_fields = (stay.same i).instance_fields;
+        direct_methods = (stay.same i).direct_methods;
+        virtual_methods = (stay.same i).virtual_methods;
+        static_values = (stay.same i).static_values;
+      },
+    )
 
     types_numbered : map (remapped r.types) (type_numbers c) ≡ type_numbers (renumbered r c)
     types_numbered = ap (λ (l : List ℕ). remapped r.types c.name ∷ l) (numbers_after (remapped r.types) c.superclass c.interfaces)
@@ -100,12 +90,6 @@ abbrev pub MembersSame : (m n : Mentions) (r s : Maps) (x y : NumberedMembers) �
 MembersSame m n r s x y = (name : Text) → AreOfClass m name x → AreOfClass n name y → members_in m x ≡ members_in n y → renumbered_members r x ≡ renumbered_members s y
 
 module _ (m n whole : Mentions) (r s : Maps) (c d : NumberedClass) (rising : AreRising whole) (f : IsPartClass whole m r c) (g : IsPartClass whole n s d) (mine : StaysSame m whole r c) (theirs : StaysSame n whole s d) (members : MembersSame m n r s c.members d.members) where
-  types_mine : All (λ i. i < length whole.types) (type_numbers (renumbered r c))
-  types_mine = mine.known.types_in
-
-  types_theirs : All (λ i. i < length whole.types) (type_numbers (renumbered s d))
-  types_theirs = theirs.known.types_in
-
   -- mapped to the same definition, they are the same
   one_class : definition_of m c ≡ definition_of n d → renumbered r c ≡ renumbered s d
   one_class e =
@@ -113,19 +97,14 @@ module _ (m n whole : Mentions) (r s : Maps) (c d : NumberedClass) (rising : Are
       let x = renumbered r c in
       let y = renumbered s d in
       let there : definition_of whole x ≡ definition_of whole y = mine.same ∙ e ∙ sym theirs.same in
-      let parents_mine = All-tail P x.name (option_to_list x.superclass ++ x.interfaces) types_mine in
-      let parents_theirs = All-tail P y.name (option_to_list y.superclass ++ y.interfaces) types_theirs in
-      let name = one_at whole.types rising.types_rise x.name y.name (All-head P x.name (option_to_list x.superclass ++ x.interfaces) types_mine) (All-head P y.name (option_to_list y.superclass ++ y.interfaces) types_theirs) (ap (λ (z : Definition). z.0) there) in
-      let flags = ap (λ (z : Definition). z.1.flags) there in
-      let superclass = one_optional whole.types rising.types_rise x.superclass y.superclass (all_prefix P (option_to_list x.superclass) x.interfaces parents_mine) (all_prefix P (option_to_list y.superclass) y.interfaces parents_theirs)
-      (ap (λ (z : Definition). z.1.superclass) there) in
-      let interfaces = one_list whole.types rising.types_rise x.interfaces y.interfaces (all_back P (option_to_list x.superclass) x.interfaces parents_mine) (all_back P (option_to_list y.superclass) y.interfaces parents_theirs)
-      (ap (λ (z : Definition). z.1.interfaces) there) in
+      let parents_mine = All-tail P x.name (option_to_list x.superclass ++ x.interfaces) mine.known.types_in in
+      let parents_theirs = All-tail P y.name (option_to_list y.superclass ++ y.interfaces) theirs.known.types_in in
+      let name = one_at whole.types rising.types_rise x.name y.name (All-head P x.name (option_to_list x.superclass ++ x.interfaces) mine.known.types_in) (All-head P y.name (option_to_list y.superclass ++ y.interfaces) theirs.known.types_in) (ap (λ (z : Definition). z.0) there) in
+      let superclass = one_optional whole.types rising.types_rise x.superclass y.superclass (all_prefix P (option_to_list x.superclass) x.interfaces parents_mine) (all_prefix P (option_to_list y.superclass) y.interfaces parents_theirs) (ap (λ (z : Definition). z.1.superclass) there) in
+      let interfaces = one_list whole.types rising.types_rise x.interfaces y.interfaces (all_back P (option_to_list x.superclass) x.interfaces parents_mine) (all_back P (option_to_list y.superclass) y.interfaces parents_theirs) (ap (λ (z : Definition). z.1.interfaces) there) in
       let source = one_optional whole.texts rising.texts_rise x.source y.source mine.known.texts_in theirs.known.texts_in (ap (λ (z : Definition). z.1.source) there) in
-      let own : AreOfClass n (type_at m c.name) d.members = subst (λ t. AreOfClass n t d.members) (sym (ap (λ (z : Definition). z.0) e)) g.known.members_own in
-      let declared = members (type_at m c.name) f.known.members_own own (ap (λ (z : Definition). members_of z.1) e) in
-      let weight = mine.known.weighed ∙ ap (λ (z : Definition). min (2 ^ 64 - 1) (body_weight z.1)) there ∙ sym theirs.known.weighed in
-      λ i. record { name = name i; flags = flags i; superclass = superclass i; interfaces = interfaces i; source = source i; members = declared i; weight = weight i }
+      let declared = members (type_at m c.name) f.known.members_own (subst (λ t. AreOfClass n t d.members) (sym (ap (λ (z : Definition). z.0) e)) g.known.members_own) (ap (λ (z : Definition). members_of z.1) e) in
+      λ i. record { name = name i; flags = (there i).1.flags; superclass = superclass i; interfaces = interfaces i; source = source i; members = declared i; weight = (mine.known.weighed ∙ ap (λ (z : Definition). min (2 ^ 64 - 1) (body_weight z.1)) there ∙ sym theirs.known.weighed) i }
 
   -- mapped into one numbering, they are the same if and only if their definitions are
   pub same_classes : (renumbered r c ≡ renumbered s d) ↔ (definition_of m c ≡ definition_of n d)

@@ -1,11 +1,14 @@
 -- Classes without their debug programs and source texts make the stripped program.
-use Rattle.dexclass.proofs.Common.{◌≡◌, ℕ, ◌+◌, ◌-◌, ◌*◌, ◌^◌, ◌<◌, min, List, [], ◌∷◌, ◌++◌, length, get_or, map, refl, sym, ap, ◌∙◌, subst, arith, sum_by, inl, inr, All, Contains, cases_order, length-map, get_or-map, All-nil, All-map, Definition, Collection, definitions, IsCollectionOf, Mentions, mentions, body_weight, set_weight, field_weight, method_weight, static_values_weight, in_class_order, AreWellFormed, Caps, IsGood, greatest_caps, strip_definition, strip, strip_collection, IsGood-within, definitions-distinct, in_class_order-only, in_class_order-has, class_names-apart, definitions-are, collection-one, members_in, AreKnownMembers, AreOrdered, AreOfClass, stripped_members, strip_members, members_weight}
+use Rattle.dexclass.proofs.Common.{◌≡◌, ℕ, ◌-◌, ◌^◌, ◌<◌, min, List, length, get_or, map, sym, ap, ◌∙◌, subst, arith, All, length-map, get_or-map, All-nil, All-map, Definition, Collection, definitions, IsCollectionOf, Mentions, mentions, in_class_order, AreWellFormed, Caps, IsGood, greatest_caps, strip_definition, strip, strip_collection, IsGood-within, definitions-distinct, in_class_order-only, in_class_order-has, class_names-apart, definitions-are, collection-one, members_in, AreKnownMembers, AreOrdered, AreOfClass, stripped_members, strip_members, members_weight, both_ways}
 use Rattle.dexspec.proofs.strip.StripCollection.{definitions-strip_collection}
 use Rattle.dexspec.proofs.strip.StripGood.{IsGood-strip}
 use Rattle.dexmembers.specs.Weighing.{numbered_members_weight}
 use Rattle.dexclass.specs.{NumberedClass, type_at, definition_of, IsKnownClass, AreClassesOf, AreMergeable}
 use Rattle.dexclass.specs.internal.Stripped.{stripped_class}
-use Rattle.dexclass.proofs.Mergeable.{AreTrimmed, trimmed_mergeable}
+use Rattle.dexclass.proofs.Places.{one_place}
+use Rattle.dexclass.proofs.RowClasses.{body_weighs}
+use Rattle.dexclass.specs.internal.Trimming.{AreTrimmed}
+use Rattle.dexclass.proofs.Mergeable.{trimmed_mergeable}
 
 -- ---- a class
 
@@ -23,14 +26,6 @@ class_stripped m c e = λ i. (
   },
 )
 
--- what a class weighs
-class_weighs : (m : Mentions) (c : NumberedClass) → body_weight (definition_of m c).1 ≡ 96 + 2 * length c.interfaces + members_weight (members_in m c.members)
-class_weighs m c =
-    let z = members_in m c.members in
-    let parts : body_weight (definition_of m c).1
-    ≡ 96 + 2 * length (map (type_at m) c.interfaces) + set_weight z.annotations + sum_by field_weight (z.static_fields ++ z.instance_fields) + sum_by method_weight (z.direct_methods ++ z.virtual_methods) + static_values_weight z.static_values = refl in
-    omega (arith, parts, length-map c.interfaces (type_at m))
-
 -- its numbers are those of symbols
 pub class_known : (m : Mentions) (c : NumberedClass) → IsKnownClass m c → AreKnownMembers m (stripped_members c.members) → AreOrdered (stripped_members c.members) → AreOfClass m (type_at m c.name) (stripped_members c.members)
     → numbered_members_weight (stripped_members c.members) ≡ members_weight (members_in m (stripped_members c.members)) → IsKnownClass m (stripped_class c)
@@ -40,15 +35,10 @@ class_known m c h known ordered own weighs = record {
   members_known = known;
   members_ordered = ordered;
   members_own = own;
-  weighed = ap (λ (n : ℕ). min (2 ^ 64 - 1) n) (omega (arith, weighs, class_weighs m (stripped_class c)));
+  weighed = ap (λ (n : ℕ). min (2 ^ 64 - 1) n) (omega (arith, weighs, body_weighs (definition_of m (stripped_class c)).1, length-map c.interfaces (type_at m)));
 }
 
 -- ---- classes
-
--- what is the same of each is so of all
-map_same : {X Y : Type 0} (f : X → Y) (g : X → X) (h : Y → Y) → ((x : X) → f (g x) ≡ h (f x)) → (xs : List X) → map f (map g xs) ≡ map h (map f xs)
-map_same f g h each [] = λ i. []
-map_same f g h each (x ∷ xs) = λ i. each x i ∷ map_same f g h each xs i
 
 -- they are known
 pub all_known : (m : Mentions) (cs : List NumberedClass) → ((c : NumberedClass) → IsKnownClass m c → IsKnownClass m (stripped_class c)) → All (IsKnownClass m) cs → (old : List NumberedClass) → old ≡ map stripped_class cs → All (IsKnownClass m) old
@@ -59,7 +49,7 @@ pub all_stripped : (K : Collection) (cs : List NumberedClass) → AreClassesOf K
     → map (definition_of (mentions (definitions K))) old ≡ strip (in_class_order (definitions K))
 all_stripped K cs of each old e =
     let m = mentions (definitions K) in
-    ap (map (definition_of m)) e ∙ map_same (definition_of m) stripped_class strip_definition (each m) cs ∙ ap strip of.are
+    ap (map (definition_of m)) e ∙ both_ways stripped_class (definition_of m) (definition_of m) strip_definition (each m) cs ∙ ap strip of.are
 
 -- ---- programs
 
@@ -68,14 +58,7 @@ one_name : (E : List Definition) → ((i j : ℕ) (d : Definition) → i < j →
 one_name E apart i j d li lj e =
     let few = length-map E strip_definition in
     let at : (k : ℕ) → k < length E → (get_or (strip E) k d).0 ≡ (get_or E k d).0 = λ k lt. ap (λ (x : Definition). x.0) (get_or-map strip_definition E k d d lt) in
-    let same : (get_or E i d).0 ≡ (get_or E j d).0 = sym (at i (omega (arith, li, few))) ∙ e ∙ at j (omega (arith, lj, few)) in
-    elim (cases_order i j) [
-      | inl is ↦ is
-      | inr other ↦ elim other [
-        | inl less ↦ absurd (apart i j d less (omega (arith, lj, few)) same)
-        | inr more ↦ absurd (apart j i d more (omega (arith, li, few)) (sym same))
-      ]
-    ]
+    one_place (λ (x : Definition). x.0) E apart i j d (omega (arith, li, few)) (omega (arith, lj, few)) (sym (at i (omega (arith, li, few))) ∙ e ∙ at j (omega (arith, lj, few)))
 
 -- what is good stays so
 pub stays_good : (K : Collection) (caps : Caps) → IsGood caps (definitions K) → IsGood caps (definitions (strip_collection K))
@@ -85,20 +68,16 @@ module _ (K : Collection) where
   abbrev E : List Definition
   E = in_class_order (definitions K)
 
-  -- the order has the members of the collection
-  order_within : (d : Definition) → Contains E d → Contains (definitions K) d
-  order_within d c = in_class_order-only (definitions K) d c
-
   -- and no other collection has
   order_of : IsCollectionOf E K
   order_of name c =
       let is = definitions-are K name c in
-      (λ member. in_class_order-has (definitions K) (name, c) (definitions-distinct K) (is.0 member), λ has. is.1 (order_within (name, c) has))
+      (λ member. in_class_order-has (definitions K) (name, c) (definitions-distinct K) (is.0 member), λ has. is.1 (in_class_order-only (definitions K) (name, c) has))
 
   -- trimmed, they can be merged
   pub stripped_mergeable : (n : Mentions) (cs : List NumberedClass) → AreTrimmed (strip E) n cs → IsGood greatest_caps (definitions K) → AreWellFormed (definitions K) → (IsGood greatest_caps E → IsGood greatest_caps (strip E)) → (AreWellFormed E → AreWellFormed (strip E)) → AreMergeable n cs
   stripped_mergeable n cs trimmed good formed stays stay =
-      trimmed_mergeable (strip E) n cs trimmed (one_name E (class_names-apart (definitions K))) (stays (IsGood-within E (definitions K) order_within greatest_caps good)) (stay (λ d c. formed d (order_within d c)))
+      trimmed_mergeable (strip E) n cs trimmed (one_name E (class_names-apart (definitions K))) (stays (IsGood-within E (definitions K) (in_class_order-only (definitions K)) greatest_caps good)) (stay (λ d c. formed d (in_class_order-only (definitions K) d c)))
 
   -- and their program is the stripped one
   pub stripped_collection : (n : Mentions) (cs : List NumberedClass) → AreTrimmed (strip E) n cs → (IsCollectionOf E K → IsCollectionOf (strip E) (strip_collection K)) → (L : Collection) → IsCollectionOf (map (definition_of n) cs) L → L ≡ strip_collection K

@@ -1,12 +1,12 @@
 -- A class row more, and what the classes weigh with it.
-use Rattle.dexclass.proofs.Common.{◌≡◌, ℕ, ◌+◌, ◌*◌, ◌<◌, ◌≤◌, List, [], ◌∷◌, ◌++◌, length, map, sym, ap, ◌∙◌, subst, arith, All, map-append, All-nil, All-cons, All-append, ClassDefs, table_size, Definition, interfaces_off, Mentions, body_weight, most_weight, Condition, HoldBelow, AreRows, IsRefused, ArePools, NumberedMembers, members_in, members_weight, AreMembersOf}
+use Rattle.dexclass.proofs.Common.{◌≡◌, ℕ, ◌+◌, ◌*◌, ◌<◌, ◌≤◌, List, [], ◌∷◌, ◌++◌, length, map, sym, ap, ◌∙◌, subst, arith, All, map-append, All-nil, All-cons, All-append, ClassDefs, table_size, Definition, interfaces_off, Mentions, body_weight, most_weight, Condition, HoldBelow, IsReadable, AreRows, IsRefused, ArePools, NumberedMembers, members_in, members_weight, AreMembersOf, below_more}
 use Rattle.dexclass.specs.internal.Rows.{interface_indices}
 use Rattle.dexclass.specs.{NumberedClass, definition_of, class_of_row, IsKnownClass}
 use Rattle.dexclass.specs.internal.Reading.{bodies_weight, AreBodies}
 use Rattle.dexclass.specs.declared.reading.Bodies.{Bodies}
 use Rattle.dexclass.proofs.RowClasses.{row_weight, row_encoded}
 use Rattle.dexclass.proofs.RowsKnown.{row_known}
-use Rattle.dexclass.proofs.RowsBelow.{IsRow, bodies_more, rows_more, readable_more, heavy_row}
+use Rattle.dexclass.proofs.RowsBelow.{IsRow, bodies_more, rows_more, heavy_row}
 use Rattle.dexclass.proofs.RowFaults.{heavy_refused}
 
 module _ (b : List ℕ) (m : Mentions) (pools : ArePools b m) (h : HoldBelow 17 b) (r : ℕ) (lt : r < table_size b ClassDefs) (most : ℕ) (x : NumberedMembers) (are : AreMembersOf b r m most x) (w : ℕ) (weighs : w ≡ 96 + 2 * length (interface_indices b (interfaces_off b r)) + members_weight (members_in m x)) where
@@ -43,7 +43,7 @@ module _ (b : List ℕ) (m : Mentions) (pools : ArePools b m) (h : HoldBelow 17 
         let one : map (definition_of m) (c ∷ []) ≡ definition_of m row_class ∷ [] = ap (λ (k : NumberedClass). definition_of m k ∷ []) is in
         let all : map (definition_of m) bodies.classes.items ≡ D ++ definition_of m row_class ∷ [] = ap (map (definition_of m)) pushed ∙ map-append (definition_of m) old.classes.items (c ∷ []) ∙ ap (λ (l : List Definition). D ++ l) one in
         record {
-          readable = readable_more b r before.readable are.readable;
+          readable = below_more (IsReadable b) r before.readable are.readable;
           known = subst (All (IsKnownClass m)) (sym pushed) (All-append (IsKnownClass m) old.classes.items (c ∷ []) before.known (All-cons (IsKnownClass m) c [] known_so (All-nil (IsKnownClass m))));
           rows = subst (AreRows b (r + 1)) (sym all) (rows_more b r D (definition_of m row_class) before.rows class_row);
           weight_is = so ∙ sym sum_is ∙ ap bodies_weight (sym all);

@@ -1,11 +1,11 @@
 -- Marks of which none is set.
-use Rattle.dexclass.proofs.Common.{◌≡◌, ℕ, ◌<◌, Bool, true, false, List, [], length, get_or, refl, ◌∙◌, subst, arith, Contains, get_or_default, Proto, Field, Method, Symbol, TextSymbol, TypeSymbol, ProtoSymbol, FieldSymbol, MethodSymbol, Mentions, Contains-nil, SymbolKind, Marks, IsAt, IsNumbered, IsOfKind, AreMarksOf, marked, marks_of, AreMarkedToo, Use, mark_within}
+use Rattle.dexclass.proofs.Common.{◌≡◌, ℕ, ◌<◌, false, List, [], length, get_or, ◌∙◌, subst, arith, Contains, get_or_default, Symbol, TextSymbol, TypeSymbol, ProtoSymbol, FieldSymbol, MethodSymbol, Mentions, Contains-nil, SymbolKind, Marks, IsAt, IsNumbered, IsOfKind, AreMarksOf, marked, marks_of, AreMarkedToo, Use, mark_within, false_from_ne_true, Field, Method, Proto}
 use Rattle.dexpool.specs.declared.symbols.SymbolKind.TheVariants as kinds
 use Rattle.dexclass.specs.{HaveMarked}
 use Rattle.dexclass.proofs.Mentioned.{is_kept}
 
 -- the item at a place
-there : {X : Type 0} (xs : List X) (i : ℕ) (d : X) → i < length xs → IsAt xs i (get_or xs i d)
+pub there : {X : Type 0} (xs : List X) (i : ℕ) (d : X) → i < length xs → IsAt xs i (get_or xs i d)
 there xs i d lt = record { within = lt; is = λ e. get_or_default xs i e d lt }
 
 -- a symbol of a kind and a number
@@ -30,15 +30,11 @@ module _ (m : Mentions) (marks : Marks) (are : AreMarksOf m marks) where
       record { symbol = MethodSymbol (get_or m.methods i d); number_is = there m.methods i d (omega (arith, lt, are.methods_count)); kind_is = tt }
 
   module _ (nothing : marked m marks ≡ []) where
-    by_mark : (kind : SymbolKind) (i : ℕ) (b : Bool) → get_or (marks_of kind marks) i false ≡ b → b ≡ false
-    by_mark kind i false e = refl
-    by_mark kind i true e =
-        let s = has_symbol kind i (mark_within (marks_of kind marks) i e) in
-        absurd (Contains-nil s.symbol (subst (λ l. Contains l s.symbol) nothing (is_kept m marks kind i s.symbol e s.number_is s.kind_is)))
-
     -- where no symbol is marked, no mark is set
     pub none_marked : HaveMarked [] marks
-    none_marked kind i = by_mark kind i (get_or (marks_of kind marks) i false) refl
+    none_marked kind i = false_from_ne_true (get_or (marks_of kind marks) i false) (λ e.
+        let s = has_symbol kind i (mark_within (marks_of kind marks) i e) in
+        Contains-nil s.symbol (subst (λ l. Contains l s.symbol) nothing (is_kept m marks kind i s.symbol e s.number_is s.kind_is)))
 
 -- there still is a mark for each symbol
 pub still_marks : (m : Mentions) (us : List Use) (a b : Marks) → AreMarksOf m a → AreMarkedToo us a b → AreMarksOf m b

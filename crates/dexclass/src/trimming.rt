@@ -2,9 +2,9 @@
 
 ghost use Rattle.std.specs.Prelude.{◌≡◌, All, IfOk, map};
 ghost use Rattle.dexpool.specs.Orderly.{MapsDown};
+ghost use Rattle.dexclass.specs.Numbered.{definition_of};
 ghost use Rattle.dexclass.specs.Uses.{IsKnownClass};
-ghost use Rattle.dexclass.specs.internal.Ordered.{mentions_of, KeepsDefinitions};
-ghost use Rattle.dexclass.specs.internal.Trimming.{MarkClasses};
+ghost use Rattle.dexclass.specs.internal.Trimming.{MarkClasses, AreTrimmed};
 ghost use Rattle.dexclass.specs.Renumbering.{renumbered, IsMappedClass};
 
 use crate::classes::Class;
@@ -64,11 +64,8 @@ pub(crate) fn trim<'a>(
     classes: &mut Vec<Class<'a>>,
 ) -> Result<Numbering<'a>, AllocError>
     requires { All (IsKnownClass numbering.now) classes.old.items }
-    ensures mentions { IfOk result (λ trimmed.
-        trimmed ≡ mentions_of numbering.now classes.old.items) }
-    ensures numbers { IfOk result (λ trimmed. All (IsKnownClass trimmed) classes.new.items) }
-    ensures same { IfOk result
-        (KeepsDefinitions numbering.now classes.old.items classes.new.items) }
+    ensures { IfOk result (λ trimmed. AreTrimmed
+        (map (definition_of numbering.now) classes.old.items) trimmed classes.new.items) }
 {
     uses_law();
     renumbering_law();
@@ -89,11 +86,8 @@ pub(crate) fn into_trimmed<'a>(
     classes: &mut Vec<Class<'a>>,
 ) -> Result<Numbering<'a>, AllocError>
     requires { All (IsKnownClass numbering) classes.old.items }
-    ensures mentions { IfOk result (λ trimmed.
-        trimmed ≡ mentions_of numbering.entry classes.old.items) }
-    ensures numbers { IfOk result (λ trimmed. All (IsKnownClass trimmed) classes.new.items) }
-    ensures same { IfOk result
-        (KeepsDefinitions numbering.entry classes.old.items classes.new.items) }
+    ensures { IfOk result (λ trimmed. AreTrimmed
+        (map (definition_of numbering.entry) classes.old.items) trimmed classes.new.items) }
 {
     uses_law();
     renumbering_law();

@@ -21,7 +21,3 @@ AreInClassOrder cs depths ordered = (m : Mentions) → AreNamed m cs → AreDept
 -- what the classes' definitions mention
 abbrev pub mentions_of : Mentions → List NumberedClass → Mentions
 mentions_of m cs = mentions (map (definition_of m) cs)
-
--- the new classes denote the same definitions, by the numbers of another numbering
-abbrev pub KeepsDefinitions : Mentions → List NumberedClass → List NumberedClass → Mentions → Type 0
-KeepsDefinitions m old new n = map (definition_of n) new ≡ map (definition_of m) old

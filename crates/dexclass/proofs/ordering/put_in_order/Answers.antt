@@ -18,9 +18,8 @@ arrange-requires-clause-within c =
 
 pub arrange-requires-clause-distinct : goal.arrange-requires-clause-distinct
 arrange-requires-clause-distinct c =
-    let cs = c.args.classes.now.items in
     subst AreDistinct (sym c.deref-3.ensures.value)
-    (order_distinct c.requires.numbering.0 cs c.requires.numbering.1 c.args.depths.now c.deref-2.result.now c.in_ok-order.order.items
+    (order_distinct c.requires.numbering.0 c.args.classes.now.items c.requires.numbering.1 c.args.depths.now c.deref-2.result.now c.in_ok-order.order.items
     (c.deref-2.ensures.value ∙ c.in_ok-names.ensures ∙ ap (map (λ (x : NumberedClass). x.name)) c.deref.ensures.value) c.in_ok-order.ensures.classes c.in_ok-order.ensures.rises)
 
 pub returns-clause-order : goal.returns-clause-order

@@ -7,6 +7,5 @@ pub returns : goal.returns
 returns c =
     let m = c.args.numbering.now in
     let cs = c.args.classes.now in
-    let all = take_all c.loop-class.class-index cs c.loop-class-test.false in
-    c.loop-class.invariant ∙ ap (λ (l : List NumberedClass). min (2 ^ 64 - 1) (1024 + mentions_weight m + sum_by (λ (x : NumberedClass). body_weight (definition_of m x).1) l)) all
+    c.loop-class.invariant ∙ ap (λ (l : List NumberedClass). min (2 ^ 64 - 1) (1024 + mentions_weight m + sum_by (λ (x : NumberedClass). body_weight (definition_of m x).1) l)) (take_all c.loop-class.class-index cs c.loop-class-test.false)
     ∙ ap (min (2 ^ 64 - 1)) (sym (weight_parts m cs c.requires.mentions))

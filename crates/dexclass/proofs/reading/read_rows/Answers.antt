@@ -1,7 +1,7 @@
-use Rattle.dexclass.proofs.Common.{map, err_from_is_err_and}
+use Rattle.dexclass.proofs.Common.{map, subst, err_from_is_err_and}
 use Rattle.dexclass.specs.{definition_of}
 use Rattle.dexclass.proofs.RowFaults.{together_fault}
-use Rattle.dexclass.proofs.Mergeable.{AreTrimmed, are_trimmed}
+use Rattle.dexclass.specs.internal.Trimming.{AreTrimmed}
 use Rattle.dexclass.proofs.ReadPrograms.{total_is, read_as, mergeable}
 use Rattle.dexclass.proofs.reading.read_rows.Goals as goal
 use Rattle.dexclass.proofs.reading.read_rows.Goals.{In_ok-numbering}
@@ -9,7 +9,7 @@ use Rattle.dexclass.proofs.reading.read_rows.Goals.{In_ok-numbering}
 -- the classes as they are trimmed
 trimmed : (c : In_ok-numbering) → AreTrimmed (map (definition_of c.args.pools) c.in_ok-classes.field-0.classes.items) c.in_ok-numbering.numbering c.into_trimmed.new.classes.items
 trimmed c =
-    are_trimmed c.args.pools c.into_numbering.result c.in_ok-numbering.numbering c.in_ok-classes.field-0.classes.items c.into_trimmed.new.classes.items c.into_numbering.ensures c.in_ok-numbering.ensures.mentions c.in_ok-numbering.ensures.same c.in_ok-numbering.ensures.numbers
+    subst (λ m. AreTrimmed (map (definition_of m) c.in_ok-classes.field-0.classes.items) c.in_ok-numbering.numbering c.into_trimmed.new.classes.items) c.into_numbering.ensures c.in_ok-numbering.ensures
 
 pub returns-in_err-total-clause-refused : goal.returns-in_err-total-clause-refused
 returns-in_err-total-clause-refused c =

@@ -1,6 +1,6 @@
-use Rattle.dexclass.proofs.Common.{sym, subst, All, definitions, in_class_order, Mentions, mentions, greatest_caps, strip, stripped_members, AreRising, if_ok_map}
-use Rattle.dexclass.specs.{type_at, IsKnownClass}
-use Rattle.dexclass.proofs.Mergeable.{AreTrimmed, are_trimmed}
+use Rattle.dexclass.proofs.Common.{map, sym, subst, All, definitions, in_class_order, Mentions, mentions, greatest_caps, strip, stripped_members, AreRising, if_ok_map}
+use Rattle.dexclass.specs.{type_at, definition_of, IsKnownClass}
+use Rattle.dexclass.specs.internal.Trimming.{AreTrimmed}
 use Rattle.dexclass.proofs.StrippedPrograms.{class_stripped, class_known, all_known, all_stripped, stripped_mergeable, stripped_collection}
 use Rattle.dexclass.proofs.stripping.into_stripped.Goals as goal
 use Rattle.dexclass.proofs.stripping.into_stripped.Goals.{In_ok-trimmed}
@@ -17,11 +17,10 @@ into_trimmed-requires c =
 -- the classes as they are trimmed
 trimmed : (c : In_ok-trimmed) → AreTrimmed (strip (in_class_order (definitions c.args.program))) c.in_ok-trimmed.trimmed c.into_trimmed.new.classes.items
 trimmed c =
-    let m = mentions (definitions c.args.program) in
     let old = c.strip_all.new.classes.items in
     subst (λ D. AreTrimmed D c.in_ok-trimmed.trimmed c.into_trimmed.new.classes.items)
     (all_stripped c.args.program c.into_parts-numbering.result.1.items c.into_parts-numbering.ensures.classes (λ n x. class_stripped n x (c.members_stripped_law.ensures.same n x.members)) old c.strip_all.ensures)
-    (are_trimmed m c.into_parts-numbering.result.0 c.in_ok-trimmed.trimmed old c.into_trimmed.new.classes.items c.into_parts-numbering.ensures.numbering c.in_ok-trimmed.ensures.mentions c.in_ok-trimmed.ensures.same c.in_ok-trimmed.ensures.numbers)
+    (subst (λ n. AreTrimmed (map (definition_of n) old) c.in_ok-trimmed.trimmed c.into_trimmed.new.classes.items) c.into_parts-numbering.ensures.numbering c.in_ok-trimmed.ensures)
 
 pub of-requires : goal.of-requires
 of-requires c =

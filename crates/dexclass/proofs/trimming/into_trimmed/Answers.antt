@@ -1,7 +1,7 @@
 use Rattle.dexclass.proofs.Common.{◌≡◌, List, Option, map, sym, ap, subst, ◌∙◌, IfSome, IfNone, All, Mentions, Maps, AllMapTo, MapsMarked}
 use Rattle.dexclass.specs.{NumberedClass, definition_of, IsKnownClass, IsMappedClass}
 use Rattle.dexclass.specs.internal.Trimming.{MarkClasses}
-use Rattle.dexclass.proofs.Trimmed.{all_map_to, trimmed_same, trimmed_known}
+use Rattle.dexclass.proofs.Trimmed.{all_map_to, trimmed}
 use Rattle.dexclass.proofs.trimming.into_trimmed.Goals as goal
 use Rattle.dexclass.proofs.trimming.into_trimmed.Goals.{In_ok-trimmed, in-Some, in_default}
 
@@ -22,41 +22,19 @@ pub cut_all-requires-clause-remapped : goal.cut_all-requires-clause-remapped
 cut_all-requires-clause-remapped c =
     mapped (goal.at.cut_all-requires-clause-remapped c).In_ok-trimmed c.in-Some.remap (subst (λ o. IfSome o (MapsMarked c.in_ok-marks.marks)) c.in-Some.is c.in_ok-trimmed.ensures.marked)
 
-pub returns-clause-mentions : goal.returns-clause-mentions
-returns-clause-mentions c = c.in_ok-trimmed.ensures.kept ∙ (marks_of (goal.at.returns-clause-mentions c).In_ok-trimmed).mentioned
-
-pub returns-clause-numbers : goal.returns-clause-numbers
-returns-clause-numbers c =
+pub returns : goal.returns
+returns c =
     let m = c.args.numbering in
     let n = c.in_ok-trimmed.trimmed in
     let cs = c.args.classes.now.items in
-    let k = (goal.at.returns-clause-numbers c).In_ok-trimmed in
+    let k = (goal.at.returns c).In_ok-trimmed in
+    let is = c.in_ok-trimmed.ensures.kept ∙ (marks_of k).mentioned in
     elim c.match-remap.branch [
       | in-Some w ↦
           let r = w.in-Some.remap in
           let maps = subst (λ (o : Option Maps). IfSome o (AllMapTo m n)) w.in-Some.is c.in_ok-trimmed.ensures.map in
-          let marked = subst (λ (o : Option Maps). IfSome o (MapsMarked c.in_ok-marks.marks)) w.in-Some.is c.in_ok-trimmed.ensures.marked in
-          subst (All (IsKnownClass n)) (sym (ap (λ v. v.items) w.classes-is))
-          (trimmed_known m n r cs w.cut_all.new.classes.items (λ class. c.renumbering_law.ensures.same m n r class maps) (mapped k r marked) c.requires w.cut_all.ensures)
+          trimmed m n r cs _ (λ class. c.renumbering_law.ensures.same m n r class maps) (mapped k r (subst (λ (o : Option Maps). IfSome o (MapsMarked c.in_ok-marks.marks)) w.in-Some.is c.in_ok-trimmed.ensures.marked)) c.requires (ap (λ v. v.items) w.classes-is ∙ w.cut_all.ensures) is
       | in_default w ↦
           let whole : n ≡ m = subst (λ (o : Option Maps). IfNone o (n ≡ m)) w.in_default.is c.in_ok-trimmed.ensures.whole in
-          subst (All (IsKnownClass n)) (sym (ap (λ v. v.items) w.classes-is)) (subst (λ (t : Mentions). All (IsKnownClass t) cs) (sym whole) c.requires)
-    ]
-
-pub returns-clause-same : goal.returns-clause-same
-returns-clause-same c =
-    let m = c.args.numbering in
-    let n = c.in_ok-trimmed.trimmed in
-    let cs = c.args.classes.now.items in
-    let k = (goal.at.returns-clause-same c).In_ok-trimmed in
-    elim c.match-remap.branch [
-      | in-Some w ↦
-          let r = w.in-Some.remap in
-          let maps = subst (λ (o : Option Maps). IfSome o (AllMapTo m n)) w.in-Some.is c.in_ok-trimmed.ensures.map in
-          let marked = subst (λ (o : Option Maps). IfSome o (MapsMarked c.in_ok-marks.marks)) w.in-Some.is c.in_ok-trimmed.ensures.marked in
-          ap (λ v. map (definition_of n) v.items) w.classes-is
-          ∙ trimmed_same m n r cs w.cut_all.new.classes.items (λ class. c.renumbering_law.ensures.same m n r class maps) (mapped k r marked) c.requires w.cut_all.ensures
-      | in_default w ↦
-          let whole : n ≡ m = subst (λ (o : Option Maps). IfNone o (n ≡ m)) w.in_default.is c.in_ok-trimmed.ensures.whole in
-          ap (λ v. map (definition_of n) v.items) w.classes-is ∙ ap (λ (t : Mentions). map (definition_of t) cs) whole
+          rw w.classes-is (record { mentions_are = is; same = ap (λ (t : Mentions). map (definition_of t) cs) whole; known = subst (λ (t : Mentions). All (IsKnownClass t) cs) (sym whole) c.requires })
     ]

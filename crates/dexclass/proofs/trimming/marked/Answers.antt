@@ -10,8 +10,7 @@ loop-class-init c = record { count = c.in_ok-marks.ensures.marks; marked = none_
 
 pub mark-requires : goal.mark-requires
 mark-requires c =
-    let known = subst (IsKnownClass c.args.numbering.now) (sym c.class-item.is) (c.requires c.loop-class.class-index c.class-item.result c.loop-class-test.true) in
-    c.uses_law.ensures.marks c.args.numbering.now c.loop-class.marks c.class-item.result c.loop-class.invariant.count known
+    c.uses_law.ensures.marks c.args.numbering.now c.loop-class.marks c.class-item.result c.loop-class.invariant.count (subst (IsKnownClass c.args.numbering.now) (sym c.class-item.is) (c.requires c.loop-class.class-index c.class-item.result c.loop-class-test.true))
 
 pub loop-class-preserved : goal.loop-class-preserved
 loop-class-preserved c = record {

@@ -1,7 +1,7 @@
 use Rattle.dexclass.proofs.Common.{List, subst, ◌∙◌, All}
 use Rattle.dexclass.specs.{NumberedClass, IsMappedClass}
 use Rattle.dexclass.specs.internal.Trimming.{MarkClasses}
-use Rattle.dexclass.proofs.Trimmed.{all_map_to, trimmed_same, trimmed_known}
+use Rattle.dexclass.proofs.Trimmed.{all_map_to, trimmed}
 use Rattle.dexclass.proofs.trimming.trim.Goals as goal
 use Rattle.dexclass.proofs.trimming.trim.Goals.{In_ok-trimmed}
 
@@ -21,19 +21,9 @@ keep-requires c = c.in_ok-marks.ensures.count
 pub cut_all-requires : goal.cut_all-requires
 cut_all-requires c = record { down = c.in_ok-trimmed.ensures.down; remapped = mapped (goal.at.cut_all-requires c).In_ok-trimmed }
 
-pub returns-clause-mentions : goal.returns-clause-mentions
-returns-clause-mentions c = c.in_ok-trimmed.ensures.kept ∙ (marks_of (goal.at.returns-clause-mentions c).In_ok-trimmed).mentioned
-
-pub returns-clause-numbers : goal.returns-clause-numbers
-returns-clause-numbers c =
+pub returns : goal.returns
+returns c =
     let m = c.args.numbering.now in
     let n = c.in_ok-trimmed.trimmed in
-    let r = c.in_ok-trimmed.remap in
-    trimmed_known m n r c.args.classes.now.items c.cut_all.new.classes.items (λ class. c.renumbering_law.ensures.same m n r class c.in_ok-trimmed.ensures.map) (mapped (goal.at.returns-clause-numbers c).In_ok-trimmed) c.requires c.cut_all.ensures
-
-pub returns-clause-same : goal.returns-clause-same
-returns-clause-same c =
-    let m = c.args.numbering.now in
-    let n = c.in_ok-trimmed.trimmed in
-    let r = c.in_ok-trimmed.remap in
-    trimmed_same m n r c.args.classes.now.items c.cut_all.new.classes.items (λ class. c.renumbering_law.ensures.same m n r class c.in_ok-trimmed.ensures.map) (mapped (goal.at.returns-clause-same c).In_ok-trimmed) c.requires c.cut_all.ensures
+    let k = (goal.at.returns c).In_ok-trimmed in
+    trimmed m n c.in_ok-trimmed.remap c.args.classes.now.items c.cut_all.new.classes.items (λ class. c.renumbering_law.ensures.same m n c.in_ok-trimmed.remap class c.in_ok-trimmed.ensures.map) (mapped k) c.requires c.cut_all.ensures (c.in_ok-trimmed.ensures.kept ∙ (marks_of k).mentioned)

@@ -14,13 +14,11 @@ invariant_of-result c =
     let m = c.args.numbering in
     let cs = c.args.classes.items in
     let h = c.requires.mergeable in
-    let new = c.put_in_order.new.classes.items in
-    program_is m cs h c.is_numbering.ensures new c.in_ok-put_in_order.ensures.members (c.in_ok-put_in_order.ensures.order m (named m cs h c.is_numbering.ensures) c.requires.depths) c.args.total c.requires.total
+    program_is m cs h c.is_numbering.ensures c.put_in_order.new.classes.items c.in_ok-put_in_order.ensures.members (c.in_ok-put_in_order.ensures.order m (named m cs h c.is_numbering.ensures) c.requires.depths) c.args.total c.requires.total
 
 pub returns : goal.returns
 returns c =
     let m = c.args.numbering in
     let cs = c.args.classes.items in
     let h = c.requires.mergeable in
-    let new = c.put_in_order.new.classes.items in
-    collection_is m cs h c.is_numbering.ensures new c.in_ok-put_in_order.ensures.members (c.in_ok-put_in_order.ensures.order m (named m cs h c.is_numbering.ensures) c.requires.depths)
+    collection_is m cs h c.is_numbering.ensures c.put_in_order.new.classes.items c.in_ok-put_in_order.ensures.members (c.in_ok-put_in_order.ensures.order m (named m cs h c.is_numbering.ensures) c.requires.depths)

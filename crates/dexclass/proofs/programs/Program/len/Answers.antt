@@ -6,5 +6,4 @@ use Rattle.dexclass.proofs.programs.Program.len.Goals as goal
 pub returns : goal.returns
 returns c =
     let cs = c.self.inside.classes.items in
-    let count = classes_count c.args.self.now cs (subst (λ (K : Collection). AreClassesOf K cs) c.self.view_is c.self.invariant.classes_are) in
-    omega (arith, count)
+    omega (arith, (classes_count c.args.self.now cs (subst (λ (K : Collection). AreClassesOf K cs) c.self.view_is c.self.invariant.classes_are)))

@@ -6,8 +6,7 @@ use Rattle.dexclass.proofs.programs.Program.weighing.Goals as goal
 pub depths_of-requires : goal.depths_of-requires
 depths_of-requires c =
     let m = c.args.numbering in
-    let cs = c.args.classes.items in
-    (m, sym c.count-types.ensures, subst (AreNamed m) (sym c.deref.ensures.value) (named m cs c.requires.mergeable c.is_numbering.ensures))
+    (m, sym c.count-types.ensures, subst (AreNamed m) (sym c.deref.ensures.value) (named m c.args.classes.items c.requires.mergeable c.is_numbering.ensures))
 
 pub arranged-requires-clause-depths : goal.arranged-requires-clause-depths
 arranged-requires-clause-depths c =

@@ -6,9 +6,7 @@ pub mod RowConditions
 pub mod RowClasses
 pub mod Marked
 pub mod OwnUses
-pub mod ClassSymbols
 pub mod Renumbered
-pub mod EqualMapped
 pub mod Mentioned
 pub mod Remapped
 pub mod SameClasses
@@ -19,10 +17,8 @@ pub mod Arranged
 pub mod Ordered
 pub mod Unmarked
 pub mod Trimmed
-pub mod RowsKnown
 pub mod RowsBelow
 pub mod RowFaults
-pub mod PoolMentions
 pub mod RowsChecked
 pub mod Summing
 pub mod Mergeable
@@ -30,6 +26,5 @@ pub mod ReadPrograms
 pub mod StrippedPrograms
 pub mod ProgramClasses
 pub mod EmptyPrograms
-pub mod OneOrder
 pub mod ProgramsOf
 pub mod PartsOf

@@ -1,5 +1,5 @@
 -- The symbols that are marked are those that occur, and so are those that they mention.
-use Rattle.dexclass.proofs.Common.{◌≡◌, ℕ, ◌==◌, ◌&&◌, Bool, true, false, List, ◌++◌, map, get_or, refl, sym, ap, ◌∙◌, subst, inl, inr, eq-eqb, AllZip, Contains, flat_map, eqb-true, Contains-append_left, Contains-append_right, Contains-append_cases, Text, text_cmp, Proto, Field, Method, Symbol, TextSymbol, TypeSymbol, ProtoSymbol, FieldSymbol, MethodSymbol, proto_cmp, field_cmp, method_cmp, Mentions, closed, texts_in, types_in, protos_in, fields_in, methods_in, AreAmong, AreAmong-flat_map, and_first, and_second, list_any-member, list_any-source, Contains-map_source, Contains-map, in_order-same, text_total, text_exact, proto_total, proto_exact, field_total, field_exact, method_total, method_exact, SymbolKind, Marks, IsAt, IsNumbered, IsOfKind, marked, Use, IsUseOf, IsMarkedUse, marks_of, same_kind, kept_from, kept_has, zip_source, zip_target}
+use Rattle.dexclass.proofs.Common.{◌≡◌, ℕ, ◌==◌, ◌&&◌, Bool, true, false, List, ◌++◌, map, get_or, refl, sym, ap, ◌∙◌, subst, inl, inr, eq-eqb, AllZip, Contains, flat_map, eqb-true, Contains-append_left, Contains-append_right, Contains-append_cases, text_cmp, Symbol, TextSymbol, TypeSymbol, ProtoSymbol, FieldSymbol, MethodSymbol, proto_cmp, field_cmp, method_cmp, Mentions, closed, texts_in, types_in, protos_in, fields_in, methods_in, AreAmong, AreAmong-flat_map, and_first, and_second, list_any-member, list_any-source, Contains-map_source, Contains-map, in_order-same, text_total, text_exact, proto_total, proto_exact, field_total, field_exact, method_total, method_exact, SymbolKind, Marks, IsAt, IsNumbered, IsOfKind, marked, Use, IsUseOf, IsMarkedUse, marks_of, same_kind, kept_from, kept_has, zip_source, zip_target}
 use Rattle.dexpool.specs.Cut.{kept}
 use Rattle.dexpool.specs.declared.symbols.SymbolKind.TheVariants as kinds
 use Rattle.dexclass.specs.{HaveMarked}
@@ -20,72 +20,38 @@ is_same : (k : SymbolKind) → same_kind k k ≡ true
 is_same kinds.Text = refl
 is_same x = refl
 
-module _ (m : Mentions) (i : ℕ) where
-  text_is : (s : Symbol) (x : Text) → IsNumbered m i s → IsOfKind kinds.Text s → ((d : Text) → get_or m.texts i d ≡ x) → s ≡ TextSymbol x
-  text_is (TextSymbol y) x at of is = ap TextSymbol (sym (at.is y) ∙ is y)
-  text_is _ x at of is = absurd of
-
-  type_is : (s : Symbol) (x : Text) → IsNumbered m i s → IsOfKind kinds.Typ s → ((d : Text) → get_or m.types i d ≡ x) → s ≡ TypeSymbol x
-  type_is (TypeSymbol y) x at of is = ap TypeSymbol (sym (at.is y) ∙ is y)
-  type_is _ x at of is = absurd of
-
-  proto_is : (s : Symbol) (x : Proto) → IsNumbered m i s → IsOfKind kinds.Proto s → ((d : Proto) → get_or m.protos i d ≡ x) → s ≡ ProtoSymbol x
-  proto_is (ProtoSymbol y) x at of is = ap ProtoSymbol (sym (at.is y) ∙ is y)
-  proto_is _ x at of is = absurd of
-
-  field_is : (s : Symbol) (x : Field) → IsNumbered m i s → IsOfKind kinds.Field s → ((d : Field) → get_or m.fields i d ≡ x) → s ≡ FieldSymbol x
-  field_is (FieldSymbol y) x at of is = ap FieldSymbol (sym (at.is y) ∙ is y)
-  field_is _ x at of is = absurd of
-
-  method_is : (s : Symbol) (x : Method) → IsNumbered m i s → IsOfKind kinds.Method s → ((d : Method) → get_or m.methods i d ≡ x) → s ≡ MethodSymbol x
-  method_is (MethodSymbol y) x at of is = ap MethodSymbol (sym (at.is y) ∙ is y)
-  method_is _ x at of is = absurd of
+-- one symbol has a kind and a number
+one_symbol : (m : Mentions) (kind : SymbolKind) (i : ℕ) (s t : Symbol) → IsNumbered m i s → IsOfKind kind s → IsNumbered m i t → IsOfKind kind t → s ≡ t
+one_symbol m kinds.Text i (TextSymbol x) (TextSymbol y) a k b l = ap TextSymbol (sym (a.is x) ∙ b.is x)
+one_symbol m kinds.Typ i (TypeSymbol x) (TypeSymbol y) a k b l = ap TypeSymbol (sym (a.is x) ∙ b.is x)
+one_symbol m kinds.Proto i (ProtoSymbol x) (ProtoSymbol y) a k b l = ap ProtoSymbol (sym (a.is x) ∙ b.is x)
+one_symbol m kinds.Field i (FieldSymbol x) (FieldSymbol y) a k b l = ap FieldSymbol (sym (a.is x) ∙ b.is x)
+one_symbol m kinds.Method i (MethodSymbol x) (MethodSymbol y) a k b l = ap MethodSymbol (sym (a.is x) ∙ b.is x)
+one_symbol m _ i _ _ a k b l = absurd assumption
 
 -- ---- the symbols that are marked
 
+abbrev part : {X : Type 0} → (X → Symbol) → List Bool → List X → List Symbol
+part wrap bits xs = map wrap (kept bits xs)
+
 -- a member whose place is marked
-kept_part : {X : Type 0} (wrap : X → Symbol) (bits : List Bool) (xs : List X) (i : ℕ) (x : X) → get_or bits i false ≡ true → IsAt xs i x → Contains (map wrap (kept bits xs)) (wrap x)
+kept_part : {X : Type 0} (wrap : X → Symbol) (bits : List Bool) (xs : List X) (i : ℕ) (x : X) → get_or bits i false ≡ true → IsAt xs i x → Contains (part wrap bits xs) (wrap x)
 kept_part wrap bits xs i x e at = Contains-map wrap (kept bits xs) x (subst (Contains (kept bits xs)) (at.is x) (kept_has bits xs i x e at.within))
 
 module _ (m : Mentions) (marks : Marks) where
-  abbrev pub texts_part : List Symbol
-  texts_part = map TextSymbol (kept marks.strings.items m.texts)
-
-  abbrev pub types_part : List Symbol
-  types_part = map TypeSymbol (kept marks.types.items m.types)
-
-  abbrev pub protos_part : List Symbol
-  protos_part = map ProtoSymbol (kept marks.protos.items m.protos)
-
-  abbrev pub fields_part : List Symbol
-  fields_part = map FieldSymbol (kept marks.fields.items m.fields)
-
-  abbrev pub methods_part : List Symbol
-  methods_part = map MethodSymbol (kept marks.methods.items m.methods)
-
-  abbrev after_protos : List Symbol
-  after_protos = fields_part ++ methods_part
-
-  abbrev after_types : List Symbol
-  after_types = protos_part ++ after_protos
-
-  abbrev after_texts : List Symbol
-  after_texts = types_part ++ after_types
-
-  in_members : (s : Symbol) → Contains after_protos s → Contains (marked m marks) s
-  in_members s c = Contains-append_right texts_part after_texts s (Contains-append_right types_part after_types s (Contains-append_right protos_part after_protos s c))
-
   -- a symbol whose number is marked
   pub is_kept : (kind : SymbolKind) (i : ℕ) (s : Symbol) → get_or (marks_of kind marks) i false ≡ true → IsNumbered m i s → IsOfKind kind s → Contains (marked m marks) s
-  is_kept kinds.Text i (TextSymbol x) e at of = Contains-append_left texts_part after_texts (TextSymbol x) (kept_part TextSymbol marks.strings.items m.texts i x e at)
-  is_kept kinds.Typ i (TypeSymbol x) e at of = Contains-append_right texts_part after_texts (TypeSymbol x) (Contains-append_left types_part after_types (TypeSymbol x) (kept_part TypeSymbol marks.types.items m.types i x e at))
-  is_kept kinds.Proto i (ProtoSymbol x) e at of =
-      Contains-append_right texts_part after_texts (ProtoSymbol x) (Contains-append_right types_part after_types (ProtoSymbol x) (Contains-append_left protos_part after_protos (ProtoSymbol x) (kept_part ProtoSymbol marks.protos.items m.protos i x e at)))
-  is_kept kinds.Field i (FieldSymbol x) e at of = in_members (FieldSymbol x) (Contains-append_left fields_part methods_part (FieldSymbol x) (kept_part FieldSymbol marks.fields.items m.fields i x e at))
-  is_kept kinds.Method i (MethodSymbol x) e at of = in_members (MethodSymbol x) (Contains-append_right fields_part methods_part (MethodSymbol x) (kept_part MethodSymbol marks.methods.items m.methods i x e at))
+  is_kept kinds.Text i (TextSymbol x) e at of = Contains-append_left (part TextSymbol marks.strings.items m.texts) _ _ (kept_part TextSymbol marks.strings.items m.texts i x e at)
+  is_kept kinds.Typ i (TypeSymbol x) e at of = Contains-append_right (part TextSymbol marks.strings.items m.texts) _ _ (Contains-append_left (part TypeSymbol marks.types.items m.types) _ _ (kept_part TypeSymbol marks.types.items m.types i x e at))
+  is_kept kinds.Proto i (ProtoSymbol x) e at of = Contains-append_right (part TextSymbol marks.strings.items m.texts) _ _ (Contains-append_right (part TypeSymbol marks.types.items m.types) _ _ (Contains-append_left (part ProtoSymbol marks.protos.items m.protos) _ _ (kept_part ProtoSymbol marks.protos.items m.protos i x e at)))
+  is_kept kinds.Field i (FieldSymbol x) e at of = Contains-append_right (part TextSymbol marks.strings.items m.texts) _ _ (Contains-append_right (part TypeSymbol marks.types.items m.types) _ _ (Contains-append_right (part ProtoSymbol marks.protos.items m.protos) _ _ (Contains-append_left (part FieldSymbol marks.fields.items m.fields) _ _ (kept_part FieldSymbol marks.fields.items m.fields i x e at))))
+  is_kept kinds.Method i (MethodSymbol x) e at of = Contains-append_right (part TextSymbol marks.strings.items m.texts) _ _ (Contains-append_right (part TypeSymbol marks.types.items m.types) _ _ (Contains-append_right (part ProtoSymbol marks.protos.items m.protos) _ _ (Contains-append_right (part FieldSymbol marks.fields.items m.fields) _ _ (kept_part MethodSymbol marks.methods.items m.methods i x e at))))
   is_kept _ i _ e at of = absurd of
 
 -- ---- what is marked is what occurs
+
+both_among : (xs ys zs : List Symbol) → AreAmong xs zs → AreAmong ys zs → AreAmong (xs ++ ys) zs
+both_among xs ys zs f g s c = elim (Contains-append_cases xs ys s c) [ inl l ↦ f s l | inr r ↦ g s r ]
 
 module _ (m : Mentions) (us : List Use) (ss : List Symbol) (marks : Marks) (zip : AllZip (IsUseOf m) us ss) (h : HaveMarked us marks) where
   -- a symbol that occurs, of a kind and a number
@@ -108,27 +74,21 @@ module _ (m : Mentions) (us : List Use) (ss : List Symbol) (marks : Marks) (zip 
 
   -- so a symbol of one of the five parts occurs
   from_part : {X : Type 0} (kind : SymbolKind) (bits : List Bool) (xs : List X) (wrap : X → Symbol) → ((i : ℕ) → get_or bits i false ≡ true → Occurs kind i)
-      → ((i : ℕ) (s : Symbol) (x : X) → IsNumbered m i s → IsOfKind kind s → ((d : X) → get_or xs i d ≡ x) → s ≡ wrap x) → (s : Symbol) → Contains (map wrap (kept bits xs)) s → Contains ss s
+      → ((i : ℕ) (x : X) → IsAt xs i x → IsNumbered m i (wrap x) × IsOfKind kind (wrap x)) → AreAmong (map wrap (kept bits xs)) ss
   from_part kind bits xs wrap there is s c =
       let t = Contains-map_source wrap (kept bits xs) s c in
       let k = kept_from bits xs t.0 t.1 in
       let o = there k.at k.marked in
-      subst (Contains ss) (is k.at o.symbol t.0 o.number_is o.kind_is k.is ∙ t.2) o.occurs
+      let n = is k.at t.0 (record { within = k.within; is = k.is }) in
+      subst (Contains ss) (one_symbol m kind k.at o.symbol (wrap t.0) o.number_is o.kind_is n.0 n.1 ∙ t.2) o.occurs
 
   pub marked_occur : AreAmong (marked m marks) ss
-  marked_occur s c = elim (Contains-append_cases (texts_part m marks) (after_texts m marks) s c) [
-    | inl t ↦ from_part kinds.Text marks.strings.items m.texts TextSymbol (occurs_there kinds.Text) (text_is m) s t
-    | inr c1 ↦ elim (Contains-append_cases (types_part m marks) (after_types m marks) s c1) [
-      | inl t ↦ from_part kinds.Typ marks.types.items m.types TypeSymbol (occurs_there kinds.Typ) (type_is m) s t
-      | inr c2 ↦ elim (Contains-append_cases (protos_part m marks) (after_protos m marks) s c2) [
-        | inl t ↦ from_part kinds.Proto marks.protos.items m.protos ProtoSymbol (occurs_there kinds.Proto) (proto_is m) s t
-        | inr c3 ↦ elim (Contains-append_cases (fields_part m marks) (methods_part m marks) s c3) [
-          | inl t ↦ from_part kinds.Field marks.fields.items m.fields FieldSymbol (occurs_there kinds.Field) (field_is m) s t
-          | inr t ↦ from_part kinds.Method marks.methods.items m.methods MethodSymbol (occurs_there kinds.Method) (method_is m) s t
-        ]
-      ]
-    ]
-  ]
+  marked_occur =
+      both_among _ _ ss (from_part kinds.Text marks.strings.items m.texts TextSymbol (occurs_there kinds.Text) (λ i x at. (at, tt)))
+      (both_among _ _ ss (from_part kinds.Typ marks.types.items m.types TypeSymbol (occurs_there kinds.Typ) (λ i x at. (at, tt)))
+      (both_among _ _ ss (from_part kinds.Proto marks.protos.items m.protos ProtoSymbol (occurs_there kinds.Proto) (λ i x at. (at, tt)))
+      (both_among _ _ ss (from_part kinds.Field marks.fields.items m.fields FieldSymbol (occurs_there kinds.Field) (λ i x at. (at, tt)))
+      (from_part kinds.Method marks.methods.items m.methods MethodSymbol (occurs_there kinds.Method) (λ i x at. (at, tt))))))
 
   -- what occurs is marked
   pub is_marked : (u : Use) → Contains us u → IsMarkedUse marks u

@@ -1,23 +1,24 @@
 -- The numbers of names order as the names.
-use Rattle.dexclass.proofs.Common.{◌≡◌, ℕ, ◌<◌, List, [], length, map, sym, ap, ◌∙◌, arith, inl, inr, ◌↔◌, cases_order, length-map, text_cmp, Mentions, Rises-from_rises, Rises-places, irreflexive, asymmetric, text_total, AreNamesOf}
+use Rattle.dexclass.proofs.Common.{◌≡◌, ℕ, ◌<◌, List, [], length, map, sym, ap, ◌∙◌, arith, inl, inr, ◌↔◌, cases_order, length-map, text_cmp, rises, Mentions, Rises-from_rises, Rises-places, irreflexive, asymmetric, text_total, AreNamesOf, true}
 use Rattle.std.specs.declared.cmp.Ordering.TheVariants.{Less}
 use Rattle.dexclass.specs.{NumberedClass, type_at, definition_of, name_number, AreNamed}
 use Rattle.dexclass.proofs.Classed.{name_is}
 use Rattle.dexclass.proofs.Places.{name_at as number_is}
 
+-- types order as their numbers
+pub less_type : (m : Mentions) → rises text_cmp m.types ≡ true → (i j : ℕ) → i < length m.types → j < length m.types → (i < j) ↔ (text_cmp (type_at m i) (type_at m j) ≡ Less)
+less_type m rising i j li lj = (
+  λ less. Rises-places text_cmp text_total m.types i j [] (Rises-from_rises text_cmp text_total m.types rising) less lj,
+  λ e. elim (cases_order i j) [
+    | inl same ↦ absurd (irreflexive text_cmp text_total (type_at m i) (type_at m j) (ap (type_at m) same) e)
+    | inr (inl less) ↦ less
+    | inr (inr more) ↦ absurd (asymmetric text_cmp text_total (type_at m i) (type_at m j) e (Rises-places text_cmp text_total m.types j i [] (Rises-from_rises text_cmp text_total m.types rising) more li))
+  ],
+)
+
 module _ (m : Mentions) (cs : List NumberedClass) (named : AreNamed m cs) where
   abbrev numbers : List ℕ
   numbers = map (λ c. c.name) cs
-
-  less_text : (i j : ℕ) → i < length m.types → j < length m.types → (i < j) ↔ (text_cmp (type_at m i) (type_at m j) ≡ Less)
-  less_text i j li lj = (
-    λ less. Rises-places text_cmp text_total m.types i j [] (Rises-from_rises text_cmp text_total m.types named.rising) less lj,
-    λ e. elim (cases_order i j) [
-      | inl same ↦ absurd (irreflexive text_cmp text_total (type_at m i) (type_at m j) (ap (type_at m) same) e)
-      | inr (inl less) ↦ less
-      | inr (inr more) ↦ absurd (asymmetric text_cmp text_total (type_at m i) (type_at m j) e (Rises-places text_cmp text_total m.types j i [] (Rises-from_rises text_cmp text_total m.types named.rising) more li))
-    ],
-  )
 
   pub names_of : AreNamesOf (map (definition_of m) cs) numbers
   names_of = record {
@@ -25,7 +26,7 @@ module _ (m : Mentions) (cs : List NumberedClass) (named : AreNamed m cs) where
     order = λ i j li lj.
         let ci : i < length cs = omega (arith, li, length-map cs (definition_of m)) in
         let cj : j < length cs = omega (arith, lj, length-map cs (definition_of m)) in
-        let both = less_text (name_number cs i) (name_number cs j) (named.names i ci) (named.names j cj) in
+        let both = less_type m named.rising (name_number cs i) (name_number cs j) (named.names i ci) (named.names j cj) in
         let ni = number_is cs i ci in
         let nj = number_is cs j cj in
         let ti = name_is m cs named i ci in

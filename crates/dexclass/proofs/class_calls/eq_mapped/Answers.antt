@@ -1,4 +1,4 @@
-use Rattle.dexclass.proofs.Common.{refl, sym, ◌∙◌, arith, false≢true, false, true, ◌≡◌, ℕ, suc, ◌<◌, List, [], ◌∷◌, length, get_or, ap, map, length-map, get_or-map}
+use Rattle.dexclass.proofs.Common.{refl, sym, ◌∙◌, arith, false≢true, ◌≡◌, ℕ, suc, ◌<◌, List, [], ◌∷◌, length, get_or, ap, map, length-map, get_or-map}
 use Rattle.dexclass.specs.{remapped}
 use Rattle.dexclass.proofs.class_calls.eq_mapped.Goals as goal
 

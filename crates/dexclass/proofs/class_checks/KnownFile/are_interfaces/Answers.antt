@@ -1,4 +1,4 @@
-use Rattle.dexclass.proofs.Common.{◌+◌, refl, sym, subst, arith, false≢true, false, true}
+use Rattle.dexclass.proofs.Common.{◌+◌, refl, sym, subst, arith, false≢true}
 use Rattle.dexclass.specs.internal.Rows.{IsInterfaceIndex}
 use Rattle.dexclass.proofs.Interfaces.{index_is, all_indices, index_of_all, interface_more}
 use Rattle.dexclass.proofs.class_checks.KnownFile.are_interfaces.Goals as goal

@@ -1,4 +1,4 @@
-use Rattle.dexclass.proofs.Common.{refl, false≢true, false, true}
+use Rattle.dexclass.proofs.Common.{refl, false≢true}
 use Rattle.dexclass.proofs.RowConditions.{class_of, parent_of, source_of, parent_before_of, interfaces_of, seen_not, has_class}
 use Rattle.dexclass.proofs.class_checks.KnownFile.holds.Goals as goal
 

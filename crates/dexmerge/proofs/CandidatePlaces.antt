@@ -1,6 +1,5 @@
 -- Candidates by their numbers.
-use Rattle.dexmerge.proofs.Common.{◌≡◌, ℕ, ◌+◌, ◌<◌, List, [], ◌∷◌, ◌++◌, length, get_or, take, map, sym, ap, ◌∙◌, subst, arith, Option, Some, None, ◌↔◌, All, length-map, get_or-map, take_more, map-append, append_assoc, present, Maps, NumberedClass, renumbered, AreByType, IsHierarchyOf, no_class, name_number, parent_numbers, ArePlaces, IsHierarchy, places_some}
-use Rattle.dexorder.proofs.ByType.{map-after, present-append}
+use Rattle.dexmerge.proofs.Common.{◌≡◌, ℕ, ◌+◌, ◌<◌, List, [], ◌∷◌, ◌++◌, length, get_or, take, map, sym, ap, ◌∙◌, subst, arith, Option, Some, None, ◌↔◌, All, length-map, get_or-map, take_more, map-append, append_assoc, present, Maps, NumberedClass, renumbered, AreByType, IsHierarchyOf, no_class, name_number, parent_numbers, ArePlaces, IsHierarchy, places_some, map-map, present-append}
 use Rattle.dexmerge.specs.{class_of, classes_of, class_at, kept_classes, IsEqualCopy}
 use Rattle.dexmerge.specs.declared.candidates.Candidate.{Candidate}
 
@@ -18,15 +17,15 @@ count_classes cs = length-map cs class_of
 
 -- what is known of the candidates is known of their classes
 pub places_of : (cs : List Candidate) (places : List (Option ℕ)) → AreByType (map (λ c. (class_of c).name) cs) places → ArePlaces (classes_of cs) places
-places_of cs places h = subst (λ (names : List ℕ). AreByType names places) (map-after class_of (λ (x : NumberedClass). x.name) cs) h
+places_of cs places h = subst (λ (names : List ℕ). AreByType names places) (sym (map-map (λ (x : NumberedClass). x.name) class_of cs)) h
 
 pub names_below : (cs : List Candidate) (n : ℕ) → All (λ c. c.name < n) (classes_of cs) → All (λ c. (class_of c).name < n) cs
 names_below cs n all i d lt = subst (λ (x : NumberedClass). x.name < n) (get_or-map class_of cs i d no_class lt) (all i no_class (omega (arith, lt, length-map cs class_of)))
 
 pub hierarchy_of : (cs : List Candidate) (H : List (List ℕ)) → IsHierarchyOf (map (λ c. (class_of c).name) cs) (map (λ c. parent_numbers (class_of c)) cs) H → IsHierarchy (classes_of cs) H
 hierarchy_of cs H h =
-    subst (λ (names : List ℕ). IsHierarchyOf names (map parent_numbers (classes_of cs)) H) (map-after class_of (λ (x : NumberedClass). x.name) cs)
-    (subst (λ (parents : List (List ℕ)). IsHierarchyOf (map (λ c. (class_of c).name) cs) parents H) (map-after class_of parent_numbers cs) h)
+    subst (λ (names : List ℕ). IsHierarchyOf names (map parent_numbers (classes_of cs)) H) (sym (map-map (λ (x : NumberedClass). x.name) class_of cs))
+    (subst (λ (parents : List (List ℕ)). IsHierarchyOf (map (λ c. (class_of c).name) cs) parents H) (sym (map-map parent_numbers class_of cs)) h)
 
 -- a class that is kept is one of them
 pub kept_within : (cs : List Candidate) (places : List (Option ℕ)) (t i : ℕ) → ArePlaces (classes_of cs) places → get_or places t None ≡ Some i → i < length cs

@@ -1,5 +1,5 @@
 -- One class of each name, class by class and part by part.
-use Rattle.dexmerge.proofs.Common.{◌≡◌, ◌≢◌, ℕ, zero, suc, ◌+◌, ◌<◌, Bool, true, false, List, [], ◌∷◌, ◌++◌, length, get_or, take, drop, map, replicate, length-take, refl, sym, ap, ◌∙◌, subst, arith, inl, inr, Option, slice_set, slice_index_or, Contains, AllZip, flat_map, Bor, false≢true, cases_eq, append_assoc, length-set, map-append, get_or-set_same, get_or-set_other, length-replicate, length-append, length-drop, get_or_default, All-nil, All-push, Contains-append_left, Contains-append_right, Contains-append_cases, AreDistinct, Text, Definition, in_class_order, Collection, definitions, AreSame, IsCollectionOf, Mentions, mentions, Caps, AreCaps, IsConsistent, IsGood, greatest_caps, IsWellFormed, AreWellFormed, IsGood-within, definitions-distinct, in_class_order-only, in_class_order-has, Contains-map_source, Contains-map, mentions-same, Contains-nil, Contains-first, Contains-later, Contains-cons_cases, Contains-flat_map, Maps, NumberedClass, type_at, definition_of, IsKnownClass, AreDepthsByName, AreClassesOf, AreMergeable, remapped, renumbered, MapsAllInto, StaysSame}
+use Rattle.dexmerge.proofs.Common.{◌≡◌, ◌≢◌, ℕ, ◌+◌, ◌<◌, Bool, true, false, List, [], ◌∷◌, ◌++◌, length, get_or, take, drop, map, replicate, length-take, sym, ap, ◌∙◌, subst, arith, inl, inr, Option, slice_set, slice_index_or, Contains, AllZip, flat_map, Bor, false≢true, cases_eq, append_assoc, length-set, map-append, get_or-set_same, get_or-set_other, length-replicate, length-append, length-drop, get_or_default, All-nil, All-push, Contains-append_left, Contains-append_right, Contains-append_cases, AreDistinct, Text, Definition, in_class_order, Collection, definitions, AreSame, IsCollectionOf, Mentions, mentions, Caps, AreCaps, IsConsistent, IsGood, greatest_caps, IsWellFormed, AreWellFormed, IsGood-within, definitions-distinct, in_class_order-only, in_class_order-has, Contains-map_source, Contains-map, mentions-same, Contains-nil, Contains-first, Contains-later, Contains-flat_map, Maps, NumberedClass, type_at, definition_of, IsKnownClass, AreDepthsByName, AreClassesOf, AreMergeable, remapped, renumbered, MapsAllInto, StaysSame, Contains-push_cases, Contains-push, AreAmong-append, AreAmong-refl, zip_at}
 use Rattle.std.proofs.lemmas.List.Quantifiers.{all_pairs_push}
 use Rattle.dexmerge.specs.{all_parts}
 use Rattle.dexmerge.specs.internal.Collecting.{IsPartOf, ArePartsOf, AreCollected, IsAdded, AreOneOfEach}
@@ -7,7 +7,8 @@ use Rattle.dexmerge.specs.declared.class_union.Collected.{Collected}
 use Rattle.dexmerge.specs.internal.Unions.{IsChecked}
 use Rattle.dexmerge.proofs.CapLaws.{good_greatest}
 use Rattle.dexmerge.proofs.CycleLaws.{depths_same}
-use Rattle.dexmerge.proofs.PartMembers.{KeepMeaning, MapClasses, remapped_class, zip_at, parts_more}
+use Rattle.dexmerge.proofs.PlanChecked.{none_named}
+use Rattle.dexmerge.proofs.PartMembers.{KeepMeaning, MapClasses, remapped_class, parts_more}
 
 -- the names of classes
 abbrev pub names_of : List NumberedClass → List ℕ
@@ -22,14 +23,9 @@ none_collected m types marks count none = record {
   within = λ d c. absurd (Contains-nil d c);
   names = λ d c. absurd (Contains-nil d c);
   distinct = λ i j d less lt. absurd (omega (arith, lt));
-  marked = λ t e. absurd (false≢true (sym (all_false types t) ∙ ap (λ (l : List Bool). get_or l t false) (sym none) ∙ e));
+  marked = λ t e. absurd (false≢true (sym (none_named types t) ∙ ap (λ (l : List Bool). get_or l t false) (sym none) ∙ e));
   all_marked = λ t c. absurd (Contains-nil t c);
 }
-  where
-    all_false : (n i : ℕ) → get_or (replicate n false) i false ≡ false
-    all_false zero i = refl
-    all_false (suc n) zero = refl
-    all_false (suc n) (suc i) = all_false n i
 
 -- the same definitions
 pub collected_same : (m : Mentions) (D E : List Definition) (cs : List NumberedClass) (marks : List Bool) → AreSame D E → AreCollected m D cs marks → AreCollected m E cs marks
@@ -49,13 +45,7 @@ module _ (m : Mentions) (D : List Definition) (cs : List NumberedClass) (marks :
   d = definition_of m c
 
   all_formed : AreWellFormed (D ++ d ∷ [])
-  all_formed e has = elim (Contains-append_cases D (d ∷ []) e has) [
-    | inl before ↦ h.formed e before
-    | inr last ↦ elim (Contains-cons_cases d e [] last) [
-      | inl same ↦ subst IsWellFormed same formed
-      | inr never ↦ absurd (Contains-nil e never)
-    ]
-  ]
+  all_formed e has = elim (Contains-push_cases D d e has) [ inl before ↦ h.formed e before | inr same ↦ subst IsWellFormed same formed ]
 
   -- a class whose name is there
   pub kept_collected : slice_index_or marks c.name false ≡ true → AreCollected m (D ++ d ∷ []) cs marks
@@ -66,13 +56,7 @@ module _ (m : Mentions) (D : List Definition) (cs : List NumberedClass) (marks :
         known = h.known;
         formed = all_formed;
         within = λ e has. Contains-append_left D (d ∷ []) e (h.within e has);
-        names = λ e has. elim (Contains-append_cases D (d ∷ []) e has) [
-          | inl before ↦ h.names e before
-          | inr last ↦ elim (Contains-cons_cases d e [] last) [
-            | inl same ↦ (s.0, s.1, ap (type_at m) s.2 ∙ ap (λ (x : Definition). x.0) same)
-            | inr never ↦ absurd (Contains-nil e never)
-          ]
-        ];
+        names = λ e has. elim (Contains-push_cases D d e has) [ inl before ↦ h.names e before | inr same ↦ (s.0, s.1, ap (type_at m) s.2 ∙ ap (λ (x : Definition). x.0) same) ];
         distinct = h.distinct;
         marked = h.marked;
         all_marked = h.all_marked;
@@ -91,25 +75,19 @@ module _ (m : Mentions) (D : List Definition) (cs : List NumberedClass) (marks :
       | inl before ↦ Contains-append_left D (d ∷ []) e (h.within e before)
       | inr last ↦ Contains-append_right D (d ∷ []) e last
     ];
-    names = λ e has. elim (Contains-append_cases D (d ∷ []) e has) [
+    names = λ e has. elim (Contains-push_cases D d e has) [
       | inl before ↦ (let x = h.names e before in (x.0, Contains-append_left cs (c ∷ []) x.0 x.1, x.2))
-      | inr last ↦ elim (Contains-cons_cases d e [] last) [
-        | inl same ↦ (c, Contains-append_right cs (c ∷ []) c (Contains-first c []), ap (λ (x : Definition). x.0) same)
-        | inr never ↦ absurd (Contains-nil e never)
-      ]
+      | inr same ↦ (c, Contains-push cs c, ap (λ (x : Definition). x.0) same)
     ];
     distinct = subst AreDistinct (sym names_more) (all_pairs_push (λ x y. x ≢ y) (names_of cs) c.name h.distinct
         (λ k e lt same. false≢true (sym fresh ∙ h.all_marked c.name (k, lt, get_or_default (names_of cs) k c.name e lt ∙ same))));
     marked = λ t e. subst (λ (l : List ℕ). Contains l t) (sym names_more) (elim (cases_eq t c.name) [
-      | inl same ↦ Contains-append_right (names_of cs) (c.name ∷ []) t (subst (Contains (c.name ∷ [])) (sym same) (Contains-first c.name []))
+      | inl same ↦ subst (Contains (names_of cs ++ c.name ∷ [])) (sym same) (Contains-push (names_of cs) c.name)
       | inr other ↦ Contains-append_left (names_of cs) (c.name ∷ []) t (h.marked t (sym (get_or-set_other marks c.name t true false other) ∙ e))
     ]);
     all_marked = λ t has. elim (cases_eq t c.name) [
       | inl same ↦ ap (λ (k : ℕ). get_or (slice_set marks c.name true) k false) same ∙ get_or-set_same marks c.name true false (omega (arith, known.types_in 0 0 (omega arith), h.count))
-      | inr other ↦ get_or-set_other marks c.name t true false other ∙ h.all_marked t (elim (Contains-append_cases (names_of cs) (c.name ∷ []) t (subst (λ (l : List ℕ). Contains l t) names_more has)) [
-        | inl before ↦ before
-        | inr last ↦ elim (Contains-cons_cases c.name t [] last) [ inl same ↦ absurd (other (sym same)) | inr never ↦ absurd (Contains-nil t never) ]
-      ])
+      | inr other ↦ get_or-set_other marks c.name t true false other ∙ h.all_marked t (elim (Contains-push_cases (names_of cs) c.name t (subst (λ (l : List ℕ). Contains l t) names_more has)) [ inl before ↦ before | inr same ↦ absurd (other (sym same)) ])
     ];
   }
 
@@ -156,16 +134,8 @@ class_is_member K ps c are has =
 pub part_done : (m : Mentions) (D : List Definition) (K : Collection) (ps cs : List NumberedClass) (marks : List Bool) → AreClassesOf K ps → AreCollected m (D ++ map (definition_of (mentions (definitions K))) ps) cs marks → AreCollected m (D ++ definitions K) cs marks
 part_done m D K ps cs marks are h =
     let ordered = subst (λ (l : List Definition). AreCollected m (D ++ l) cs marks) are.are h in
-    collected_same m (D ++ in_class_order (definitions K)) (D ++ definitions K) cs marks (λ d. (
-      λ c. elim (Contains-append_cases D (in_class_order (definitions K)) d c) [
-        | inl first ↦ Contains-append_left D (definitions K) d first
-        | inr last ↦ Contains-append_right D (definitions K) d (in_class_order-only (definitions K) d last)
-      ],
-      λ c. elim (Contains-append_cases D (definitions K) d c) [
-        | inl first ↦ Contains-append_left D (in_class_order (definitions K)) d first
-        | inr last ↦ Contains-append_right D (in_class_order (definitions K)) d (in_class_order-has (definitions K) d (definitions-distinct K) last)
-      ],
-    )) ordered
+    collected_same m (D ++ in_class_order (definitions K)) (D ++ definitions K) cs marks
+    (λ d. (AreAmong-append D (in_class_order (definitions K)) D (definitions K) (AreAmong-refl D) (in_class_order-only (definitions K)) d, AreAmong-append D (definitions K) D (in_class_order (definitions K)) (AreAmong-refl D) (λ e. in_class_order-has (definitions K) e (definitions-distinct K)) d)) ordered
 
 -- ---- all of them
 
@@ -221,8 +191,6 @@ parts_of whole parts m remaps j given within count are_mapped = record { count =
   where
     each_part : (Ks : List Collection) (rs : List Maps) → ((K : Collection) → Contains Ks K → Contains whole K) → AllZip (λ part remap. MapsAllInto (mentions (definitions part)) m remap) Ks rs → AllZip (IsPartOf m) Ks rs
     each_part [] [] in_whole h = tt
-    each_part [] (r ∷ rs) in_whole h = absurd h
-    each_part (K ∷ Ks) [] in_whole h = absurd h
     each_part (K ∷ Ks) (r ∷ rs) in_whole h = (
       record {
         whole = flat_map definitions whole;
@@ -234,6 +202,7 @@ parts_of whole parts m remaps j given within count are_mapped = record { count =
       },
       each_part Ks rs (λ L c. in_whole L (Contains-later K L Ks c)) h.1,
     )
+    each_part _ _ in_whole h = absurd h
 
 -- a list that goes with two others goes with each, cut there
 zip_split : {A B : Type 0} (R : A → B → Type 0) (xs ys : List A) (zs : List B) → AllZip R (xs ++ ys) zs → AllZip R xs (take (length xs) zs) × AllZip R ys (drop (length xs) zs)

@@ -1,5 +1,5 @@
 -- The least name of different classes, class by class.
-use Rattle.dexmerge.proofs.Common.{◌≡◌, ℕ, ◌+◌, ◌<◌, min, List, length, get_or, refl, sym, ap, ◌∙◌, subst, arith, inl, inr, Option, Some, None, IsSome, MatchOption, cases_lt, NumberedClass, name_number, ArePlaces, places_all}
+use Rattle.dexmerge.proofs.Common.{◌≡◌, ℕ, ◌+◌, ◌<◌, min, List, length, get_or, refl, sym, ap, ◌∙◌, subst, arith, inl, inr, Option, Some, None, IsSome, MatchOption, cases_lt, NumberedClass, name_number, ArePlaces, places_all, same_Some, below_more}
 use Rattle.dexmerge.specs.{class_at, IsEqualCopy, IsConflicting, IsFirstConflict, lesser_of}
 
 -- this name has different classes, and no lesser name has any among the first n classes
@@ -12,21 +12,15 @@ abbrev pub IsLeastTo : List NumberedClass → List (Option ℕ) → ℕ → Opti
 IsLeastTo cs places n None = (i : ℕ) → i < n → IsEqualCopy cs places i
 IsLeastTo cs places n (Some name) = IsConflictingWith cs places n name
 
-option_is : (o : Option ℕ) → IsSome o → (k : ℕ) × (o ≡ Some k)
+pub option_is : (o : Option ℕ) → IsSome o → (k : ℕ) × (o ≡ Some k)
 option_is None s = absurd cc
 option_is (Some k) s = (k, refl)
 
 module _ (cs : List NumberedClass) (places : List (Option ℕ)) where
   -- one more class that is equal to the kept one
-  last_equivalent : (n i : ℕ) → i < n + 1 → IsEqualCopy cs places n → (i < n → IsEqualCopy cs places i) → IsEqualCopy cs places i
-  last_equivalent n i lt equivalent before = elim (cases_lt i n) [
-    | inl less ↦ before less
-    | inr le ↦ let same : n ≡ i = omega (arith, lt, le) in subst (IsEqualCopy cs places) same equivalent
-  ]
-
   pub equivalent_next : (n : ℕ) (least : Option ℕ) → IsLeastTo cs places n least → IsEqualCopy cs places n → IsLeastTo cs places (n + 1) least
-  equivalent_next n None h equivalent = λ i lt. last_equivalent n i lt equivalent (h i)
-  equivalent_next n (Some name) h equivalent = record { is = h.is; least = λ i lt less. last_equivalent n i lt equivalent (λ few. h.least i few less) }
+  equivalent_next n None h equivalent = below_more (IsEqualCopy cs places) n h equivalent
+  equivalent_next n (Some name) h equivalent = record { is = h.is; least = below_more (λ i. name_number cs i < name → IsEqualCopy cs places i) n h.least (λ less. equivalent) }
 
   -- one more class that is different from the kept one
   conflict_is : (n : ℕ) → n < length cs → ArePlaces cs places → (IsEqualCopy cs places n → ⊥) → IsConflicting cs places (name_number cs n)
@@ -38,7 +32,7 @@ module _ (cs : List NumberedClass) (places : List (Option ℕ)) where
         within = lt;
         name_is = refl;
         kept_is = kept.1;
-        unequal = λ e. unequal (λ k is. let same : kept.0 ≡ k = (let both : Some kept.0 ≡ Some k = sym kept.1 ∙ is in cc) in subst (λ (j : ℕ). class_at cs n ≡ class_at cs j) same e);
+        unequal = λ e. unequal (λ k is. subst (λ (j : ℕ). class_at cs n ≡ class_at cs j) (same_Some kept.0 k (sym kept.1 ∙ is)) e);
       }
 
   -- a class of a lesser name is not the last one

@@ -1,5 +1,5 @@
 -- What a union holds, in numbers.
-use Rattle.dexmerge.proofs.Common.{◌≡◌, ℕ, ◌+◌, ◌-◌, ◌^◌, ◌<◌, ◌≤◌, Bool, true, false, not, ◌||◌, min, List, [], ◌∷◌, ◌++◌, length, take, map, refl, sym, ap, ◌∙◌, arith, Option, Some, None, All, nat_lt, list_any, ltb-true, ltb-false, lt-ltb, take_more, append-nil, length-map, flat_map-append, rank, Text, text_cmp, Definition, Mentions, mentions, HasShortString, list_any-source, IsAt, Maps, image, KeepOrder, IsGreatest, members_short_strings, renumbered_members, NumberedClass, definition_of, no_class, IsMappedClass, IsKnownClass}
+use Rattle.dexmerge.proofs.Common.{◌≡◌, ℕ, ◌+◌, ◌-◌, ◌^◌, ◌<◌, ◌≤◌, Bool, false, not, ◌||◌, min, List, [], ◌∷◌, ◌++◌, length, take, map, refl, sym, ap, ◌∙◌, arith, Option, Some, None, All, nat_lt, list_any, ltb-true, ltb-false, lt-ltb, take_more, append-nil, length-map, flat_map-append, rank, Text, text_cmp, Definition, Mentions, mentions, HasShortString, list_any-source, IsAt, Maps, image, KeepOrder, IsGreatest, members_short_strings, renumbered_members, NumberedClass, definition_of, no_class, IsMappedClass, IsKnownClass, not-true, not-false, le-ltb, HasShortString-within}
 use Rattle.std.proofs.lemmas.List.Folds.{list_any-append}
 use Rattle.dexmerge.specs.declared.candidates.Candidate.{Candidate}
 use Rattle.dexmerge.specs.declared.measuring.Counts.{Counts}
@@ -16,22 +16,10 @@ over : (greatest : Option ℕ) → is_from (above_it greatest) greatest ≡ fals
 over None = refl
 over (Some g) = ap not (lt-ltb g (g + 1) (omega arith))
 
-not_true : (b : Bool) → not b ≡ true → b ≡ false
-not_true true e = absurd cc
-not_true false e = refl
-
-not_self : (g : ℕ) (b : Bool) → nat_lt g g ≡ b → not b ≡ true
-not_self g true e = absurd (omega (arith, ltb-true g g e))
-not_self g false e = refl
-
 -- where no number is from a cap on, the greatest is below it
 below_cap : (cap : ℕ) (greatest : Option ℕ) → is_from cap greatest ≡ false → above_it greatest ≤ cap
 below_cap cap None e = omega arith
-below_cap cap (Some g) e = by (nat_lt g cap) refl e
-  where
-    by : (b : Bool) → nat_lt g cap ≡ b → not b ≡ false → g + 1 ≤ cap
-    by true t e = omega (arith, ltb-true g cap t)
-    by false t e = absurd cc
+below_cap cap (Some g) e = omega (arith, ltb-true g cap (not-false (nat_lt g cap) e))
 
 -- each number is that of a text
 pub within_texts : (m : Mentions) (cs : List NumberedClass) (greatest : Option ℕ) → All (IsKnownClass m) cs → Decides greatest (short_numbers cs) → above_it greatest ≤ length m.texts
@@ -63,27 +51,17 @@ module _ (m : Mentions) (D : List Definition) (cs : List Candidate) (h : AreOnce
   rank_in : (n : ℕ) (s : Text) → IsAt m.texts n s → rank text_cmp s (mentions D).texts ≡ n
   rank_in n s at = ap (λ (o : Mentions). rank text_cmp s o.texts) (sym h.copies.mentions_are) ∙ rank_is m h.copies.rising n s at
 
-  -- the same definitions have the same const-strings
-  in_all : (s : Text) → HasShortString E s → HasShortString D s
-  in_all s x = record { definition = x.definition; method = x.method; code = x.code; units = x.units; member = (h.copies.members.same x.definition).0 x.member; declared = x.declared; has_code = x.has_code; piece = x.piece; short = x.short }
-
-  in_kept : (s : Text) → HasShortString D s → HasShortString E s
-  in_kept s x = record { definition = x.definition; method = x.method; code = x.code; units = x.units; member = (h.copies.members.same x.definition).1 x.member; declared = x.declared; has_code = x.has_code; piece = x.piece; short = x.short }
-
   below : (greatest : Option ℕ) → Decides greatest (short_numbers Ks) → (s : Text) → HasShortString D s → rank text_cmp s (mentions D).texts < above_it greatest
   below greatest decides s x =
-      let f = short_named_by m Ks h.copies.members.known s (in_kept s x) in
-      let low = none_from (above_it greatest) (short_numbers Ks) f.0 (decides (above_it greatest) ∙ over greatest) f.1 in
-      omega (arith, rank_in f.0 s f.2, low)
+      let f = short_named_by m Ks h.copies.members.known s (HasShortString-within D E (λ d. (h.copies.members.same d).1) s x) in
+      omega (arith, rank_in f.0 s f.2, (none_from (above_it greatest) (short_numbers Ks) f.0 (decides (above_it greatest) ∙ over greatest) f.1))
 
   least : (greatest : Option ℕ) → Decides greatest (short_numbers Ks) → 0 < above_it greatest → (s : Text) × HasShortString D s × (rank text_cmp s (mentions D).texts + 1 ≡ above_it greatest)
   least None decides lt = absurd (omega (arith, lt))
   least (Some g) decides lt =
-      let n = list_any-source (λ (k : ℕ). not (nat_lt k g)) (short_numbers Ks) (decides g ∙ not_self g (nat_lt g g) refl) in
+      let n = list_any-source (λ (k : ℕ). not (nat_lt k g)) (short_numbers Ks) (decides g ∙ ap not (le-ltb g g (omega arith))) in
       let f = short_denotes_text m Ks h.copies.members.known n.0 n.1 in
-      let high = ltb-false n.0 g (not_true (nat_lt n.0 g) n.2) in
-      let low = none_from (g + 1) (short_numbers Ks) n.0 (decides (g + 1) ∙ over (Some g)) n.1 in
-      (f.0, in_all f.0 f.2, omega (arith, rank_in n.0 f.0 f.1, high, low))
+      (f.0, HasShortString-within E D (λ d. (h.copies.members.same d).0) f.0 f.2, omega (arith, rank_in n.0 f.0 f.1, (ltb-false n.0 g (not-true (nat_lt n.0 g) n.2)), (none_from (g + 1) (short_numbers Ks) n.0 (decides (g + 1) ∙ over (Some g)) n.1)))
 
   pub once_counts : (counts : Counts) → AreCountsOver m Ks counts → AreCounts D counts
   once_counts counts x = record {

@@ -1,18 +1,14 @@
 -- The depths of classes by name, and the first class without one, which has the least name that has none.
-use Rattle.dexmerge.proofs.Common.{◌≡◌, ℕ, ◌+◌, ◌<◌, true, List, [], length, get_or, map, refl, sym, ap, ◌∙◌, subst, arith, inl, inr, Option, Some, None, Less, All, IsSome, slice_set, Contains, cases_order, cases_lt, length-map, get_or_default, get_or-set_same, get_or-set_other, Text, text_cmp, same_text, Definition, AreSame, IsAcyclic, depth, is_defined, Mentions, IsCycle, list_any-member, depth-same, Rises-from_rises, Rises-places, irreflexive, asymmetric, text_total, AreDepths, IsDepthOrNone, HasNone, AllHaveDepths, IsFirstWithout, NumberedClass, type_at, definition_of, no_class, name_number, IsHierarchy, AreDepthsByName}
+use Rattle.dexmerge.proofs.Common.{◌≡◌, ℕ, ◌+◌, ◌<◌, true, List, [], length, get_or, map, refl, sym, ap, ◌∙◌, subst, arith, inl, inr, Option, Some, None, Less, All, IsSome, slice_set, Contains, cases_order, cases_lt, length-map, get_or_default, get_or-set_same, get_or-set_other, Text, text_cmp, same_text, Definition, AreSame, IsAcyclic, depth, is_defined, Mentions, IsCycle, list_any-member, depth-same, Rises-from_rises, Rises-places, irreflexive, asymmetric, text_total, AreDepths, IsDepthOrNone, HasNone, AllHaveDepths, IsFirstWithout, NumberedClass, type_at, definition_of, no_class, name_number, IsHierarchy, AreDepthsByName, false≢true}
 use Rattle.dexspec.proofs.lists.Mapped.{Contains-map_source}
 use Rattle.dexorder.specs.Depths.{AreWithin}
 use Rattle.dexorder.specs.Definitions.{AreClassesOf, name_at}
 use Rattle.dexorder.proofs.DefinitionDepths.{no_cycle, is_cycle, cycle_class, same_from_equal}
 use Rattle.dexorder.proofs.DefinitionOrder.{own_depths}
 use Rattle.dexclass.proofs.Classed.{name_is, one_number}
+use Rattle.dexclass.proofs.NamesOf.{less_type}
 use Rattle.dexclass.proofs.Ordered.{are_classes}
 use Rattle.dexmerge.specs.internal.Cycles.{AreKept, HaveDepths, IsFirstCycle}
-
--- a depth that is there and is not
-some_none : (o : Option ℕ) → IsSome o → o ≡ None → ⊥
-some_none None s e = absurd cc
-some_none (Some k) s e = absurd cc
 
 -- depths by name rest on the members alone
 pub depths_same : (m : Mentions) (D E : List Definition) (by_name : List (Option ℕ)) → AreSame D E → IsAcyclic D → AreDepthsByName m D by_name → AreDepthsByName m E by_name
@@ -32,19 +28,15 @@ module _ (m : Mentions) (cs : List NumberedClass) (kept : AreKept m cs) where
   abbrev D : List Definition
   D = map (definition_of m) cs
 
-  -- names rise with their numbers
-  less_text : (i j : ℕ) → i < j → j < length cs → text_cmp (type_at m (name_number cs i)) (type_at m (name_number cs j)) ≡ Less
-  less_text i j less lt = Rises-places text_cmp text_total m.types (name_number cs i) (name_number cs j) [] (Rises-from_rises text_cmp text_total m.types kept.named.rising) (kept.rise i j less lt) (kept.named.names j lt)
-
   -- a class of a lesser name comes before
   pub before_of_less : (i j : ℕ) → i < length cs → j < length cs → text_cmp (type_at m (name_number cs j)) (type_at m (name_number cs i)) ≡ Less → j < i
-  before_of_less i j li lj e = elim (cases_order j i) [
-    | inl same ↦ absurd (irreflexive text_cmp text_total (type_at m (name_number cs j)) (type_at m (name_number cs i)) (ap (λ (k : ℕ). type_at m (name_number cs k)) same) e)
-    | inr other ↦ elim other [
-      | inl less ↦ less
-      | inr more ↦ absurd (asymmetric text_cmp text_total (type_at m (name_number cs j)) (type_at m (name_number cs i)) e (less_text i j more lj))
-    ]
-  ]
+  before_of_less i j li lj e =
+      let l = (less_type m kept.named.rising (name_number cs j) (name_number cs i) (kept.named.names j lj) (kept.named.names i li)).1 e in
+      elim (cases_order j i) [
+        | inl same ↦ absurd (omega (arith, l, ap (name_number cs) same))
+        | inr (inl less) ↦ less
+        | inr (inr more) ↦ absurd (omega (arith, l, kept.rise i j more lj))
+      ]
 
   -- the depth of one class more is entered at its name
   pub by_name_more : (depths old : List (Option ℕ)) (i name : ℕ) (x : Option ℕ) → i < length cs → length old ≡ length m.types → name ≡ name_number cs i → x ≡ get_or depths i None
@@ -97,7 +89,7 @@ module _ (m : Mentions) (cs : List NumberedClass) (kept : AreKept m cs) where
                 let own : s.0 < length cs = omega (arith, s.1, count) in
                 let named : name ≡ type_at m (name_number cs s.0) = sym s.2 ∙ name_is m cs kept.named s.0 own in
                 let first : s.0 < i = before_of_less i s.0 few own (subst (λ (t : Text). text_cmp t (type_at m (name_number cs i)) ≡ Less) named less) in
-                some_none (get_or depths s.0 None) (f.before s.0 first) s.3;
+                false≢true (subst IsSome s.3 (f.before s.0 first));
           }
 
       -- where each class has a depth, the depths are those of the definitions

@@ -1,5 +1,5 @@
 -- Texts that a const-string names, whose numbers are not below a cap.
-use Rattle.dexmerge.proofs.Common.{◌≡◌, ℕ, ◌+◌, ◌<◌, ◌≤◌, Bool, true, false, leb, List, ◌++◌, length, map, refl, sym, ap, ◌∙◌, subst, arith, inl, inr, Option, Some, None, All, IsSome, IfSome, nat_lt, not, option_to_list, Contains, ltb-true, ltb-false, lt-ltb, leb-true, le-leb, cases_lt, All-append, All-get_or, Mentions, Contains-nil, list_any-member, list_any-source, Contains-flat_map_source, Maps, image, KeepOrder, IsMappedUse, IsGreatest, shorts_remapped, NumberedItem, HasImages, NumberedMethod, methods_of, renumbered_members, members_uses, code_short_strings, method_short_strings, members_short_strings, all_back, NumberedClass, IsMappedClass, IsKnownClass, type_use, text_use, type_numbers, text_numbers}
+use Rattle.dexmerge.proofs.Common.{◌≡◌, ℕ, ◌<◌, ◌≤◌, Bool, true, false, leb, List, ◌++◌, length, map, refl, sym, ap, ◌∙◌, subst, arith, inl, inr, Option, Some, None, All, IsSome, IfSome, nat_lt, not, option_to_list, Contains, ltb-true, ltb-false, lt-ltb, le-leb, cases_lt, All-append, Mentions, Contains-nil, list_any-member, list_any-source, Contains-flat_map_source, Maps, image, KeepOrder, IsMappedUse, IsGreatest, shorts_remapped, NumberedItem, HasImages, NumberedMethod, methods_of, renumbered_members, members_uses, code_short_strings, method_short_strings, members_short_strings, all_back, NumberedClass, IsMappedClass, IsKnownClass, type_use, text_use, type_numbers, text_numbers, false≢true, not-true, le-ltb, lt-leb, false_from_ne_true, All-contains, same_Some}
 use Rattle.dexcode.proofs.CodePlaces.{images_of_uses}
 use Rattle.dexmembers.proofs.Images.{MethodHasImages, members_images}
 use Rattle.dexmerge.specs.internal.Amounts.{short_numbers, has_from}
@@ -7,19 +7,11 @@ use Rattle.dexmerge.proofs.ShortStrings.{remapped_short, maps_short, option_sour
 
 -- ---- by cases
 
-not_false : (b : Bool) → (b ≡ true → ⊥) → b ≡ false
-not_false true h = absurd (h refl)
-not_false false h = refl
-
-not_true : (b : Bool) → not b ≡ true → b ≡ false
-not_true true e = absurd cc
-not_true false e = refl
-
 -- where each number is below the cap, none is from it on
 pub none_far : (cap : ℕ) (ns : List ℕ) → ((n : ℕ) → Contains ns n → n < cap) → has_from cap ns ≡ false
-none_far cap ns below = not_false (has_from cap ns) (λ e.
+none_far cap ns below = false_from_ne_true (has_from cap ns) (λ e.
     let s = list_any-source (λ (n : ℕ). not (nat_lt n cap)) ns e in
-    omega (arith, below s.0 s.1, ltb-false s.0 cap (not_true (nat_lt s.0 cap) s.2)))
+    omega (arith, below s.0 s.1, ltb-false s.0 cap (not-true (nat_lt s.0 cap) s.2)))
 
 -- a number that is not below the cap
 pub one_far : (cap : ℕ) (ns : List ℕ) (n : ℕ) → Contains ns n → nat_lt n cap ≡ false → has_from cap ns ≡ true
@@ -28,14 +20,11 @@ one_far cap ns n has far = list_any-member (λ (k : ℕ). not (nat_lt k cap)) ns
 -- at least is not less
 pub at_least : (a b : ℕ) → leb a b ≡ not (nat_lt b a)
 at_least a b = elim (cases_lt b a) [
-  | inl less ↦ not_false (leb a b) (λ e. omega (arith, less, leb-true a b e)) ∙ ap not (sym (lt-ltb b a less))
-  | inr le ↦ le-leb a b le ∙ ap not (sym (not_false (nat_lt b a) (λ e. omega (arith, le, ltb-true b a e))))
+  | inl less ↦ lt-leb a b less ∙ ap not (sym (lt-ltb b a less))
+  | inr le ↦ le-leb a b le ∙ ap not (sym (le-ltb b a le))
 ]
 
 -- ---- the greatest, remapped
-
-all_member : {X : Type 0} (P : X → Type 0) (xs : List X) (x : X) → All P xs → Contains xs x → P x
-all_member P xs x all c = subst P c.2 (All-get_or P xs c.0 x c.1 all)
 
 module _ (r : Maps) (c : NumberedClass) (remapped : IsMappedClass r c) where
   -- each symbol in what it declares has an image
@@ -48,7 +37,7 @@ module _ (r : Maps) (c : NumberedClass) (remapped : IsMappedClass r c) where
       let images = members_images r (images_of_uses r) c.members members_remapped in
       let method = Contains-flat_map_source method_short_strings (methods_of c.members) n has in
       let y : NumberedMethod = method.0 in
-      let own : MethodHasImages r y = all_member (MethodHasImages r) (methods_of c.members) y (All-append (MethodHasImages r) c.members.direct_methods c.members.virtual_methods images.direct_methods_mapped images.virtual_methods_mapped) method.1 in
+      let own : MethodHasImages r y = All-contains (MethodHasImages r) (methods_of c.members) y (All-append (MethodHasImages r) c.members.direct_methods c.members.virtual_methods images.direct_methods_mapped images.virtual_methods_mapped) method.1 in
       let code = Contains-flat_map_source code_short_strings (option_to_list y.code) n method.2 in
       let k : NumberedItem = code.0 in
       let there : HasImages r k = subst (λ (o : Option NumberedItem). IfSome o (HasImages r)) (option_source y.code k code.1) own.code_mapped in
@@ -61,23 +50,16 @@ module _ (r : Maps) (c : NumberedClass) (remapped : IsMappedClass r c) where
 
   -- the greatest has no image
   pub none_remapped : (g : ℕ) → IsGreatest (members_short_strings c.members) (Some g) → image r.texts g ≡ None → ⊥
-  none_remapped g is e = some_none (image r.texts g) (text_remapped g is.0) e
-    where
-      some_none : (o : Option ℕ) → IsSome o → o ≡ None → ⊥
-      some_none None s e = absurd cc
-      some_none (Some k) s e = absurd cc
+  none_remapped g is e = false≢true (subst IsSome e (text_remapped g is.0))
 
   -- no image of another is greater than the image of the greatest
   no_greater : (g k j : ℕ) → KeepOrder r → IsGreatest (members_short_strings c.members) (Some g) → image r.texts g ≡ Some k → Contains (members_short_strings (renumbered_members r c.members)) j → j ≤ k
   no_greater g k j order is to has =
       let s = remapped_short r c.members j has in
-      let le : s.0 ≤ g = all_member (λ n. n ≤ g) (members_short_strings c.members) s.0 is.1 s.1 in
+      let le : s.0 ≤ g = All-contains (λ n. n ≤ g) (members_short_strings c.members) s.0 is.1 s.1 in
       elim (cases_lt s.0 g) [
         | inl less ↦ (let lt = order.texts_keep s.0 g j k less s.2 to in omega (arith, lt))
-        | inr ge ↦ (
-            let same : s.0 ≡ g = omega (arith, le, ge) in
-            let one : Some j ≡ Some k = sym s.2 ∙ ap (image r.texts) same ∙ to in
-            let is : j ≡ k = cc in omega (arith, is))
+        | inr ge ↦ (let same : s.0 ≡ g = omega (arith, le, ge) in omega (arith, same_Some j k (sym s.2 ∙ ap (image r.texts) same ∙ to)))
       ]
 
   -- the greatest decides

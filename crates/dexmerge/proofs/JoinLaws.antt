@@ -1,5 +1,5 @@
 -- A join of what parts mention is what their union mentions.
-use Rattle.dexmerge.proofs.Common.{◌≡◌, ℕ, ◌+◌, ◌<◌, ◌∙◌, Bor, List, [], ◌∷◌, ◌++◌, length, get_or, take, map, refl, sym, ap, subst, suc, arith, length-map, get_or-map, take_more, map-append, append_assoc, AllZip, flat_map, Definition, Collection, definitions, Mentions, mentions, AreRising, Maps, AllMapTo, union_of, MapsAll, MapsAllInto}
+use Rattle.dexmerge.proofs.Common.{◌≡◌, ℕ, ◌+◌, ◌<◌, ◌∙◌, Bor, List, [], ◌∷◌, ◌++◌, length, get_or, take, map, sym, ap, subst, arith, length-map, get_or-map, take_more, map-append, append_assoc, AllZip, flat_map, Definition, Collection, definitions, Mentions, mentions, AreRising, Maps, AllMapTo, union_of, MapsAll, MapsAllInto, map-map, flat_map-map, zip_length}
 use Rattle.dexmerge.specs.internal.Unions.{IsJoined}
 
 abbrev own : Bor Collection → Mentions
@@ -8,28 +8,12 @@ own part = mentions (definitions part.now)
 abbrev now_of : Bor Collection → Collection
 now_of part = part.now
 
--- the parts' definitions, as a list of lists
-lists_are : (parts : List (Bor Collection)) → map mentions (map definitions (map now_of parts)) ≡ map own parts
-lists_are [] = refl
-lists_are (p ∷ ps) = ap (λ (l : List Mentions). own p ∷ l) (lists_are ps)
-
-flat_are : (Ks : List Collection) → flat_map (λ (l : List Definition). l) (map definitions Ks) ≡ flat_map definitions Ks
-flat_are [] = refl
-flat_are (K ∷ Ks) = ap (λ (l : List Definition). definitions K ++ l) (flat_are Ks)
-
 -- each part is mapped into the whole
 all_map_to : (parts : List (Bor Collection)) (m : Mentions) (remaps : List Maps) → AllZip (λ n r. AllMapTo n m r) (map own parts) remaps → AllZip MapsAll (map own parts) remaps
     → AllZip (λ part r. MapsAllInto (mentions (definitions part)) m r) (map now_of parts) remaps
 all_map_to [] m [] f g = tt
-all_map_to [] m (r ∷ rs) f g = absurd f
-all_map_to (p ∷ ps) m [] f g = absurd f
 all_map_to (p ∷ ps) m (r ∷ rs) f g = (record { are_mapped = f.0; all = g.0 }, all_map_to ps m rs f.1 g.1)
-
-zip_length : {A B : Type 0} (R : A → B → Type 0) (xs : List A) (ys : List B) → AllZip R xs ys → length ys ≡ length xs
-zip_length R [] [] h = refl
-zip_length R [] (y ∷ ys) h = absurd h
-zip_length R (x ∷ xs) [] h = absurd h
-zip_length R (x ∷ xs) (y ∷ ys) h = ap suc (zip_length R xs ys h.1)
+all_map_to _ m _ f g = absurd f
 
 pub joined_is : (parts : List (Bor Collection)) (ms : List Mentions) (m : Mentions) (remaps : List Maps) → ms ≡ map own parts → m ≡ union_of ms → AreRising m
     → ((lists : List (List Definition)) → mentions (flat_map (λ (l : List Definition). l) lists) ≡ union_of (map mentions lists)) → AllZip (λ n r. AllMapTo n m r) ms remaps → AllZip MapsAll ms remaps → IsJoined (map now_of parts) m remaps
@@ -37,9 +21,9 @@ joined_is parts ms m remaps given union rising law are_mapped whole =
     let Ks = map now_of parts in
     let zip = all_map_to parts m remaps (subst (λ (l : List Mentions). AllZip (λ n r. AllMapTo n m r) l remaps) given are_mapped) (subst (λ (l : List Mentions). AllZip MapsAll l remaps) given whole) in
     record {
-      mentions_are = union ∙ ap union_of given ∙ ap union_of (sym (lists_are parts)) ∙ sym (law (map definitions Ks)) ∙ ap mentions (flat_are Ks);
+      mentions_are = union ∙ ap union_of given ∙ ap union_of ((sym (map-map mentions (λ part. definitions (now_of part)) parts) ∙ sym (ap (map mentions) (map-map definitions now_of parts)))) ∙ sym (law (map definitions Ks)) ∙ ap mentions (flat_map-map (λ (l : List Definition). l) definitions Ks);
       rising = rising;
-      count = zip_length (λ part r. MapsAllInto (mentions (definitions part)) m r) Ks remaps zip;
+      count = sym (zip_length (λ part r. MapsAllInto (mentions (definitions part)) m r) Ks remaps zip);
       are_mapped = zip;
     }
 

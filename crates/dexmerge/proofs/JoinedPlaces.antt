@@ -49,10 +49,9 @@ texts_weigh E = omega (arith, mentions-cover (mentions E))
 not_too_large : (m : Mentions) (D : List Definition) → m ≡ mentions D → IsGood greatest_caps D → IsNotTooLarge m
 not_too_large m D own good =
     let o = once_of definition_same_or_not D in
-    let heavy = good.fits.weight o.once o.distinct o.only in
     let same : mentions o.once ≡ mentions D = mentions-same o.once D o.only o.has in
     record {
-      texts_few = omega (arith, heavy, texts_weigh o.once, ap (λ (n : Mentions). length n.texts) (own ∙ sym same));
+      texts_few = omega (arith, (good.fits.weight o.once o.distinct o.only), texts_weigh o.once, ap (λ (n : Mentions). length n.texts) (own ∙ sym same));
       types_few = omega (arith, good.fits.types, ap (λ (n : Mentions). length n.types) own);
       protos_few = omega (arith, good.fits.protos, ap (λ (n : Mentions). length n.protos) own);
       fields_few = omega (arith, good.fits.fields, ap (λ (n : Mentions). length n.fields) own);
@@ -96,6 +95,5 @@ module _ (maps_fit : MapsFit) (members_fit : MembersFit) (keep : KeepMeaning) (m
     places_by =
         let x : NumberedMembers = c.members in
         let g = greatest_is (members_short_strings x) in
-        let all = remapped_class maps_to K r c p.are_mapped.all known in
-        let uses : All (IsMappedUse r) (members_uses x) = all_back (IsMappedUse r) (map text_use (text_numbers c)) (members_uses x) (all_back (IsMappedUse r) (map type_use (type_numbers c)) (map text_use (text_numbers c) ++ members_uses x) all) in
+        let uses : All (IsMappedUse r) (members_uses x) = all_back (IsMappedUse r) (map text_use (text_numbers c)) (members_uses x) (all_back (IsMappedUse r) (map type_use (type_numbers c)) (map text_use (text_numbers c) ++ members_uses x) (remapped_class maps_to K r c p.are_mapped.all known)) in
         members_fit r x g.0 (keep_order own m r p.are_mapped.are_mapped) (maps_fit own m r p.are_mapped.are_mapped (not_too_large m p.whole p.mentions_are p.good)) g.1 (maps_low g.0 g.1) uses

@@ -1,5 +1,5 @@
 -- Plans whose files are marked part by part.
-use Rattle.dexmerge.proofs.Common.{◌≡◌, ℕ, ◌-◌, ◌<◌, ◌≤◌, max, Bool, List, [], ◌∷◌, ◌++◌, length, get_or, refl, sym, ap, ◌∙◌, subst, arith, inl, inr, All, Contains, append_assoc, append-nil, All-append, Contains-append_left, Contains-append_right, Contains-append_cases, Contains-get_or, Contains-nil, Contains-cons_cases, Plan, Node, leaves, all_leaves, plan_depth, plans_depth}
+use Rattle.dexmerge.proofs.Common.{◌≡◌, ℕ, ◌-◌, ◌<◌, ◌≤◌, max, Bool, List, [], ◌∷◌, ◌++◌, length, get_or, refl, sym, ap, ◌∙◌, subst, arith, inl, inr, Contains, append_assoc, append-nil, All-append, Contains-append_left, Contains-append_right, Contains-append_cases, Contains-get_or, Contains-nil, Contains-cons_cases, Plan, Node, leaves, all_leaves, plan_depth, plans_depth, All-contains}
 use Rattle.dexmerge.specs.{plans_of}
 use Rattle.dexmerge.specs.internal.UnionChecks.{AreMarkedBy, IsMarkedBy, IsNoPlan}
 
@@ -74,10 +74,7 @@ part_leaves (q ∷ ps) p i c has = elim (Contains-cons_cases q p ps c) [
   | inr later ↦ Contains-append_right (leaves q) (all_leaves (plans_of ps)) i (part_leaves ps p i later has)
 ]
 
-All_member : (P : ℕ → Type 0) (xs : List ℕ) (x : ℕ) → All P xs → Contains xs x → P x
-All_member P xs x all c = subst P c.2 (all c.0 x c.1)
-
 pub no_part : (ps : List Plan) (p : Plan) (depth files : ℕ) → Contains ps p → 0 < depth → IsNoPlan p (depth - 1) files → IsNoPlan (Node (plans_of ps)) depth files
 no_part ps p depth files c lt h = record {
-  not = λ shallow known. h.not (omega (arith, part_depth ps p c, shallow, lt)) (λ i d small. All_member (λ k. k < files) (all_leaves (plans_of ps)) (get_or (leaves p) i d) known (part_leaves ps p (get_or (leaves p) i d) c (Contains-get_or (leaves p) i d small)));
+  not = λ shallow known. h.not (omega (arith, part_depth ps p c, shallow, lt)) (λ i d small. All-contains (λ k. k < files) (all_leaves (plans_of ps)) (get_or (leaves p) i d) known (part_leaves ps p (get_or (leaves p) i d) c (Contains-get_or (leaves p) i d small)));
 }

@@ -1,5 +1,5 @@
 -- What the steps of a merge know.
-use Rattle.dexmerge.proofs.Common.{◌≡◌, ℕ, ◌<◌, List, [], ◌∷◌, length, get_or, map, sym, ap, ◌∙◌, subst, arith, Option, Some, None, All, MatchOption, ◌↔◌, AllZip, Contains, flat_map, length-map, get_or-map, All-get_or, Contains-get_or, AreDistinct, Definition, Collection, definitions, AreSame, Mentions, mentions, Caps, IsConsistent, IsGood, IsFirstCause, Conflict, Cycle, mentions-same, first_cause-same, IsGood-within, AreRising, AreIn, Maps, NumberedClass, type_at, definition_of, no_class, name_number, ArePlaces, AreDepthsByName, renumbered, MapsAllInto, IsPartClass}
+use Rattle.dexmerge.proofs.Common.{◌≡◌, ℕ, ◌<◌, List, [], ◌∷◌, length, get_or, map, sym, ap, ◌∙◌, subst, arith, Option, Some, None, All, MatchOption, ◌↔◌, AllZip, flat_map, length-map, get_or-map, Contains-get_or, AreDistinct, Definition, Collection, definitions, AreSame, Mentions, mentions, Caps, IsConsistent, IsGood, IsFirstCause, Conflict, Cycle, mentions-same, first_cause-same, IsGood-within, AreRising, AreIn, Maps, NumberedClass, type_at, definition_of, no_class, name_number, ArePlaces, AreDepthsByName, renumbered, MapsAllInto, IsPartClass, All-contains}
 use Rattle.dexmerge.specs.{IsOfCap, AreMembers, IsOfPart, IsEqualCopy, IsFirstConflict, kept_classes, class_of, classes_of, class_at}
 use Rattle.dexmerge.specs.declared.candidates.Candidate.{Candidate}
 use Rattle.dexmerge.specs.internal.Cycles.{AreKept, AreAcyclic, IsFirstCycle}
@@ -13,9 +13,6 @@ use Rattle.dexmerge.proofs.CycleLaws.{depths_same}
 first_of : {X : Type 0} (xs : List X) → 0 < length xs → X
 first_of [] lt = absurd (omega (arith, lt))
 first_of (x ∷ xs) lt = x
-
-all_member : {X : Type 0} (P : X → Type 0) (xs : List X) (x : X) → All P xs → Contains xs x → P x
-all_member P xs x all c = subst P c.2 (All-get_or P xs c.0 x c.1 all)
 
 -- the copies of joined parts
 pub are_copies : (parts : List Collection) (m : Mentions) (remaps : List Maps) (cs : List Candidate) → IsJoined parts m remaps → (AllZip (λ part remap. MapsAllInto (mentions (definitions part)) m remap) parts remaps → AreMembers m (flat_map definitions parts) (classes_of cs))
@@ -64,7 +61,7 @@ module _ (m : Mentions) (D : List Definition) (cs : List Candidate) (h : AreCopi
           copies = record {
             mentions_are = h.mentions_are;
             rising = h.rising;
-            of_parts = λ i d lt. all_member (IsOfPart m) cs (get_or ks i d) h.of_parts (within (get_or ks i d) (Contains-get_or ks i d lt));
+            of_parts = λ i d lt. All-contains (IsOfPart m) cs (get_or ks i d) h.of_parts (within (get_or ks i d) (Contains-get_or ks i d lt));
             members = subst (AreMembers m D) (sym are) members;
           };
           kept = subst (AreKept m) (sym are) (are_kept m h.rising (kept_classes Cs places) members.known (kept_rise m h.rising Cs h.members.known places p));

@@ -1,14 +1,7 @@
 -- The definitions of parts, one part after the other.
-use Rattle.dexmerge.proofs.Common.{◌≡◌, ℕ, zero, suc, Bor, ◌+◌, ◌<◌, List, [], ◌∷◌, ◌++◌, length, get_or, take, map, refl, sym, ap, ◌∙◌, subst, arith, inl, inr, All, Contains, AllZip, flat_map, take_more, map-append, append-nil, get_or-map, flat_map-append, All-append, All-map, All-nil, Contains-append_left, Contains-append_right, Contains-append_cases, Definition, Collection, definitions, AreWellFormed, in_class_order, Mentions, mentions, text_cmp, proto_cmp, field_cmp, method_cmp, Contains-nil, mentions-rising, rises-from_Rises, definitions-distinct, in_class_order-only, in_class_order-has, AreRising, Maps, AllMapTo, MapsAll, NumberedClass, definition_of, IsKnownClass, AreClassesOf, renumbered, MapsAllInto, IsMappedClass, StaysSame}
+use Rattle.dexmerge.proofs.Common.{◌≡◌, ℕ, Bor, ◌+◌, ◌<◌, List, [], ◌∷◌, ◌++◌, length, get_or, take, map, sym, ap, ◌∙◌, subst, inl, inr, Contains, AllZip, flat_map, take_more, map-append, append-nil, get_or-map, flat_map-append, All-append, All-map, All-nil, Contains-append_cases, Definition, Collection, definitions, AreWellFormed, in_class_order, Mentions, mentions, text_cmp, proto_cmp, field_cmp, method_cmp, Contains-nil, mentions-rising, rises-from_Rises, definitions-distinct, in_class_order-only, in_class_order-has, AreRising, Maps, AllMapTo, MapsAll, NumberedClass, definition_of, IsKnownClass, AreClassesOf, renumbered, MapsAllInto, IsMappedClass, StaysSame, AreAmong-append, zip_at, map_both}
 use Rattle.dexmerge.specs.{AreMembers, IsOfPart}
 use Rattle.dexmerge.specs.declared.candidates.Candidate.{Candidate}
-
--- what is the same of each member is so of the list
-same_each : {X Y Z : Type 0} (f : Y → Z) (g : X → Y) (h : X → Z) (P : X → Type 0) (xs : List X) → All P xs → ((x : X) → P x → f (g x) ≡ h x) → map f (map g xs) ≡ map h xs
-same_each f g h P [] all each = refl
-same_each {X} {Y} {Z} f g h P (x ∷ xs) all each =
-    ap (λ (z : Z). z ∷ map f (map g xs)) (each x (all 0 x (omega arith)))
-    ∙ ap (λ (l : List Z). h x ∷ l) (same_each f g h P xs (λ i d lt. all (suc i) d (omega (arith, lt))) each)
 
 -- no part yet
 pub no_members : (m : Mentions) → AreMembers m [] []
@@ -54,20 +47,14 @@ module _ (keep : KeepMeaning) (maps_to : MapClasses) (m : Mentions) (K : Collect
   pub members_more : (D : List Definition) (cs ps : List NumberedClass) → AreMembers m D cs → AreClassesOf K ps → AreWellFormed (definitions K) → AreMembers m (D ++ definitions K) (cs ++ map (renumbered r) ps)
   members_more D cs ps h are formed =
       let remapped : map (definition_of m) (map (renumbered r) ps) ≡ in_class_order (definitions K) =
-      same_each (definition_of m) (renumbered r) (definition_of own) (IsKnownClass own) ps are.known (λ c known. (stays c known).same) ∙ are.are in
+      map_both (renumbered r) (definition_of m) (definition_of own) ps (λ i d lt. (stays (get_or ps i d) (are.known i d lt)).same) ∙ are.are in
       let all : map (definition_of m) (cs ++ map (renumbered r) ps) ≡ map (definition_of m) cs ++ in_class_order (definitions K) =
       map-append (definition_of m) cs (map (renumbered r) ps) ∙ ap (λ (l : List Definition). map (definition_of m) cs ++ l) remapped in
       record {
         known = All-append (IsKnownClass m) cs (map (renumbered r) ps) h.known (All-map (IsKnownClass m) (renumbered r) ps (λ i d lt. (stays (get_or ps i d) (are.known i d lt)).known));
         same = λ d. (
-          λ c. elim (Contains-append_cases (map (definition_of m) cs) (in_class_order (definitions K)) d (subst (λ (l : List Definition). Contains l d) all c)) [
-            | inl first ↦ Contains-append_left D (definitions K) d ((h.same d).0 first)
-            | inr last ↦ Contains-append_right D (definitions K) d (in_class_order-only (definitions K) d last)
-          ],
-          λ c. subst (λ (l : List Definition). Contains l d) (sym all) (elim (Contains-append_cases D (definitions K) d c) [
-            | inl first ↦ Contains-append_left (map (definition_of m) cs) (in_class_order (definitions K)) d ((h.same d).1 first)
-            | inr last ↦ Contains-append_right (map (definition_of m) cs) (in_class_order (definitions K)) d (in_class_order-has (definitions K) d (definitions-distinct K) last)
-          ]),
+          λ c. AreAmong-append (map (definition_of m) cs) (in_class_order (definitions K)) D (definitions K) (λ e. (h.same e).0) (in_class_order-only (definitions K)) d (subst (λ (l : List Definition). Contains l d) all c),
+          λ c. subst (λ (l : List Definition). Contains l d) (sym all) (AreAmong-append D (definitions K) (map (definition_of m) cs) (in_class_order (definitions K)) (λ e. (h.same e).1) (λ e. in_class_order-has (definitions K) e (definitions-distinct K)) d c),
         );
         formed = λ d c. elim (Contains-append_cases D (definitions K) d c) [ inl first ↦ h.formed d first | inr last ↦ formed d last ];
       }
@@ -79,9 +66,8 @@ class_known K ps c are has = subst (IsKnownClass (mentions (definitions K))) has
 -- a class of a part, and maps of the part into the whole
 pub of_part : KeepMeaning → MapClasses → (m : Mentions) (K : Collection) (c : Candidate) → MapsAllInto (mentions (definitions K)) m c.remap.now → IsKnownClass (mentions (definitions K)) c.class.now → IsOfPart m c
 of_part keep maps_to m K c are_mapped known =
-    let own = mentions (definitions K) in
     record {
-      part = own;
+      part = (mentions (definitions K));
       rising = mentions_rise (definitions K);
       is = record { are_mapped = are_mapped.are_mapped; remapped = remapped_class maps_to K c.remap.now c.class.now are_mapped.all known; known = known };
       same = (stays keep maps_to m K c.remap.now are_mapped c.class.now known).same;
@@ -90,14 +76,6 @@ of_part keep maps_to m K c are_mapped known =
 -- the definitions of one part more
 pub parts_more : (Ks : List Collection) (i : ℕ) (K : Collection) → i < length Ks → flat_map definitions (take (i + 1) Ks) ≡ flat_map definitions (take i Ks) ++ definitions (get_or Ks i K)
 parts_more Ks i K lt = ap (flat_map definitions) (take_more Ks i K lt) ∙ flat_map-append definitions (take i Ks) (get_or Ks i K ∷ []) ∙ ap (λ (l : List Definition). flat_map definitions (take i Ks) ++ l) (append-nil (definitions (get_or Ks i K)))
-
--- what holds of two lists place by place holds at a place
-pub zip_at : {A B : Type 0} (R : A → B → Type 0) (xs : List A) (ys : List B) (i : ℕ) (d : A) (e : B) → AllZip R xs ys → i < length xs → R (get_or xs i d) (get_or ys i e)
-zip_at R [] [] i d e h lt = absurd (omega (arith, lt))
-zip_at R [] (y ∷ ys) i d e h lt = absurd h
-zip_at R (x ∷ xs) [] i d e h lt = absurd h
-zip_at R (x ∷ xs) (y ∷ ys) zero d e h lt = h.0
-zip_at R (x ∷ xs) (y ∷ ys) (suc i) d e h lt = zip_at R xs ys i d e h.1 (omega (arith, lt))
 
 -- the part at a place
 pub part_at : (parts : List (Bor Collection)) (i : ℕ) (d : Bor Collection) → i < length parts → d ≡ get_or parts i d → d.now ≡ get_or (map (λ (p : Bor Collection). p.now) parts) i d.now

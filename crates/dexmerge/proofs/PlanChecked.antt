@@ -1,12 +1,11 @@
 -- Whether the marks on files are those of a plan for them.
-use Rattle.dexmerge.proofs.Common.{◌≡◌, ℕ, zero, suc, ◌<◌, Bool, true, false, List, length, get_or, replicate, refl, sym, ◌∙◌, arith, inl, inr, MatchBool, false≢true, length-replicate, Plan, IsPlanFor}
+use Rattle.dexmerge.proofs.Common.{◌≡◌, ℕ, suc, ◌<◌, Bool, true, false, List, length, get_or, replicate, refl, sym, ◌∙◌, arith, inl, inr, MatchBool, false≢true, length-replicate, Plan, IsPlanFor}
 use Rattle.dexmerge.specs.internal.UnionChecks.{IsNamed, IsMarkedBy, HasUnnamed}
 
 -- no mark is set at first
-none_named : (n i : ℕ) → get_or (replicate n false) i false ≡ false
-none_named zero i = refl
-none_named (suc n) zero = refl
+pub none_named : (n i : ℕ) → get_or (replicate n false) i false ≡ false
 none_named (suc n) (suc i) = none_named n i
+none_named x v = refl
 
 module _ (p : Plan) (files : ℕ) (marks : List Bool) (h : IsMarkedBy p 64 (replicate files false) marks) (count : length marks ≡ length (replicate files false)) where
   size : length (replicate files false) ≡ files

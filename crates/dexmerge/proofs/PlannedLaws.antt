@@ -1,5 +1,5 @@
 -- The definitions of the parts of a plan.
-use Rattle.dexmerge.proofs.Common.{◌≡◌, ◌⊎◌, ℕ, zero, suc, ◌<◌, List, [], ◌∷◌, ◌++◌, length, get_or, map, refl, sym, ap, ◌∙◌, subst, arith, inl, inr, All, slice_index_or, Bor, Contains, flat_map, append-nil, flat_map-append, Contains-append_left, Contains-append_right, Contains-append_cases, Contains-get_or, All-get_or, Definition, Collection, definitions, AreSame, AreWithin, Caps, Cause, IsCause, IsFirstCause, IsFlat, IsPlanFor, AreLeaves, Plan, Leaf, Node, leaves, all_leaves, Contains-nil, Contains-cons_cases, Contains-flat_map, Contains-flat_map_source, IsGood-within, IsCause-within, first_cause-same}
+use Rattle.dexmerge.proofs.Common.{◌≡◌, ℕ, zero, suc, ◌<◌, List, [], ◌∷◌, ◌++◌, length, get_or, map, refl, sym, ap, ◌∙◌, subst, arith, inl, inr, slice_index_or, Bor, Contains, flat_map, append-nil, flat_map-append, Contains-append_left, Contains-append_right, Contains-append_cases, Contains-get_or, Definition, Collection, definitions, AreSame, AreWithin, Caps, Cause, IsFirstCause, IsPlanFor, AreLeaves, Plan, Leaf, Node, leaves, all_leaves, Contains-nil, Contains-cons_cases, Contains-flat_map, Contains-flat_map_source, IsGood-within, IsCause-within, first_cause-same, All-contains, AreAmong-append, append_assoc, AreAmong, AreAmong-refl}
 use Rattle.dexspec.specs.Merging as merging
 use Rattle.dexmerge.specs.declared.faults.MergeFault.{MergeFault}
 use Rattle.dexmerge.specs.declared.faults.MergeFault.TheVariants as fault
@@ -29,49 +29,40 @@ reports_same caps D E f same = reports_other (IsFirstCause caps D) (IsFirstCause
 -- ---- the parts of a node
 
 module _ (files : List Collection) where
-  -- a definition of the parts is one of a leaf or of a node among them
-  parts_only : (ps : List Plan) (d : Definition) → Contains (of_files files (all_leaves (plans_of ps))) d → Contains (of_files files (files_in ps)) d ⊎ Contains (of_plans files (nodes_in ps)) d
-  parts_only [] d c = inl c
-  parts_only (Leaf file ∷ ps) d c = elim (Contains-append_cases (slice_index_or (map definitions files) file []) (of_files files (all_leaves (plans_of ps))) d c) [
-    | inl first ↦ inl (Contains-append_left (slice_index_or (map definitions files) file []) (of_files files (files_in ps)) d first)
-    | inr later ↦ elim (parts_only ps d later) [
-      | inl own ↦ inl (Contains-append_right (slice_index_or (map definitions files) file []) (of_files files (files_in ps)) d own)
-      | inr inner ↦ inr inner
-    ]
-  ]
-  parts_only (Node qs ∷ ps) d c = elim (Contains-append_cases (of_files files (all_leaves qs)) (of_files files (all_leaves (plans_of ps))) d (subst (λ (l : List Definition). Contains l d) (flat_map-append (λ i. slice_index_or (map definitions files) i []) (all_leaves qs) (all_leaves (plans_of ps))) c)) [
-    | inl first ↦ inr (Contains-append_left (planned files (Node qs)) (of_plans files (nodes_in ps)) d first)
-    | inr later ↦ elim (parts_only ps d later) [
-      | inl own ↦ inl own
-      | inr inner ↦ inr (Contains-append_right (planned files (Node qs)) (of_plans files (nodes_in ps)) d inner)
-    ]
+  -- two lists change places before a third
+  swapped : (X A B : List Definition) → AreAmong (X ++ (A ++ B)) (A ++ (X ++ B))
+  swapped X A B d c = elim (Contains-append_cases X (A ++ B) d c) [
+    | inl x ↦ Contains-append_right A (X ++ B) d (Contains-append_left X B d x)
+    | inr r ↦ AreAmong-append A B A (X ++ B) (AreAmong-refl A) (λ e. Contains-append_right X B e) d r
   ]
 
-  parts_has : (ps : List Plan) (d : Definition) → Contains (of_files files (files_in ps)) d ⊎ Contains (of_plans files (nodes_in ps)) d → Contains (of_files files (all_leaves (plans_of ps))) d
-  parts_has [] d (inl c) = c
-  parts_has [] d (inr c) = c
-  parts_has (Leaf file ∷ ps) d (inl c) = elim (Contains-append_cases (slice_index_or (map definitions files) file []) (of_files files (files_in ps)) d c) [
-    | inl first ↦ Contains-append_left (slice_index_or (map definitions files) file []) (of_files files (all_leaves (plans_of ps))) d first
-    | inr later ↦ Contains-append_right (slice_index_or (map definitions files) file []) (of_files files (all_leaves (plans_of ps))) d (parts_has ps d (inl later))
-  ]
-  parts_has (Leaf file ∷ ps) d (inr c) = Contains-append_right (slice_index_or (map definitions files) file []) (of_files files (all_leaves (plans_of ps))) d (parts_has ps d (inr c))
-  parts_has (Node qs ∷ ps) d (inl c) = subst (λ (l : List Definition). Contains l d) (sym (flat_map-append (λ i. slice_index_or (map definitions files) i []) (all_leaves qs) (all_leaves (plans_of ps))))
-      (Contains-append_right (of_files files (all_leaves qs)) (of_files files (all_leaves (plans_of ps))) d (parts_has ps d (inl c)))
-  parts_has (Node qs ∷ ps) d (inr c) = subst (λ (l : List Definition). Contains l d) (sym (flat_map-append (λ i. slice_index_or (map definitions files) i []) (all_leaves qs) (all_leaves (plans_of ps))))
-      (elim (Contains-append_cases (planned files (Node qs)) (of_plans files (nodes_in ps)) d c) [
-        | inl first ↦ Contains-append_left (of_files files (all_leaves qs)) (of_files files (all_leaves (plans_of ps))) d first
-        | inr later ↦ Contains-append_right (of_files files (all_leaves qs)) (of_files files (all_leaves (plans_of ps))) d (parts_has ps d (inr later))
-      ])
+  -- the definitions of the parts are those of the leaves and of the nodes among them
+  parts_are : (ps : List Plan) → AreSame (of_files files (all_leaves (plans_of ps))) (of_files files (files_in ps) ++ of_plans files (nodes_in ps))
+  parts_are [] d = (λ c. c, λ c. c)
+  parts_are (Leaf file ∷ ps) d =
+      let X : List Definition = slice_index_or (map definitions files) file [] in
+      let R = of_files files (all_leaves (plans_of ps)) in
+      let A = of_files files (files_in ps) in
+      let B = of_plans files (nodes_in ps) in (
+        λ c. subst (λ l. Contains l d) (sym (append_assoc X A B)) (AreAmong-append X R X (A ++ B) (AreAmong-refl X) (λ e. (parts_are ps e).0) d c),
+        λ c. AreAmong-append X (A ++ B) X R (AreAmong-refl X) (λ e. (parts_are ps e).1) d (subst (λ l. Contains l d) (append_assoc X A B) c),
+      )
+  parts_are (Node qs ∷ ps) d =
+      let X = of_files files (all_leaves qs) in
+      let R = of_files files (all_leaves (plans_of ps)) in
+      let A = of_files files (files_in ps) in
+      let B = of_plans files (nodes_in ps) in
+      let both = flat_map-append (λ i. slice_index_or (map definitions files) i []) (all_leaves qs) (all_leaves (plans_of ps)) in (
+        λ c. swapped X A B d (AreAmong-append X R X (A ++ B) (AreAmong-refl X) (λ e. (parts_are ps e).0) d (subst (λ l. Contains l d) both c)),
+        λ c. subst (λ l. Contains l d) (sym both) (AreAmong-append X (A ++ B) X R (AreAmong-refl X) (λ e. (parts_are ps e).1) d (swapped A X B d c)),
+      )
 
   -- the files of the leaves and the programs of the nodes have the definitions of the whole
   pub node_same : (ps : List Plan) (inner : List Collection) → AreSame (flat_map definitions inner) (of_plans files (nodes_in ps)) → AreSame (of_files files (files_in ps) ++ flat_map definitions inner) (planned files (Node (plans_of ps)))
-  node_same ps inner same d = (
-    λ c. parts_has ps d (elim (Contains-append_cases (of_files files (files_in ps)) (flat_map definitions inner) d c) [ inl own ↦ inl own | inr has ↦ inr ((same d).0 has) ]),
-    λ c. elim (parts_only ps d c) [
-      | inl own ↦ Contains-append_left (of_files files (files_in ps)) (flat_map definitions inner) d own
-      | inr has ↦ Contains-append_right (of_files files (files_in ps)) (flat_map definitions inner) d ((same d).1 has)
-    ],
-  )
+  node_same ps inner same d =
+      let A = of_files files (files_in ps) in
+      let both = parts_are ps d in
+      (λ c. both.1 (AreAmong-append A (flat_map definitions inner) A (of_plans files (nodes_in ps)) (AreAmong-refl A) (λ e. (same e).0) d c), λ c. AreAmong-append A (of_plans files (nodes_in ps)) A (flat_map definitions inner) (AreAmong-refl A) (λ e. (same e).1) d (both.0 c))
 
   -- the definitions of a part are among those of the whole
   pub part_within : (ps : List Plan) (p : Plan) → Contains ps p → AreWithin (planned files p) (planned files (Node (plans_of ps)))
@@ -129,14 +120,8 @@ module _ (files : List Collection) where
       let all : flat_map definitions (inner ++ K ∷ []) ≡ flat_map definitions inner ++ definitions K = flat_map-append definitions inner (K ∷ []) ∙ ap (λ (l : List Definition). flat_map definitions inner ++ l) (append-nil (definitions K)) in
       let whole : of_plans files (nodes_in (ps ++ Node qs ∷ [])) ≡ of_plans files (nodes_in ps) ++ planned files (Node qs) =
       ap (of_plans files) (nodes_more ps (Node qs)) ∙ flat_map-append (planned files) (nodes_in ps) (Node qs ∷ []) ∙ ap (λ (l : List Definition). of_plans files (nodes_in ps) ++ l) (append-nil (planned files (Node qs))) in (
-        λ c. subst (λ (l : List Definition). Contains l d) (sym whole) (elim (Contains-append_cases (flat_map definitions inner) (definitions K) d (subst (λ (l : List Definition). Contains l d) all c)) [
-          | inl first ↦ Contains-append_left (of_plans files (nodes_in ps)) (planned files (Node qs)) d ((same d).0 first)
-          | inr last ↦ Contains-append_right (of_plans files (nodes_in ps)) (planned files (Node qs)) d ((own d).0 last)
-        ]),
-        λ c. subst (λ (l : List Definition). Contains l d) (sym all) (elim (Contains-append_cases (of_plans files (nodes_in ps)) (planned files (Node qs)) d (subst (λ (l : List Definition). Contains l d) whole c)) [
-          | inl first ↦ Contains-append_left (flat_map definitions inner) (definitions K) d ((same d).1 first)
-          | inr last ↦ Contains-append_right (flat_map definitions inner) (definitions K) d ((own d).1 last)
-        ]),
+        λ c. subst (λ (l : List Definition). Contains l d) (sym whole) (AreAmong-append (flat_map definitions inner) (definitions K) (of_plans files (nodes_in ps)) (planned files (Node qs)) (λ e. (same e).0) (λ e. (own e).0) d (subst (λ (l : List Definition). Contains l d) all c)),
+        λ c. subst (λ (l : List Definition). Contains l d) (sym all) (AreAmong-append (of_plans files (nodes_in ps)) (planned files (Node qs)) (flat_map definitions inner) (definitions K) (λ e. (same e).1) (λ e. (own e).1) d (subst (λ (l : List Definition). Contains l d) whole c)),
       )
 
 -- ---- what a node makes
@@ -162,12 +147,9 @@ pub node_programs : (files : List Collection) (ps : List Plan) (inner : List Col
     AreSame (flat_map definitions inner) (of_plans files (nodes_in ps)) → AreSame (all_definitions inner given) (planned files (Node (plans_of ps)))
 node_programs files ps inner given all none same empty added = programs_same files ps inner (referents given) (ap definitions_in same ∙ added ∙ ap (λ (l : List (Bor Collection)). definitions_in l ++ of_files files (files_in ps)) empty)
 
-pub all_member : (P : ℕ → Type 0) (xs : List ℕ) (x : ℕ) → All P xs → Contains xs x → P x
-all_member P xs x all c = subst P c.2 (All-get_or P xs c.0 x c.1 all)
-
 -- the files of a part are known
 pub part_known : (files : List Collection) (ps : List Plan) (p : Plan) → Contains ps p → AreKnown files (Node (plans_of ps)) → AreKnown files p
-part_known files ps p has known i d lt = all_member (λ k. k < length files) (all_leaves (plans_of ps)) (get_or (leaves p) i d) known (part_leaves ps p (get_or (leaves p) i d) has (Contains-get_or (leaves p) i d lt))
+part_known files ps p has known i d lt = All-contains (λ k. k < length files) (all_leaves (plans_of ps)) (get_or (leaves p) i d) known (part_leaves ps p (get_or (leaves p) i d) has (Contains-get_or (leaves p) i d lt))
 
 -- ---- all files
 
@@ -192,5 +174,5 @@ files_same files p h d = (
       Contains-flat_map (λ i. slice_index_or (map definitions files) i []) (leaves p) at.0 d (h.named at.0 at.1) (subst (λ (l : List Definition). Contains l d) (sym (at_number files found.0 at.0 at.1 at.2)) found.2),
   λ c.
       let found = Contains-flat_map_source (λ i. slice_index_or (map definitions files) i []) (leaves p) d c in
-      subst (λ (l : List Collection). Contains (flat_map definitions l) d) (sym (append-nil files)) (number_within files d found.0 (all_member (λ i. i < length files) (leaves p) found.0 h.known found.1) found.2),
+      subst (λ (l : List Collection). Contains (flat_map definitions l) d) (sym (append-nil files)) (number_within files d found.0 (All-contains (λ i. i < length files) (leaves p) found.0 h.known found.1) found.2),
 )

@@ -1,12 +1,12 @@
 -- The texts that a const-string of classes names, by their numbers: what they denote, and their images.
-use Rattle.dexmerge.proofs.Common.{◌≡◌, ℕ, Bool, true, false, not, ◌&&◌, if◌then◌else◌, List, [], ◌∷◌, map, Option, Some, None, refl, sym, ap, ◌∙◌, subst, inl, inr, All, IfSome, option_to_list, Contains, flat_map, map-append, All-append, All-get_or, Text, text_cmp, rank, TextSymbol, Definition, MethodDef, declared_methods, Mentions, HasShortString, Contains-nil, Contains-first, Contains-cons_cases, Contains-flat_map, Contains-flat_map_source, Rises-from_rises, rank-get_or, text_total, Contains-map, Contains-map_source, IsAt, AreRising, Maps, image, image_of, is_text, is_short_string, short_string, HasConstString, short_named, short_denoted, NumberedItem, renumbered_item, NumberedMethod, NumberedMembers, methods_of, method_in, IsKnownMethod, AreKnownMembers, renumbered_method, renumbered_members, code_short_strings, method_short_strings, members_short_strings, NumberedClass, definition_of, IsKnownClass}
+use Rattle.dexmerge.proofs.Common.{◌≡◌, ℕ, Bool, true, false, not, ◌&&◌, if◌then◌else◌, List, [], ◌∷◌, map, Option, Some, None, refl, sym, ap, ◌∙◌, subst, All, IfSome, option_to_list, Contains, flat_map, map-append, All-append, Text, text_cmp, rank, TextSymbol, Definition, MethodDef, declared_methods, Mentions, HasShortString, Contains-nil, Contains-first, Contains-flat_map, Contains-flat_map_source, Rises-from_rises, rank-get_or, text_total, Contains-map, Contains-map_source, IsAt, AreRising, Maps, image, image_of, is_text, is_short_string, short_string, HasConstString, short_named, short_denoted, NumberedItem, renumbered_item, NumberedMethod, NumberedMembers, methods_of, method_in, IsKnownMethod, AreKnownMembers, renumbered_method, renumbered_members, code_short_strings, method_short_strings, members_short_strings, NumberedClass, definition_of, IsKnownClass, All-contains, one_member}
 use Rattle.std.specs.Option.{option_map}
-use Rattle.dexspec.specs.Pieces.{low_byte, is_wide_index}
+use Rattle.dexspec.specs.Pieces.{is_wide_index}
 use Rattle.dexspec.specs.Pieces as symbolic
 use Rattle.dexspec.specs.Code.{Code}
 use Rattle.dexpool.specs.declared.symbols.SymbolKind.{SymbolKind}
 use Rattle.dexpool.specs.declared.symbols.SymbolKind.TheVariants as kinds
-use Rattle.dexinsn.specs.Numbered.{NumberedPiece, Instruction, Payload, kind_in, renumbered_piece}
+use Rattle.dexinsn.specs.Numbered.{NumberedPiece, Instruction, kind_in, renumbered_piece}
 use Rattle.dexcode.specs.Meaning.{code_in, IsKnownCode}
 use Rattle.dexcode.proofs.Meanings.{code_encoded}
 use Rattle.dexmerge.specs.internal.Amounts.{short_numbers}
@@ -25,10 +25,7 @@ some_code m (Some k) code e = (k, refl, cc)
 -- a member of what is there, or of nothing
 pub option_source : (o : Option NumberedItem) (k : NumberedItem) → Contains (option_to_list o) k → o ≡ Some k
 option_source None k c = absurd (Contains-nil k c)
-option_source (Some j) k c = elim (Contains-cons_cases j k [] c) [
-  | inl e ↦ ap Some e
-  | inr never ↦ absurd (Contains-nil k never)
-]
+option_source (Some j) k c = ap Some (one_member j k c)
 
 known_code : (m : Mentions) (y : NumberedMethod) (k : NumberedItem) → IsKnownMethod m y → y.code ≡ Some k → IsKnownCode m k
 known_code m y k known e = subst (λ (o : Option NumberedItem). IfSome o (IsKnownCode m)) e known.code_known
@@ -36,9 +33,6 @@ known_code m y k known e = subst (λ (o : Option NumberedItem). IfSome o (IsKnow
 -- all methods are known
 known_methods : (m : Mentions) (x : NumberedMembers) → AreKnownMembers m x → All (IsKnownMethod m) (methods_of x)
 known_methods m x h = All-append (IsKnownMethod m) x.direct_methods x.virtual_methods h.direct_methods_known h.virtual_methods_known
-
-known_one : {X : Type 0} (P : X → Type 0) (xs : List X) (x : X) → All P xs → Contains xs x → P x
-known_one P xs x all c = subst P c.2 (All-get_or P xs c.0 x c.1 all)
 
 -- the methods of a definition are those of the class
 declared_are : (m : Mentions) (c : NumberedClass) → declared_methods (definition_of m c).1 ≡ map (method_in m) (methods_of c.members)
@@ -55,7 +49,7 @@ module _ (m : Mentions) (cs : List NumberedClass) (known : All (IsKnownClass m) 
       let y : NumberedMethod = method.0 in
       let code = some_code m y.code h.code (ap (λ (x : MethodDef). x.code) method.2 ∙ h.has_code) in
       let k : NumberedItem = code.0 in
-      let own : IsKnownCode m k = known_code m y k (known_one (IsKnownMethod m) (methods_of c.members) y (known_methods m c.members (known_one (IsKnownClass m) cs c known class.1).members_known) method.1) code.1 in
+      let own : IsKnownCode m k = known_code m y k (All-contains (IsKnownMethod m) (methods_of c.members) y (known_methods m c.members (All-contains (IsKnownClass m) cs c known class.1).members_known) method.1) code.1 in
       let named : HasConstString (code_in m k).pieces s = record { units = h.units; piece = subst (λ (x : Code). Contains x.pieces (symbolic.Instruction h.units (Some (TextSymbol s)))) (sym code.2) h.piece; short = h.short } in
       let f = short_named m k.body.pieces (code_in m k).pieces s (code_encoded m k own).pieces_are named in
       let in_method : Contains (method_short_strings y) f.0 = subst (λ (o : Option NumberedItem). Contains (flat_map code_short_strings (option_to_list o)) f.0) (sym code.1) (Contains-flat_map code_short_strings (k ∷ []) k f.0 (Contains-first k []) f.1) in
@@ -72,7 +66,7 @@ module _ (m : Mentions) (cs : List NumberedClass) (known : All (IsKnownClass m) 
       let code = Contains-flat_map_source code_short_strings (option_to_list y.code) n method.2 in
       let k : NumberedItem = code.0 in
       let is : y.code ≡ Some k = option_source y.code k code.1 in
-      let own : IsKnownCode m k = known_code m y k (known_one (IsKnownMethod m) (methods_of c.members) y (known_methods m c.members (known_one (IsKnownClass m) cs c known class.1).members_known) method.1) is in
+      let own : IsKnownCode m k = known_code m y k (All-contains (IsKnownMethod m) (methods_of c.members) y (known_methods m c.members (All-contains (IsKnownClass m) cs c known class.1).members_known) method.1) is in
       let f = short_denoted m k.body.pieces (code_in m k).pieces n (code_encoded m k own).pieces_are code.2 in
       let named : HasConstString (code_in m k).pieces f.0 = f.2 in (
         f.0,
@@ -117,10 +111,7 @@ module _ {X : Type 0} (f : X → X) (s : X → List ℕ) (R : ℕ → ℕ → Ty
 
 -- a number that is there under a condition
 one_if : (b : Bool) (n k : ℕ) → Contains (if b then n ∷ [] else []) k → (b ≡ true) × (n ≡ k)
-one_if true n k c = elim (Contains-cons_cases n k [] c) [
-  | inl e ↦ (refl, e)
-  | inr never ↦ absurd (Contains-nil k never)
-]
+one_if true n k c = (refl, one_member n k c)
 one_if false n k c = absurd (Contains-nil k c)
 
 has_if : (b : Bool) (n : ℕ) → b ≡ true → Contains (if b then n ∷ [] else []) n
@@ -130,10 +121,7 @@ has_if false n is = absurd cc
 -- a short string is a text
 as_text : (r : Maps) (k : SymbolKind) (w : Bool) (n : ℕ) → (is_text k && not w) ≡ true → image_of r k n ≡ image r.texts n
 as_text r kinds.Text w n is = refl
-as_text r kinds.Typ w n is = absurd cc
-as_text r kinds.Proto w n is = absurd cc
-as_text r kinds.Field w n is = absurd cc
-as_text r kinds.Method w n is = absurd cc
+as_text r _ w n is = absurd cc
 
 module _ (r : Maps) where
   -- a piece
@@ -144,17 +132,15 @@ module _ (r : Maps) where
       (n, has_if (is_short_string us) n is.0, sym (as_text r (kind_in us) (is_wide_index us) n is.0) ∙ e ∙ ap Some is.1)
 
   remapped_piece : (p : NumberedPiece) (j : ℕ) → Contains (short_string (renumbered_piece r p)) j → (n : ℕ) × Contains (short_string p) n × TextMapsTo r n j
-  remapped_piece (Instruction us None) j c = absurd (Contains-nil j c)
   remapped_piece (Instruction us (Some n)) j c = remapped_by us n j (image_of r (kind_in us) n) refl c
-  remapped_piece (Payload us) j c = absurd (Contains-nil j c)
+  remapped_piece x j c = absurd (Contains-nil j c)
 
   maps_piece : (p : NumberedPiece) (n j : ℕ) → Contains (short_string p) n → TextMapsTo r n j → Contains (short_string (renumbered_piece r p)) j
-  maps_piece (Instruction us None) n j c maps_to = absurd (Contains-nil n c)
   maps_piece (Instruction us (Some i)) n j c maps_to =
       let is = one_if (is_short_string us) i n c in
       let to : image_of r (kind_in us) i ≡ Some j = as_text r (kind_in us) (is_wide_index us) i is.0 ∙ ap (image r.texts) is.1 ∙ maps_to in
       subst (λ (o : Option ℕ). Contains (short_string (Instruction us o)) j) (sym to) (has_if (is_short_string us) j is.0)
-  maps_piece (Payload us) n j c maps_to = absurd (Contains-nil n c)
+  maps_piece x n j c maps_to = absurd (Contains-nil n c)
 
   -- code
   remapped_code : (k : NumberedItem) (j : ℕ) → Contains (code_short_strings (renumbered_item r k)) j → (n : ℕ) × Contains (code_short_strings k) n × TextMapsTo r n j

@@ -1,27 +1,17 @@
 -- What the numbers of a union's classes say of its definitions.
-use Rattle.dexmerge.proofs.Common.{◌≡◌, ℕ, zero, suc, ◌+◌, ◌<◌, ◌≤◌, List, [], ◌∷◌, length, get_or, map, refl, sym, ap, ◌∙◌, subst, arith, inl, inr, Option, Some, None, Less, All, IsSome, Contains, cases_order, length-map, get_or-map, get_or_default, Contains-get_or, present, AreDistinct, Text, text_cmp, Body, Definition, Mentions, Caps, IsConflict, IsConsistent, Cause, Conflict, Cycle, Exceeded, IsCause, IsReportedBefore, IsFirstCause, Contains-nil, Contains-first, Contains-later, Contains-cons_cases, Rises-from_rises, Rises-places, irreflexive, asymmetric, text_total, consistent-apart, Contains-map, Contains-map_source, AreRising, NumberedClass, type_at, definition_of, IsKnownClass, no_class, name_number, parent_numbers, ArePlaces, places_some, places_all}
+use Rattle.dexmerge.proofs.Common.{◌≡◌, ℕ, zero, suc, ◌+◌, ◌<◌, ◌≤◌, List, [], ◌∷◌, length, get_or, map, refl, sym, ap, ◌∙◌, subst, arith, inl, inr, Option, Some, None, Less, All, Contains, cases_order, length-map, get_or-map, get_or_default, Contains-get_or, present, AreDistinct, Text, text_cmp, Body, Definition, Mentions, Caps, IsConflict, IsConsistent, Cause, Conflict, Cycle, Exceeded, IsCause, IsReportedBefore, IsFirstCause, Contains-first, Contains-later, Rises-from_rises, Rises-places, irreflexive, asymmetric, text_total, consistent-apart, Contains-map, Contains-map_source, AreRising, NumberedClass, type_at, definition_of, IsKnownClass, no_class, name_number, parent_numbers, ArePlaces, places_some, places_all, All-tail, present_source}
+use Rattle.dexclass.proofs.NamesOf.{less_type}
+use Rattle.dexclass.proofs.Remapped.{one_at}
+use Rattle.dexmerge.proofs.ConflictLaws.{option_is}
 use Rattle.dexmerge.specs.{AreMembers, class_at, IsEqualCopy, IsFirstConflict, kept_classes}
 use Rattle.dexmerge.specs.internal.Cycles.{AreKept, IsFirstCycle}
 
-option_is : (o : Option ℕ) → IsSome o → (k : ℕ) × (o ≡ Some k)
-option_is None s = absurd cc
-option_is (Some k) s = (k, refl)
-
 -- what is present is at some place
 present_at : (places : List (Option ℕ)) (t k : ℕ) → get_or places t None ≡ Some k → Contains (present places) k
-present_at [] t k e = absurd cc
-present_at (None ∷ ps) zero k e = absurd cc
 present_at (None ∷ ps) (suc t) k e = present_at ps t k e
 present_at (Some j ∷ ps) zero k e = let same : j ≡ k = cc in subst (Contains (j ∷ present ps)) same (Contains-first j (present ps))
 present_at (Some j ∷ ps) (suc t) k e = Contains-later j k (present ps) (present_at ps t k e)
-
-present_source : (places : List (Option ℕ)) (k : ℕ) → Contains (present places) k → (t : ℕ) × (get_or places t None ≡ Some k)
-present_source [] k c = absurd (Contains-nil k c)
-present_source (None ∷ ps) k c = let s = present_source ps k c in (suc s.0, s.1)
-present_source (Some j ∷ ps) k c = elim (Contains-cons_cases j k (present ps) c) [
-  | inl e ↦ (0, ap Some e)
-  | inr later ↦ let s = present_source ps k later in (suc s.0, s.1)
-]
+present_at x v k e = absurd cc
 
 -- where the item at a place has the place as its name, names rise
 module _ (name : ℕ → ℕ) where
@@ -38,10 +28,6 @@ module _ (name : ℕ → ℕ) where
   names_rise (Some x ∷ ps) from h zero (suc j) less lt = omega (arith, h 0 x refl, names_from ps (from + 1) (λ t k e. omega (arith, h (suc t) k e)) j (omega (arith, lt)))
   names_rise (Some x ∷ ps) from h (suc i) (suc j) less lt = names_rise ps (from + 1) (λ t k e. omega (arith, h (suc t) k e)) i j (omega (arith, less)) (omega (arith, lt))
 
--- what holds of all holds of all but the first
-all_suffix : (P : ℕ → Type 0) (x : ℕ) (xs : List ℕ) → All P (x ∷ xs) → All P xs
-all_suffix P x xs h i d lt = h (suc i) d (omega (arith, lt))
-
 -- different classes denote different definitions
 abbrev pub AreDistinguished : Mentions → List NumberedClass → Type 0
 AreDistinguished m cs = (i j : ℕ) → i < length cs → j < length cs → definition_of m (class_at cs i) ≡ definition_of m (class_at cs j) → class_at cs i ≡ class_at cs j
@@ -49,29 +35,6 @@ AreDistinguished m cs = (i j : ℕ) → i < length cs → j < length cs → defi
 -- ---- numbers of types
 
 module _ (m : Mentions) (rising : AreRising m) where
-  less_text : (a b : ℕ) → a < b → b < length m.types → text_cmp (type_at m a) (type_at m b) ≡ Less
-  less_text a b less lt = Rises-places text_cmp text_total m.types a b [] (Rises-from_rises text_cmp text_total m.types rising.types_rise) less lt
-
-  -- a lesser type has a lesser number
-  less_number : (a b : ℕ) → a < length m.types → b < length m.types → text_cmp (type_at m a) (type_at m b) ≡ Less → a < b
-  less_number a b la lb e = elim (cases_order a b) [
-    | inl same ↦ absurd (irreflexive text_cmp text_total (type_at m a) (type_at m b) (ap (type_at m) same) e)
-    | inr other ↦ elim other [
-      | inl less ↦ less
-      | inr more ↦ absurd (asymmetric text_cmp text_total (type_at m a) (type_at m b) e (less_text b a more la))
-    ]
-  ]
-
-  -- a type has one number
-  one_number : (a b : ℕ) → a < length m.types → b < length m.types → type_at m a ≡ type_at m b → a ≡ b
-  one_number a b la lb e = elim (cases_order a b) [
-    | inl same ↦ same
-    | inr other ↦ elim other [
-      | inl less ↦ absurd (irreflexive text_cmp text_total (type_at m a) (type_at m b) e (less_text a b less lb))
-      | inr more ↦ absurd (irreflexive text_cmp text_total (type_at m b) (type_at m a) (sym e) (less_text b a more la))
-    ]
-  ]
-
   module _ (cs : List NumberedClass) (range : All (IsKnownClass m) cs) where
     abbrev E : List Definition
     E = map (definition_of m) cs
@@ -100,7 +63,7 @@ module _ (m : Mentions) (rising : AreRising m) where
 
     -- two definitions of a name are classes of one number
     one_name : (name : Text) (c d : Body) (x : IsOf name c) (y : IsOf name d) → name_number cs x.place ≡ name_number cs y.place
-    one_name name c d x y = one_number (name_number cs x.place) (name_number cs y.place) (name_in x.place x.within) (name_in y.place y.within) (name_of name c x ∙ sym (name_of name d y))
+    one_name name c d x y = one_at m.types rising.types_rise (name_number cs x.place) (name_number cs y.place) (name_in x.place x.within) (name_in y.place y.within) (name_of name c x ∙ sym (name_of name d y))
 
     -- the same class is the same definition
     one_body : (name : Text) (c d : Body) (x : IsOf name c) (y : IsOf name d) → class_at cs x.place ≡ class_at cs y.place → c ≡ d
@@ -139,10 +102,9 @@ module _ (m : Mentions) (rising : AreRising m) where
               let a = source n x.one x.one_in in
               let b = source n x.other x.other_in in
               let same = one_name n x.one x.other a b in
-              let number : name_number cs a.place < name = less_number (name_number cs a.place) name (name_in a.place a.within) (subst (λ (k : ℕ). k < length m.types) l.is.name_is (name_in l.is.place l.is.within)) (subst (λ (t : Text). text_cmp t (type_at m name) ≡ Less) (sym (name_of n x.one a)) less) in
+              let number : name_number cs a.place < name = (less_type m rising.types_rise (name_number cs a.place) name (name_in a.place a.within) (subst (λ (k : ℕ). k < length m.types) l.is.name_is (name_in l.is.place l.is.within))).1 (subst (λ (t : Text). text_cmp t (type_at m name) ≡ Less) (sym (name_of n x.one a)) less) in
               x.unequal (one_body n x.one x.other a b (equivalent_same a.place b.place a.within same (l.least a.place a.within number) (l.least b.place b.within (omega (arith, number, same)))))
-          before (Cycle n) x never = never
-          before (Exceeded k) x never = never
+          before v x never = never
 
       -- ---- one of each name
 
@@ -151,7 +113,7 @@ module _ (m : Mentions) (rising : AreRising m) where
       placed t k e = present_at places t k e
 
       source_place : (k : ℕ) → Contains (present places) k → k < length cs
-      source_place k has = let t = present_source places k has in (places_some cs places h t.0 k t.1).0
+      source_place k has = let t = present_source places k has in (places_some cs places h t.0 k t.2).0
 
       kept_within : (i : ℕ) → i < length (present places) → get_or (present places) i 0 < length cs
       kept_within i lt = source_place (get_or (present places) i 0) (Contains-get_or (present places) i 0 lt)
@@ -193,8 +155,7 @@ module _ (m : Mentions) (rising : AreRising m) where
 
       pub kept_rise : (i j : ℕ) → i < j → j < length (kept_classes cs places) → name_number (kept_classes cs places) i < name_number (kept_classes cs places) j
       kept_rise i j less lt =
-          let r = names_rise (name_number cs) places 0 (λ t k e. omega (arith, (places_some cs places h t k e).1)) i j less (omega (arith, lt, count_kept)) in
-          omega (arith, r, kept_name i (omega (arith, less, lt)), kept_name j lt)
+          omega (arith, (names_rise (name_number cs) places 0 (λ t k e. omega (arith, (places_some cs places h t k e).1)) i j less (omega (arith, lt, count_kept))), kept_name i (omega (arith, less, lt)), kept_name j lt)
 
   -- ---- classes by name
 
@@ -203,10 +164,8 @@ module _ (m : Mentions) (rising : AreRising m) where
     one_place : (i j : ℕ) → i < length cs → j < length cs → name_number cs i ≡ name_number cs j → i ≡ j
     one_place i j li lj e = elim (cases_order i j) [
       | inl same ↦ same
-      | inr other ↦ elim other [
-        | inl less ↦ absurd (omega (arith, rise i j less lj, e))
-        | inr more ↦ absurd (omega (arith, rise j i more li, e))
-      ]
+      | inr (inl less) ↦ absurd (omega (arith, rise i j less lj, e))
+      | inr (inr more) ↦ absurd (omega (arith, rise j i more li, e))
     ]
 
     pub names_differ : AreDistinct (map (λ c. c.name) cs)
@@ -224,14 +183,14 @@ module _ (m : Mentions) (rising : AreRising m) where
         let ei : get_or (map (definition_of m) cs) i d ≡ definition_of m (class_at cs i) = get_or-map (definition_of m) cs i no_class d first in
         let ej : get_or (map (definition_of m) cs) j d ≡ definition_of m (class_at cs j) = get_or-map (definition_of m) cs j no_class d few in
         let name : type_at m (name_number cs i) ≡ type_at m (name_number cs j) = ap (λ (x : Definition). x.0) (sym ei ∙ e ∙ ej) in
-        omega (arith, rise i j less few, one_number (name_number cs i) (name_number cs j) (name_in cs range i first) (name_in cs range j few) name)
+        omega (arith, rise i j less few, one_at m.types rising.types_rise (name_number cs i) (name_number cs j) (name_in cs range i first) (name_in cs range j few) name)
 
     pub are_kept : AreKept m cs
     are_kept = record {
       named = record {
         rising = rising.types_rise;
         names = name_in cs range;
-        parents_in = λ c has. all_suffix (λ p. p < length m.types) c.name (parent_numbers c) (subst (IsKnownClass m) has.2 (range has.0 c has.1)).types_in;
+        parents_in = λ c has. All-tail (λ p. p < length m.types) c.name (parent_numbers c) (subst (IsKnownClass m) has.2 (range has.0 c has.1)).types_in;
         distinct = names_differ;
       };
       rise = rise;
@@ -242,8 +201,7 @@ module _ (m : Mentions) (rising : AreRising m) where
     consistent name one other c d =
         let x = source cs range name one c in
         let y = source cs range name other d in
-        let place = one_place x.place y.place x.within y.within (one_name cs range name one other x y) in
-        one_body cs range name one other x y (ap (class_at cs) place)
+        one_body cs range name one other x y (ap (class_at cs) (one_place x.place y.place x.within y.within (one_name cs range name one other x y)))
 
     -- the first cycle is the first cause
     pub cycle_reported : (caps : Caps) (i : ℕ) → IsFirstCycle m cs i → IsFirstCause caps (map (definition_of m) cs) (Cycle (type_at m (name_number cs i)))

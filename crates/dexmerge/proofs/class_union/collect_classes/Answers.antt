@@ -28,6 +28,5 @@ returns c = λ m types j.
     let size : length owned ≡ c.len.result = omega (arith, c.len.ensures) in
     let own : ArePartsOf m owned c.split_at.result.0.now = subst (ArePartsOf m owned) (ap (λ (n : ℕ). take n c.args.remaps.now) size ∙ sym c.split_at.ensures.front) (owned_parts owned files m c.args.remaps.now j) in
     let rest : ArePartsOf m files c.split_at.result.1.now = subst (ArePartsOf m files) (ap (λ (n : ℕ). drop n c.args.remaps.now) size ∙ sym c.split_at.ensures.back) (file_parts owned files m c.args.remaps.now j) in
-    let all = c.in_ok-copy_parts.ensures m (flat_map definitions owned) rest (c.in_ok-take_parts.ensures.collected m [] own (c.in_ok-all.ensures m types)) in
     one_of_each m (flat_map definitions (owned ++ files)) c.copy_parts.new.self.classes.items c.copy_parts.new.self.is_name.items j.good.consistent
-    (subst (λ (l : List Definition). AreCollected m l c.copy_parts.new.self.classes.items c.copy_parts.new.self.is_name.items) (sym (flat_map-append definitions owned files)) all)
+    (subst (λ (l : List Definition). AreCollected m l c.copy_parts.new.self.classes.items c.copy_parts.new.self.is_name.items) (sym (flat_map-append definitions owned files)) (c.in_ok-copy_parts.ensures m (flat_map definitions owned) rest (c.in_ok-take_parts.ensures.collected m [] own (c.in_ok-all.ensures m types))))

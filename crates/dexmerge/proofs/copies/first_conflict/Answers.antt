@@ -1,4 +1,4 @@
-use Rattle.dexmerge.proofs.Common.{◌≡◌, ◌<◌, ℕ, ◌+◌, ◌∙◌, refl, sym, ap, subst, arith, length, name_number, false≢true}
+use Rattle.dexmerge.proofs.Common.{◌≡◌, ◌<◌, ℕ, ◌+◌, ◌∙◌, refl, sym, ap, subst, arith, length, name_number, false≢true, true}
 use Rattle.dexmerge.specs.{classes_of, lesser_of}
 use Rattle.dexmerge.proofs.CandidatePlaces.{name_at_place, count_classes}
 use Rattle.dexmerge.proofs.ConflictLaws.{IsLeastTo, equivalent_next, conflict_next, least_is}

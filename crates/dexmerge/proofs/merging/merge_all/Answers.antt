@@ -36,8 +36,7 @@ of_known-requires-clause-depths c =
 
 pub returns-clause-merged : goal.returns-clause-merged
 returns-clause-merged c =
-    let at = (goal.at.returns-clause-merged c).In_ok-classes in
     record {
       good = subst (λ (l : List Collection). IsGood c.args.caps.now (all_definitions l c.args.files.now)) c.deref.ensures.value c.in_ok-numbering.ensures.good.good;
-      collection = collection_is _ _ c.in_ok-classes.classes.items c.in_ok-of_known.field-0 (each at) c.in_ok-of_known.ensures;
+      collection = collection_is _ _ c.in_ok-classes.classes.items c.in_ok-of_known.field-0 (each ((goal.at.returns-clause-merged c).In_ok-classes)) c.in_ok-of_known.ensures;
     }

@@ -5,15 +5,13 @@ use Rattle.dexmerge.proofs.candidates.Candidate.greatest_short_string.Goals as g
 
 pub returns-in_err-greatest : goal.returns-in_err-greatest
 returns-in_err-greatest c = rw c.from_residual.ensures (λ cap.
-    let r = c.args.self.now.remap.now in
     let x = c.args.self.now.class.now in
     let none : IsGreatest (members_short_strings x.members) None = ap members_short_strings (sym c.members.ensures) ∙ c.in_err-greatest.ensures in
-    none_named r x c.requires cap none)
+    none_named c.args.self.now.remap.now x c.requires cap none)
 
 pub returns : goal.returns
 returns c =
-    let r = c.args.self.now.remap.now in
     let x = c.args.self.now.class.now in
     let g = c.in_ok-greatest.greatest in
     let is : IsGreatest (members_short_strings x.members) (Some g) = subst (λ (y : NumberedMembers). IsGreatest (members_short_strings y) (Some g)) c.members.ensures c.in_ok-greatest.ensures in
-    image_decides r x c.requires g c.image.result c.keeps_order.ensures is (sym c.image.ensures)
+    image_decides c.args.self.now.remap.now x c.requires g c.image.result c.keeps_order.ensures is (sym c.image.ensures)

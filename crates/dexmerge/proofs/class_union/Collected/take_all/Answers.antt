@@ -1,47 +1,39 @@
-use Rattle.dexmerge.proofs.Common.{◌≡◌, ◌∙◌, ◌++◌, List, length, map, sym, subst, arith, Contains, map-id, YieldsList-from_vec, YieldsList-turn, YieldsList-end, definitions, mentions, NumberedClass, definition_of}
+use Rattle.dexmerge.proofs.Common.{◌∙◌, ◌++◌, List, length, map, sym, subst, arith, Contains, map-id, YieldsList-from_vec, YieldsList-turn, YieldsList-end, definitions, mentions, NumberedClass, definition_of}
 use Rattle.dexmerge.specs.internal.Collecting.{AreCollected}
 use Rattle.dexmerge.proofs.PartMembers.{class_known}
 use Rattle.dexmerge.proofs.Collected.{class_is_member, name_within, part_more, part_done}
 use Rattle.dexmerge.proofs.class_union.Collected.take_all.Goals as goal
+use Rattle.dexmerge.proofs.class_union.Collected.take_all.Goals.{In-Some}
+
+-- the class is one of the part
+member : (c : In-Some) → Contains c.into_classes-class-items.result.items c.in-Some.class
+member c =
+    let t = YieldsList-turn (YieldsList-from_vec {s = c.into_iter-class-iterator.result} c.into_classes-class-items.result.items c.into_iter-class-iterator.ensures.into_iter_gives.0 (omega (arith, c.into_iter-class-iterator.ensures.into_iter_gives.1))) c.loop-class.yielded c.loop-class.class-iterator c.loop-class.yielded_by c.next.result c.next.new.self c.in-Some.class c.in-Some.is c.next.ensures.steps in
+    (length c.loop-class.yielded, t.0, sym t.1)
 
 pub take-requires-clause-places : goal.take-requires-clause-places
 take-requires-clause-places c =
-    let K = c.args.part in
-    let x = c.in-Some.class in
-    let ps = c.into_classes-class-items.result.items in
-    let t = YieldsList-turn (YieldsList-from_vec {s = c.into_iter-class-iterator.result} ps c.into_iter-class-iterator.ensures.into_iter_gives.0 (omega (arith, c.into_iter-class-iterator.ensures.into_iter_gives.1))) c.loop-class.yielded c.loop-class.class-iterator c.loop-class.yielded_by c.next.result c.next.new.self x c.in-Some.is c.next.ensures.steps in
-    let has : Contains ps x = (length c.loop-class.yielded, t.0, sym t.1) in
-    c.places_law.ensures c.requires.0 K c.args.remap.now x c.requires.1 (class_known K ps x c.into_classes-class-items.ensures has) (class_is_member K ps x c.into_classes-class-items.ensures has)
+    let has = member (goal.at.take-requires-clause-places c).In-Some in
+    c.places_law.ensures c.requires.0 c.args.part c.args.remap.now c.in-Some.class c.requires.1 (class_known _ _ _ c.into_classes-class-items.ensures has) (class_is_member _ _ _ c.into_classes-class-items.ensures has)
 
 pub take-requires-clause-name : goal.take-requires-clause-name
 take-requires-clause-name c =
-    let K = c.args.part in
-    let x = c.in-Some.class in
-    let ps = c.into_classes-class-items.result.items in
-    let t = YieldsList-turn (YieldsList-from_vec {s = c.into_iter-class-iterator.result} ps c.into_iter-class-iterator.ensures.into_iter_gives.0 (omega (arith, c.into_iter-class-iterator.ensures.into_iter_gives.1))) c.loop-class.yielded c.loop-class.class-iterator c.loop-class.yielded_by c.next.result c.next.new.self x c.in-Some.is c.next.ensures.steps in
-    let has : Contains ps x = (length c.loop-class.yielded, t.0, sym t.1) in
-    name_within c.renumbering_law.ensures.same c.renumbering_law.ensures.all c.requires.0 K c.args.remap.now c.requires.1 c.is_good.ensures.formed x c.loop-class.self.is_name.items (class_known K ps x c.into_classes-class-items.ensures has)
-    (c.loop-class.invariant.count ∙ c.requires.2)
+    name_within c.renumbering_law.ensures.same c.renumbering_law.ensures.all c.requires.0 c.args.part c.args.remap.now c.requires.1 c.is_good.ensures.formed c.in-Some.class c.loop-class.self.is_name.items
+    (class_known _ _ _ c.into_classes-class-items.ensures (member (goal.at.take-requires-clause-name c).In-Some)) (c.loop-class.invariant.count ∙ c.requires.2)
 
 pub loop-class-preserved : goal.loop-class-preserved
 loop-class-preserved c =
-    let K = c.args.part in
-    let x = c.in-Some.class in
-    let ps = c.into_classes-class-items.result.items in
-    let t = YieldsList-turn (YieldsList-from_vec {s = c.into_iter-class-iterator.result} ps c.into_iter-class-iterator.ensures.into_iter_gives.0 (omega (arith, c.into_iter-class-iterator.ensures.into_iter_gives.1))) c.loop-class.yielded c.loop-class.class-iterator c.loop-class.yielded_by c.next.result c.next.new.self x c.in-Some.is c.next.ensures.steps in
-    let has : Contains ps x = (length c.loop-class.yielded, t.0, sym t.1) in
+    let has = member (goal.at.loop-class-preserved c).In-Some in
     record {
       count = c.in_ok-take.ensures.count ∙ c.loop-class.invariant.count;
-      collected = λ m D part h. part_more c.renumbering_law.ensures.same c.renumbering_law.ensures.all m K c.args.remap.now part c.is_good.ensures.formed D c.loop-class.yielded x c.loop-class.self c.take.new.self
-          (class_known K ps x c.into_classes-class-items.ensures has) (class_is_member K ps x c.into_classes-class-items.ensures has) c.in_ok-take.ensures.added (c.loop-class.invariant.collected m D part h);
+      collected = λ m D part h. part_more c.renumbering_law.ensures.same c.renumbering_law.ensures.all m c.args.part c.args.remap.now part c.is_good.ensures.formed D c.loop-class.yielded c.in-Some.class c.loop-class.self c.take.new.self
+          (class_known _ _ _ c.into_classes-class-items.ensures has) (class_is_member _ _ _ c.into_classes-class-items.ensures has) c.in_ok-take.ensures.added (c.loop-class.invariant.collected m D part h);
     }
 
 pub returns-clause-collected : goal.returns-clause-collected
 returns-clause-collected c = λ m D part h.
     let K = c.args.part in
-    let own = mentions (definitions K) in
     let ps = c.into_classes-class-items.result.items in
     let t = YieldsList-end (YieldsList-from_vec {s = c.into_iter-class-iterator.result} ps c.into_iter-class-iterator.ensures.into_iter_gives.0 (omega (arith, c.into_iter-class-iterator.ensures.into_iter_gives.1))) c.loop-class.yielded c.loop-class.class-iterator c.loop-class.yielded_by c.next.result c.next.new.self c.in-None.is c.next.ensures.steps in
-    let all : c.loop-class.yielded ≡ ps = sym (map-id c.loop-class.yielded) ∙ t.0 in
     part_done m D K ps c.loop-class.self.classes.items c.loop-class.self.is_name.items c.into_classes-class-items.ensures
-    (subst (λ (l : List NumberedClass). AreCollected m (D ++ map (definition_of own) l) c.loop-class.self.classes.items c.loop-class.self.is_name.items) all (c.loop-class.invariant.collected m D part h))
+    (subst (λ (l : List NumberedClass). AreCollected m (D ++ map (definition_of (mentions (definitions K))) l) c.loop-class.self.classes.items c.loop-class.self.is_name.items) (sym (map-id c.loop-class.yielded) ∙ t.0) (c.loop-class.invariant.collected m D part h))

@@ -22,9 +22,6 @@ pub record AreArranged {X : Type 0} (old now : List X) (order places owners : Li
   pub others : (i : ℕ) → i < length old → ((j : ℕ) → j < k → get_or order j 0 ≢ i) → IsMoved old now places owners k i
   pub owned : (p : ℕ) → k ≤ p → p < length old → IsOwned places owners (length old) p
 
-at_place : (n i d : ℕ) → i < n → get_or (range_with_len 0 n) i d ≡ i
-at_place n i d lt = omega (arith, get_or-range_with_len 0 n i d lt)
-
 -- at first each element is at its own place
 pub none_arranged : {X : Type 0} (old : List X) (order : List ℕ) (n : ℕ) (places owners : List ℕ) → n ≡ length old → places ≡ range_with_len 0 n → owners ≡ places → AreArranged old old order places owners 0
 none_arranged old order n places owners count is same = record {
@@ -44,7 +41,7 @@ none_arranged old order n places owners count is same = record {
 }
   where
     own : (i : ℕ) → i < length old → get_or places i 0 ≡ i
-    own i lt = ap (λ (l : List ℕ). get_or l i 0) is ∙ at_place n i 0 (omega (arith, lt, count))
+    own i lt = omega (arith, ap (λ (l : List ℕ). get_or l i 0) is, get_or-range_with_len 0 n i 0 (omega (arith, lt, count)))
 
 module _ {X : Type 0} (old now new : List X) (order places owners : List ℕ) (k : ℕ) (distinct : AreDistinct order) (many : length order ≡ length old) (lt : k < length order) (all : All (λ i. i < length old) order) (h : AreArranged old now order places owners k) where
   -- the element that belongs at place k, its place now, and the element that is at place k instead
@@ -75,11 +72,10 @@ module _ {X : Type 0} (old now new : List X) (order places owners : List ℕ) (k
     moved_more : (i : ℕ) → i < length old → i ≢ wanted → IsMoved old now places owners k i → (i ≡ owner) ⊎ (i ≢ owner) → IsMoved old new (slice_set places owner place) (slice_set owners place owner) (k + 1) i
     moved_more i few apart was (inl same) =
         let at : get_or (slice_set places owner place) i 0 ≡ place = ap (λ (n : ℕ). get_or (slice_set places owner place) n 0) same ∙ get_or-set_same places owner place 0 (omega (arith, owner_owned.was_within, h.place_count)) in
-        let there : k ≢ place = is_elsewhere k i (sym same) apart in
         let here : get_or places i 0 ≡ k = ap (λ (n : ℕ). get_or places n 0) same ∙ owner_owned.placed in
         record {
           within = omega (arith, at, moved.within);
-          after = omega (arith, at, moved.after, there);
+          after = omega (arith, at, moved.after, is_elsewhere k i (sym same) apart);
           owned = ap (λ (n : ℕ). get_or (slice_set owners place owner) n 0) at ∙ get_or-set_same owners place owner 0 (omega (arith, moved.within, h.owner_count)) ∙ sym same;
           same = λ d. ap (λ (n : ℕ). get_or new n d) at ∙ swapped.1 d ∙ ap (λ (n : ℕ). get_or now n d) (sym here) ∙ was.same d;
         }

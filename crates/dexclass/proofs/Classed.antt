@@ -54,15 +54,13 @@ module _ (m : Mentions) (cs : List NumberedClass) (named : AreNamed m cs) where
         let k = Contains-map_source (name_at D) (parents_of classes i) name has in
         let s = parent_source c k.0 (subst (λ (l : List ℕ). Contains l k.0) (at_class i lt) k.1) in
         let at = places_some cs places h s.0 k.0 s.2 in
-        let name_p : name ≡ type_at m s.0 = sym k.2 ∙ name_is k.0 at.0 ∙ ap (type_at m) at.1 in
-        let member : Contains D (definition_of m c) = Contains-map (definition_of m) cs c (Contains-get_or cs i no_class lt) in
         let own : same_text (definition_of m c).0 (name_at D i) ≡ true = same_from_equal (type_at m c.name) (name_at D i) (sym (name_is i lt)) in
-        let parent : Contains (parents (definition_of m c).1) name = subst (λ (l : List Text). Contains l name) (sym (parent_types c)) (subst (Contains (map (type_at m) (parent_numbers c))) (sym name_p) (Contains-map (type_at m) (parent_numbers c) s.0 s.1)) in
+        let parent : Contains (parents (definition_of m c).1) name = subst (λ (l : List Text). Contains l name) (sym (parent_types c)) (subst (Contains (map (type_at m) (parent_numbers c))) (sym (sym k.2 ∙ name_is k.0 at.0 ∙ ap (type_at m) at.1)) (Contains-map (type_at m) (parent_numbers c) s.0 s.1)) in
         let defined : is_defined D name ≡ true =
         let d = get_or cs k.0 no_class in
         list_any-member (λ x. same_text x.0 name) D (definition_of m d) (Contains-map (definition_of m) cs d (Contains-get_or cs k.0 no_class at.0)) (same_from_equal (type_at m d.name) name (sym (name_is k.0 at.0) ∙ k.2)) in
         Contains-filter (is_defined D) (flat_map (λ d. parents d.1) (filter (λ d. same_text d.0 (name_at D i)) D)) name
-        (Contains-flat_map (λ d. parents d.1) (filter (λ d. same_text d.0 (name_at D i)) D) (definition_of m c) name (Contains-filter (λ d. same_text d.0 (name_at D i)) D (definition_of m c) member own) parent)
+        (Contains-flat_map (λ d. parents d.1) (filter (λ d. same_text d.0 (name_at D i)) D) (definition_of m c) name (Contains-filter (λ d. same_text d.0 (name_at D i)) D (definition_of m c) (Contains-map (definition_of m) cs c (Contains-get_or cs i no_class lt)) own) parent)
         defined
 
     -- classes of one name are one
@@ -70,8 +68,7 @@ module _ (m : Mentions) (cs : List NumberedClass) (named : AreNamed m cs) where
     one_class c i member lt e =
         let at : get_or cs member.0 no_class ≡ c = get_or_default cs member.0 no_class c member.1 ∙ member.2 in
         let number : name_number cs member.0 ≡ name_number cs i = one_number _ _ (named.names member.0 member.1) (named.names i lt) (ap (λ (x : NumberedClass). type_at m x.name) at ∙ e ∙ name_is i lt) in
-        let place : member.0 ≡ i = one_place (λ (x : NumberedClass). x.name) cs (seen_apart (λ (x : NumberedClass). x.name) cs named.distinct) member.0 i no_class member.1 lt number in
-        sym at ∙ ap (λ (k : ℕ). get_or cs k no_class) place
+        sym at ∙ ap (λ (k : ℕ). get_or cs k no_class) (one_place (λ (x : NumberedClass). x.name) cs (seen_apart (λ (x : NumberedClass). x.name) cs named.distinct) member.0 i no_class member.1 lt number)
 
     -- and what is above is a defined parent
     of_above : (i : ℕ) (name : Text) → i < length cs → Contains (above D (name_at D i)) name → Contains (map (name_at D) (parents_of classes i)) name
@@ -80,21 +77,16 @@ module _ (m : Mentions) (cs : List NumberedClass) (named : AreNamed m cs) where
         let d = Contains-flat_map_source (λ d. parents d.1) (filter (λ d. same_text d.0 (name_at D i)) D) name f.0 in
         let own = Contains-filter_source (λ d. same_text d.0 (name_at D i)) D d.0 d.1 in
         let c = Contains-map_source (definition_of m) cs d.0 own.0 in
-        let first : type_at m c.0.name ≡ d.0.0 = ap (λ (x : Definition). x.0) c.2 in
-        let is : c.0 ≡ get_or cs i no_class = one_class c.0 i c.1 lt (first ∙ texts_same d.0.0 (name_at D i) (sym own.1)) in
-        let body : Contains (parents (definition_of m c.0).1) name = subst (λ (x : Definition). Contains (parents x.1) name) (sym c.2) d.2 in
-        let p = Contains-map_source (type_at m) (parent_numbers c.0) name (subst (λ (l : List Text). Contains l name) (parent_types c.0) body) in
+        let is : c.0 ≡ get_or cs i no_class = one_class c.0 i c.1 lt ((ap (λ (x : Definition). x.0) c.2) ∙ texts_same d.0.0 (name_at D i) (sym own.1)) in
+        let p = Contains-map_source (type_at m) (parent_numbers c.0) name (subst (λ (l : List Text). Contains l name) (parent_types c.0) (subst (λ (x : Definition). Contains (parents x.1) name) (sym c.2) d.2)) in
         let e = list_any-source (λ x. same_text x.0 name) D f.1 in
         let k = Contains-map_source (definition_of m) cs e.0 e.1 in
-        let other : get_or cs k.1.0 no_class ≡ k.0 = get_or_default cs k.1.0 no_class k.0 k.1.1 ∙ k.1.2 in
-        let named_p : type_at m (name_number cs k.1.0) ≡ type_at m p.0 = ap (λ (x : NumberedClass). type_at m x.name) other ∙ ap (λ (x : Definition). x.0) k.2 ∙ texts_same e.0.0 name (sym e.2) ∙ sym p.2 in
-        let number : name_number cs k.1.0 ≡ p.0 = one_number _ _ (named.names k.1.0 k.1.1) (All-contains (λ q. q < length m.types) (parent_numbers c.0) p.0 (named.parents_in c.0 c.1) p.1) named_p in
-        let some = some_of (get_or places p.0 None) (subst (λ (n : ℕ). IsSome (get_or places n None)) number (places_all cs places h k.1.0 k.1.1)) in
+        let named_p : type_at m (name_number cs k.1.0) ≡ type_at m p.0 = ap (λ (x : NumberedClass). type_at m x.name) (get_or_default cs k.1.0 no_class k.0 k.1.1 ∙ k.1.2) ∙ ap (λ (x : Definition). x.0) k.2 ∙ texts_same e.0.0 name (sym e.2) ∙ sym p.2 in
+        let some = some_of (get_or places p.0 None) (subst (λ (n : ℕ). IsSome (get_or places n None)) (one_number _ _ (named.names k.1.0 k.1.1) (All-contains (λ q. q < length m.types) (parent_numbers c.0) p.0 (named.parents_in c.0 c.1) p.1) named_p) (places_all cs places h k.1.0 k.1.1)) in
         let at = places_some cs places h p.0 some.0 some.1 in
         let listed : Contains (defined_parents places c.0) some.0 = let ps = map (λ q. get_or places q None) (parent_numbers c.0) in let q = subst (Contains ps) some.1 (Contains-map (λ q. get_or places q None) (parent_numbers c.0) p.0 p.1) in
         present_has ps q.0 some.0 q.1 (get_or_default ps q.0 None (Some some.0) q.1 ∙ q.2) in
-        let there : Contains (parents_of classes i) some.0 = subst (λ (l : List ℕ). Contains l some.0) (ap (defined_parents places) is ∙ sym (at_class i lt)) listed in
-        subst (Contains (map (name_at D) (parents_of classes i))) (name_is some.0 at.0 ∙ ap (type_at m) at.1 ∙ p.2) (Contains-map (name_at D) (parents_of classes i) some.0 there)
+        subst (Contains (map (name_at D) (parents_of classes i))) (name_is some.0 at.0 ∙ ap (type_at m) at.1 ∙ p.2) (Contains-map (name_at D) (parents_of classes i) some.0 (subst (λ (l : List ℕ). Contains l some.0) (ap (defined_parents places) is ∙ sym (at_class i lt)) listed))
 
     pub classes_of : AreClassesOf D classes
     classes_of = record {

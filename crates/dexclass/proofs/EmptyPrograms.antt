@@ -11,7 +11,7 @@ nothing_mentioned : mentions [] ≡ no_mentions
 unfolding mentions
 nothing_mentioned = refl
 
-nothing_weighs : weight [] ≡ 1024
+pub nothing_weighs : weight [] ≡ 1024
 unfolding weight mentions
 nothing_weighs = refl
 
@@ -37,9 +37,6 @@ good_nothing = record {
   fits = fits_nothing;
 }
 
-formed_nothing : AreWellFormed []
-formed_nothing d c = absurd (Contains-nil d c)
-
 -- a collection without members has no definitions
 no_definitions : definitions (finite.empty {R = text_cmp}) ≡ []
 no_definitions = nil_from_length (definitions finite.empty) (sym (finite.len-entries finite.empty) ∙ finite.len-empty text_cmp Body)
@@ -49,14 +46,13 @@ pub empty_program : (m : Mentions) (cs : List NumberedClass) → m ≡ record { 
 empty_program m cs e f =
     let K = collection_of m cs in
     let none : definitions K ≡ [] = ap (λ l. definitions (collection_of m l)) f ∙ no_definitions in
-    let is : m ≡ mentions (definitions K) = e ∙ sym nothing_mentioned ∙ ap mentions (sym none) in
     record {
-      mentions_are = is;
+      mentions_are = (e ∙ sym nothing_mentioned ∙ ap mentions (sym none));
       classes_are = record {
         known = subst (λ l. All (IsKnownClass (mentions (definitions K))) l) (sym f) (λ k d lt. absurd (omega arith));
         are = ap (map (definition_of (mentions (definitions K)))) f ∙ sym nothing_in_order ∙ ap in_class_order (sym none);
       };
       good = subst (IsGood greatest_caps) (sym none) good_nothing;
-      formed = subst AreWellFormed (sym none) formed_nothing;
+      formed = subst AreWellFormed (sym none) (λ d c. absurd (Contains-nil d c));
       weight_is = sym nothing_weighs ∙ ap weight (sym none);
     }

@@ -89,8 +89,7 @@ module _ (b : List ℕ) (off count : ℕ) (list : HasInterfaceList b off) (count
   pub counted_indices : ushorts_at b (off + 4) count ≡ interface_indices b off
   counted_indices = elim list.1 [
     | inl none ↦
-        let few : count ≡ 0 = counted ∙ ap (λ (o : ℕ). length (interface_indices b o)) none.0 in
-        ap (ushorts_at b (off + 4)) few ∙ sym (ap (interface_indices b) none.0)
+        ap (ushorts_at b (off + 4)) (counted ∙ ap (λ (o : ℕ). length (interface_indices b o)) none.0) ∙ sym (ap (interface_indices b) none.0)
     | inr there ↦ ap (ushorts_at b (off + 4)) (counted_room there.0).count ∙ sym (listed_interfaces b off there.0)
   ]
 

@@ -1,13 +1,9 @@
 -- Marks on one list of symbols after the other.
-use Rattle.dexclass.proofs.Common.{◌≡◌, ℕ, ◌+◌, ◌<◌, ◌==◌, Bool, ◌||◌, ◌&&◌, List, [], ◌∷◌, ◌++◌, length, take, get_or, ap, sym, ◌∙◌, subst, All, flat_map, take_more, append-nil, flat_map-append, Marks, SymbolKind, Use, HasMark, same_kind, occurs, AreMarkedToo, all_back, still_all}
+use Rattle.dexclass.proofs.Common.{◌≡◌, ℕ, ◌+◌, ◌<◌, ◌==◌, Bool, ◌||◌, ◌&&◌, List, [], ◌∷◌, ◌++◌, length, take, get_or, ap, sym, ◌∙◌, subst, All, flat_map, take_more, append-nil, flat_map-append, Marks, Use, HasMark, same_kind, occurs, AreMarkedToo, all_back, still_all}
 use Rattle.std.proofs.lemmas.List.Folds.{list_any-append}
 use Rattle.dexclass.specs.{HaveMarked}
 
 -- ---- one list after the other
-
--- what occurs in two lists
-occurs_both : (us vs : List Use) (j : SymbolKind) (i : ℕ) → occurs (us ++ vs) j i ≡ (occurs us j i || occurs vs j i)
-occurs_both us vs j i = list_any-append (λ v. same_kind v.kind j && v.number == i) us vs
 
 -- there is a mark for each after those that were marked
 pub rest_marked : (us vs : List Use) (a b : Marks) → AreMarkedToo us a b → All (HasMark a) (us ++ vs) → All (HasMark b) vs
@@ -17,7 +13,7 @@ rest_marked us vs a b h all = still_all us vs a b h (all_back (HasMark a) us vs 
 
 -- just these were marked, and others are now
 pub have_more : (us vs : List Use) (a b : Marks) → HaveMarked us a → AreMarkedToo vs a b → HaveMarked (us ++ vs) b
-have_more us vs a b before more j i = more.each j i ∙ ap (λ (t : Bool). t || occurs vs j i) (before j i) ∙ sym (occurs_both us vs j i)
+have_more us vs a b before more j i = more.each j i ∙ ap (λ (t : Bool). t || occurs vs j i) (before j i) ∙ sym (list_any-append (λ v. same_kind v.kind j && v.number == i) us vs)
 
 -- the symbols of one member more
 uses_more : {X : Type 0} (uses : X → List Use) (xs : List X) (i : ℕ) (d : X) → i < length xs → d ≡ get_or xs i d → flat_map uses (take i xs) ++ uses d ≡ flat_map uses (take (i + 1) xs)

@@ -1,5 +1,5 @@
 -- Classes in the order of their definitions.
-use Rattle.dexclass.proofs.Common.{◌≡◌, ℕ, ◌<◌, true, List, [], length, get_or, map, refl, sym, ap, ◌∙◌, subst, arith, Option, Some, None, All, Contains, range_with_len, length-map, get_or-map, get_or_default, length-range_with_len, All-contains, Contains-get_or, rises, AreDistinct, Text, Definition, IsAcyclic, depth, in_class_order, Mentions, Rises-from_rises, AreDistinct-from_Rises, Contains-map, Contains-map_source, AreDistinct-map_source, AreWithin, AreDepths, AreClassesOf, AreDepthsOf, AreNamesOf, all_known, map_both}
+use Rattle.dexclass.proofs.Common.{◌≡◌, ℕ, ◌<◌, true, List, [], length, get_or, map, refl, sym, ap, ◌∙◌, subst, arith, Option, Some, None, All, Contains, range_with_len, length-map, get_or-map, get_or_default, length-range_with_len, All-contains, Contains-get_or, rises, AreDistinct, Text, Definition, IsAcyclic, depth, in_class_order, Mentions, Rises-from_rises, AreDistinct-from_Rises, Contains-map, Contains-map_source, AreDistinct-map_source, AreDepths, AreClassesOf, AreDepthsOf, AreNamesOf, all_known, map_both}
 use Rattle.std.specs.List.Sorted.{IsPermutation}
 use Rattle.std.proofs.lemmas.List.Sorted.{Contains-permutation, IsPermutation-sym, length_permutation}
 use Rattle.dexorder.specs.Places.{class_place, class_cmp}
@@ -20,10 +20,8 @@ module _ (m : Mentions) (cs : List NumberedClass) (named : AreNamed m cs) where
       let few : j < length cs = omega (arith, lt, length-map D (λ (x : Definition). x.0), length-map cs (definition_of m)) in
       let first : i < length cs = omega (arith, few, less) in
       let ei : get_or (map (λ (x : Definition). x.0) D) i d ≡ type_at m (name_number cs i) = get_or_default (map (λ (x : Definition). x.0) D) i d [] (omega (arith, less, lt)) ∙ name_is m cs named i first in
-      let ej : get_or (map (λ (x : Definition). x.0) D) j d ≡ type_at m (name_number cs j) = get_or_default (map (λ (x : Definition). x.0) D) j d [] lt ∙ name_is m cs named j few in
-      let same : name_number cs i ≡ name_number cs j = one_number m cs named _ _ (named.names i first) (named.names j few) (sym ei ∙ e ∙ ej) in
       named.distinct i j 0 less (omega (arith, few, length-map cs (λ (c : NumberedClass). c.name)))
-      (get_or-map (λ (c : NumberedClass). c.name) cs i no_class 0 first ∙ same ∙ sym (get_or-map (λ (c : NumberedClass). c.name) cs j no_class 0 few))
+      (get_or-map (λ (c : NumberedClass). c.name) cs i no_class 0 first ∙ (one_number m cs named _ _ (named.names i first) (named.names j few) (sym ei ∙ e ∙ (get_or_default (map (λ (x : Definition). x.0) D) j d [] lt ∙ name_is m cs named j few))) ∙ sym (get_or-map (λ (c : NumberedClass). c.name) cs j no_class 0 few))
 
   -- the classes at places are the definitions there
   arranged_are : (order : List ℕ) → All (λ i. i < length cs) order → map (definition_of m) (map (λ i. get_or cs i no_class) order) ≡ map (λ i. get_or D i (definition_of m no_class)) order
@@ -33,9 +31,6 @@ module _ (m : Mentions) (cs : List NumberedClass) (named : AreNamed m cs) where
   module _ (H : List (List ℕ)) (h : IsHierarchy cs H) where
     pub are_classes : AreClassesOf D H
     are_classes = subst (AreClassesOf D) (sym (parents_are cs H h)) (classes_of m cs named h.by_type h.are)
-
-    pub are_within : AreWithin H
-    are_within = are_classes.within
 
     -- the depths that were found are those of the definitions
     pub depths_are : (depths : List (Option ℕ)) → AreDepths H depths → IsAcyclic D → AreDepthsOf D depths
@@ -47,17 +42,15 @@ module _ (m : Mentions) (cs : List NumberedClass) (named : AreNamed m cs) where
     count = length-map cs (λ (c : NumberedClass). get_or by_name c.name None) ∙ sym (length-map cs (definition_of m));
     each = λ i lt.
         let few : i < length cs = omega (arith, lt, length-map cs (definition_of m)) in
-        let member : Contains D (definition_of m (get_or cs i no_class)) = Contains-map (definition_of m) cs (get_or cs i no_class) (Contains-get_or cs i no_class few) in
         get_or-map (λ (c : NumberedClass). get_or by_name c.name None) cs i no_class None few
-        ∙ h.each (definition_of m (get_or cs i no_class)) member (name_number cs i) (named.names i few) refl
+        ∙ h.each (definition_of m (get_or cs i no_class)) (Contains-map (definition_of m) cs (get_or cs i no_class) (Contains-get_or cs i no_class few)) (name_number cs i) (named.names i few) refl
         ∙ ap (λ (t : Text). Some (depth D t)) (sym (name_is m cs named i few));
   }
 
   -- each name has a place there
   pub known_within : (by_name : List (Option ℕ)) → AreDepthsByName m D by_name → All (λ c. c.name < length by_name) cs
   known_within by_name h i d lt =
-      let at : (get_or cs i d).name ≡ name_number cs i = ap (λ (c : NumberedClass). c.name) (get_or_default cs i d no_class lt) in
-      omega (arith, named.names i lt, h.count, at)
+      omega (arith, named.names i lt, h.count, ap (λ (c : NumberedClass). c.name) (get_or_default cs i d no_class lt))
 
   module _ (depths : List (Option ℕ)) (names order : List ℕ) (e : names ≡ map (λ c. c.name) cs) (p : IsPermutation (range_with_len 0 (length names)) order) (r : rises class_cmp (map (class_place depths names) order) ≡ true) where
     -- no place is there twice
@@ -84,6 +77,5 @@ module _ (m : Mentions) (cs : List NumberedClass) (named : AreNamed m cs) where
 
     pub ordered_are : AreDepthsOf D depths → (arranged : List NumberedClass) → arranged ≡ map (λ i. get_or cs i no_class) order → map (definition_of m) arranged ≡ in_class_order D
     ordered_are a arranged is =
-        let count : length names ≡ length D = length_names ∙ sym (length-map cs (definition_of m)) in
         ap (map (definition_of m)) is ∙ arranged_are order order_within
-        ∙ same_order D depths names a (subst (AreNamesOf D) (sym e) (names_of m cs named)) (definition_of m no_class) order names_apart (subst (λ (n : ℕ). IsPermutation (range_with_len 0 n) order) count p) r
+        ∙ same_order D depths names a (subst (AreNamesOf D) (sym e) (names_of m cs named)) (definition_of m no_class) order names_apart (subst (λ (n : ℕ). IsPermutation (range_with_len 0 n) order) (length_names ∙ sym (length-map cs (definition_of m))) p) r

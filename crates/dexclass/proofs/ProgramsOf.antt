@@ -21,11 +21,9 @@ module _ (D E : List Definition) (same : AreSame D E) (acyclic : IsAcyclic D) wh
   -- lists of the same members, of which no two have one name, give one list
   pub one_class_order : AreDistinct (map (λ d. d.0) D) → AreDistinct (map (λ d. d.0) E) → in_class_order D ≡ in_class_order E
   one_class_order apart other =
-      let first : Rises (definition_cmp D) (in_class_order D) = Rises-mapped place_cmp (class_place D) (in_class_order D) (class_places-rise D) in
       let places : map (class_place E) (in_class_order E) ≡ map (class_place D) (in_class_order E) =
       mapped_equal (class_place E) (class_place D) (in_class_order E) (λ d c. sym (one_place d ((same d).1 (in_class_order-only E d c)))) in
-      let second : Rises (definition_cmp D) (in_class_order E) = Rises-mapped place_cmp (class_place D) (in_class_order E) (subst (Rises place_cmp) places (class_places-rise E)) in
-      Rises-same (definition_cmp D) (definition_total D) (in_class_order D) (in_class_order E) first second
+      Rises-same (definition_cmp D) (definition_total D) (in_class_order D) (in_class_order E) (Rises-mapped place_cmp (class_place D) (in_class_order D) (class_places-rise D)) (Rises-mapped place_cmp (class_place D) (in_class_order E) (subst (Rises place_cmp) places (class_places-rise E)))
       (λ d c. in_class_order-has E d other ((same d).0 (in_class_order-only D d c)))
       (λ d c. in_class_order-has D d apart ((same d).1 (in_class_order-only E d c)))
 
@@ -34,9 +32,7 @@ pub weight_parts : (m : Mentions) (cs : List NumberedClass) → m ≡ mentions (
 unfolding weight
 weight_parts m cs e =
     let D = map (definition_of m) cs in
-    let mentioned : mentions_weight m ≡ mentions_weight (mentions D) = ap mentions_weight e in
-    let bodies : sum_by (λ (d : Definition). body_weight d.1) D ≡ sum_by (λ (c : NumberedClass). body_weight (definition_of m c).1) cs = sum_by-map (λ (d : Definition). body_weight d.1) (definition_of m) cs in
-    omega (arith, mentioned, bodies)
+    omega (arith, ap mentions_weight e, sum_by-map (λ (d : Definition). body_weight d.1) (definition_of m) cs)
 
 module _ (m : Mentions) (cs : List NumberedClass) (h : AreMergeable m cs) (numbering : IsNumbering m) where
   abbrev D : List Definition

@@ -48,8 +48,7 @@ module _ (xs : List Text) (rising : rises text_cmp xs ≡ true) where
   one_list (i ∷ is) (j ∷ js) f g e =
       let first : get_or xs i [] ≡ get_or xs j [] = cc in
       let rest : map (λ k. get_or xs k []) is ≡ map (λ k. get_or xs k []) js = cc in
-      let here = one_at i j (All-head (λ i. i < length xs) i is f) (All-head (λ i. i < length xs) j js g) first in
-      λ k. here k ∷ (one_list is js (All-tail (λ i. i < length xs) i is f) (All-tail (λ i. i < length xs) j js g) rest) k
+      λ k. (one_at i j (All-head (λ i. i < length xs) i is f) (All-head (λ i. i < length xs) j js g) first) k ∷ (one_list is js (All-tail (λ i. i < length xs) i is f) (All-tail (λ i. i < length xs) j js g) rest) k
   one_list x v f g e = absurd cc
 
   pub one_optional : (o p : Option ℕ) → All (λ i. i < length xs) (option_to_list o) → All (λ i. i < length xs) (option_to_list p) → option_map (λ i. get_or xs i []) o ≡ option_map (λ i. get_or xs i []) p → o ≡ p

@@ -34,10 +34,6 @@ module _ (b : List ℕ) (m : Mentions) (pools : ArePools b m) where
   pub type_is : (i : ℕ) (t : Text) → TypeRow b i t → t ≡ type_at m i
   type_is i t row = one_type b i t (type_at m i) row (pools.types_are.each i [] row.row)
 
-  -- and a string row
-  pub text_is : (i : ℕ) (s : Text) → StringRow b i s → s ≡ text_at m i
-  text_is i s row = one_string b i s (text_at m i) row (pools.texts_are.each i [] row.row)
-
   -- an index that may be none
   optional_encoded : (Row : List ℕ → ℕ → Text → Type 0) (at : ℕ → Text) → ((i : ℕ) (t : Text) → Row b i t → t ≡ at i) → (i : ℕ) (v : Bool) → (i == no_index) ≡ v
       → (t : Option Text) → IndexOrNone Row b i t → IndexOrNone Row b i (option_map at (if v then None else Some i))
@@ -54,8 +50,7 @@ module _ (b : List ℕ) (m : Mentions) (pools : ArePools b m) where
   interfaces_encoded : (o : ℕ) (ts : List Text) → OrNone ClassListAt [] b o ts → OrNone ClassListAt [] b o (map (type_at m) (interface_indices b o))
   interfaces_encoded o ts (inl none) = inl (none.0, ap (λ (k : ℕ). map (type_at m) (interface_indices b k)) none.0)
   interfaces_encoded o ts (inr list) =
-      let e : ts ≡ map (type_at m) (interface_indices b o) = listed_is (type_indices b o) ts list.1.list.types ∙ ap (map (type_at m)) (sym (listed_interfaces b o list.0)) in
-      inr (list.0, subst (ClassListAt b o) e list.1)
+      inr (list.0, subst (ClassListAt b o) (listed_is (type_indices b o) ts list.1.list.types ∙ ap (map (type_at m)) (sym (listed_interfaces b o list.0))) list.1)
 
   -- the row's name is the type of its number
   pub row_name : (r : ℕ) → HasClass b r → ClassTypeRow b (class_idx b r) (type_at m (class_idx b r))
@@ -69,7 +64,7 @@ module _ (b : List ℕ) (m : Mentions) (pools : ArePools b m) where
     flags = refl;
     superclass = optional_encoded ClassTypeRow (type_at m) (λ i t row. type_is i t row.row) (superclass_idx b r) (superclass_idx b r == no_index) refl h.superclass.0 h.superclass.1;
     interfaces = interfaces_encoded (interfaces_off b r) h.interfaces.0 h.interfaces.1;
-    source = optional_encoded StringRow (text_at m) text_is (source_file_idx b r) (source_file_idx b r == no_index) refl h.source.0 h.source.1;
+    source = optional_encoded StringRow (text_at m) (λ i s row. one_string b i s (text_at m i) row (pools.texts_are.each i [] row.row)) (source_file_idx b r) (source_file_idx b r == no_index) refl h.source.0 h.source.1;
     directory = y.directory;
     directory_is = y.directory_is;
     members = y.declared;

@@ -9,12 +9,6 @@ module _ (b : List ℕ) (r : ℕ) (f : ClassDef) (is : IsClassDef b r f) where
   pub class_of : HasClass b r → IsClassIndex b f.class_idx
   class_of h = (h.name, subst (λ (i : ℕ). ClassTypeRow b i h.name) is.class_is h.is)
 
-  pub parent_of : HasClass b r → IsParentIndex b f.superclass_idx
-  parent_of h = subst (IsParentIndex b) is.superclass_is h.superclass
-
-  pub source_of : HasClass b r → IsSourceIndex b f.source_file_idx
-  source_of h = subst (IsSourceIndex b) is.source_is h.source
-
   pub parent_before_of : HasClass b r → All (IsDefinedBefore b r) (superclass_indices f.superclass_idx)
   parent_before_of h = subst (λ (i : ℕ). All (IsDefinedBefore b r) (superclass_indices i)) is.superclass_is
       (all_prefix (IsDefinedBefore b r) (superclass_indices (superclass_idx b r)) (interface_indices b (interfaces_off b r)) h.parents)

@@ -8,6 +8,7 @@ use Rattle.dexclass.specs.internal.Checked.{IsFaultAtRow}
 use Rattle.dexclass.specs.{type_at, definition_of, IsFaultOf}
 use Rattle.dexclass.specs.internal.Reading.{bodies_weight, AreBodies, AreHeavyTogether}
 use Rattle.dexclass.specs.declared.reading.Bodies.{Bodies}
+use Rattle.dexclass.proofs.EmptyPrograms.{nothing_weighs}
 use Rattle.dexclass.proofs.RowClasses.{row_body, row_weight, row_encoded}
 use Rattle.dexclass.proofs.RowsBelow.{weight_is, too_heavy, heavy_row}
 
@@ -54,8 +55,7 @@ module _ (b : List ℕ) (m : Mentions) (pools : ArePools b m) (h : HoldBelow 17 
   -- what the row declares weighs more than is left
   members_heavy : (most : ℕ) → most ≡ most_weight - bodies.weight - (96 + 2 * length (interface_indices b (interfaces_off b r))) → AreHeavyMembers b r most → IsRefused b 23 r
   members_heavy most left heavy =
-      let d : Definition = (type_at m (class_idx b r), row_body b m r heavy.members) in
-      heavy_refused b r (heavy_row b h r (map (definition_of m) bodies.classes.items) d lt before.readable before.rows heavy.readable (row_encoded b m pools r heavy.members lt has_class heavy.row)
+      heavy_refused b r (heavy_row b h r (map (definition_of m) bodies.classes.items) (type_at m (class_idx b r), row_body b m r heavy.members) lt before.readable before.rows heavy.readable (row_encoded b m pools r heavy.members lt has_class heavy.row)
       (omega (arith, left, heavy.heavy, row_weight b m r heavy.members, before.weight_is)))
 
   -- the fault of a row that is read within what is left
@@ -64,14 +64,9 @@ module _ (b : List ℕ) (m : Mentions) (pools : ArePools b m) (h : HoldBelow 17 
   row_fault_within most left (items.Refused n) fault is (inl m) = row_fault b r (items.Refused n) fault is h lt m
   row_fault_within most left (items.Refused n) fault is (inr m) = subst (IsFaultOf b) (sym is) (subst (λ (k : ℕ). IsRefused b k r) (sym m.0) (members_heavy most left m.1))
 
--- nothing weighs little
-nothing_light : weight [] ≤ most_weight
-unfolding weight mentions
-nothing_light = omega arith
-
 -- what weighs too much is of some row
 some_rows : (b : List ℕ) (n : ℕ) (D : List Definition) → AreRows b n D → most_weight < weight D → 0 < n
-some_rows b zero [] rows heavy = absurd (omega (arith, heavy, nothing_light))
+some_rows b zero [] rows heavy = absurd (omega (arith, heavy, nothing_weighs))
 some_rows b zero (d ∷ D) rows heavy = absurd rows
 some_rows b (suc n) D rows heavy = omega arith
 
@@ -80,7 +75,7 @@ pub together_fault : (b : List ℕ) → HoldBelow 17 b → (D : List Definition)
     → AreHeavyTogether b n bodies r → IsFaultOf b (Refused r)
 together_fault b h D readable rows n bodies r is sum heavy =
     let more : most_weight < weight D = omega (arith, heavy.heavy, ap mentions_weight is, sum, weight_is D) in
-    let last : table_size b ClassDefs ≡ r.place + 1 = omega (arith, (some_rows b (table_size b ClassDefs) D rows more), heavy.last) in (
+    let last : table_size b ClassDefs ≡ r.place + 1 = omega (arith, some_rows b (table_size b ClassDefs) D rows more, heavy.last) in (
       Condition.Weight,
       r.place,
       heavy.number_is,

@@ -82,10 +82,6 @@ module _ (b : List ℕ) (m : Mentions) (pools : ArePools b m) (h : HoldBelow 17 
     light = light;
   }
 
--- as many definitions as rows
-rows_many : (b : List ℕ) (n : ℕ) (D : List Definition) → AreRows b n D → length D ≡ n
-rows_many b n D rows = AllZip-long (IsRow b) (range_with_len 0 n) D rows ∙ length-range_with_len 0 n
-
 -- a file of which all rows were checked
 pub all_checked : (b : List ℕ) (m : Mentions) → ArePools b m → HoldBelow 17 b → (bodies : ℕ) → HaveBodiesOf b (table_size b ClassDefs) bodies → 1024 + mentions_weight m + bodies ≤ most_weight → IsCheckedAs b (table_size b ClassDefs)
 all_checked b m pools h bodies are light =
@@ -95,8 +91,7 @@ all_checked b m pools h bodies are light =
       accepted = light_accepted b h D are.readable are.rows (omega (arith, light, are.weighs, weight_is D, mentions_light b m pools h D are.readable are.rows));
       counted = λ K denotes.
           let same = denoted_rows b classes D are.rows K denotes in
-          let fewer = length-among (definitions K) D (definitions-distinct K) (λ d c. (same d).0 c) in
-          omega (arith, fewer, (length-among D (definitions K) (rows_distinct b classes (table_size b ClassDefs) D are.rows) (λ d c. (same d).1 c)), rows_many b (table_size b ClassDefs) D are.rows);
+          omega (arith, length-among (definitions K) D (definitions-distinct K) (λ d c. (same d).0 c), length-among D (definitions K) (rows_distinct b classes (table_size b ClassDefs) D are.rows) (λ d c. (same d).1 c), AllZip-long (IsRow b) (range_with_len 0 (table_size b ClassDefs)) D are.rows, length-range_with_len 0 (table_size b ClassDefs));
     }
 
 -- a file that was read

@@ -23,9 +23,6 @@ module _ (r : Maps) (c : NumberedClass) (maps_to : IsMappedClass r c) where
   texts_mapped : All (λ i. IsSome (image r.texts i)) (text_numbers c)
   texts_mapped = all_seen text_use (IsMappedUse r) (text_numbers c) (all_prefix (IsMappedUse r) texts_used (members_uses c.members) after_mapped)
 
-  name_mapped : IsSome (image r.types c.name)
-  name_mapped = All-head (λ i. IsSome (image r.types i)) c.name (option_to_list c.superclass ++ c.interfaces) types_mapped
-
   superclass_mapped : All (λ i. IsSome (image r.types i)) (option_to_list c.superclass)
   superclass_mapped = all_prefix (λ i. IsSome (image r.types i)) (option_to_list c.superclass) c.interfaces (All-tail (λ i. IsSome (image r.types i)) c.name (option_to_list c.superclass ++ c.interfaces) types_mapped)
 
@@ -45,7 +42,7 @@ pub record MembersStay (m n : Mentions) (r : Maps) (class : Text) (x : NumberedM
 
 module _ (m n : Mentions) (r : Maps) (h : AllMapTo m n r) (c : NumberedClass) (maps_to : IsMappedClass r c) where
   pub name_remapped : type_at n (remapped r.types c.name) ≡ type_at m c.name
-  name_remapped = remapped_is m.types n.types r.types h.types_mapped c.name (name_mapped r c maps_to)
+  name_remapped = remapped_is m.types n.types r.types h.types_mapped c.name (All-head (λ i. IsSome (image r.types i)) c.name (option_to_list c.superclass ++ c.interfaces) (types_mapped r c maps_to))
 
   module _ (stay : MembersStay m n r (type_at m c.name) c.members) where
     definition_remapped : definition_of n (renumbered r c) ≡ definition_of m c
@@ -65,15 +62,12 @@ module _ (m n : Mentions) (r : Maps) (h : AllMapTo m n r) (c : NumberedClass) (m
       },
     )
 
-    types_numbered : map (remapped r.types) (type_numbers c) ≡ type_numbers (renumbered r c)
-    types_numbered = ap (λ (l : List ℕ). remapped r.types c.name ∷ l) (numbers_after (remapped r.types) c.superclass c.interfaces)
-
     -- it denotes the same definition, by numbers of the other numbering
     pub stays_same : IsKnownClass m c → StaysSame m n r c
     stays_same known = record {
       same = definition_remapped;
       known = record {
-        types_in = subst (All (λ k. k < length n.types)) types_numbered (all_within m.types n.types r.types h.types_mapped (type_numbers c) (types_mapped r c maps_to));
+        types_in = subst (All (λ k. k < length n.types)) (ap (λ (l : List ℕ). remapped r.types c.name ∷ l) (numbers_after (remapped r.types) c.superclass c.interfaces)) (all_within m.types n.types r.types h.types_mapped (type_numbers c) (types_mapped r c maps_to));
         texts_in = subst (All (λ k. k < length n.texts)) (optional_numbers (remapped r.texts) c.source) (all_within m.texts n.texts r.texts h.texts_mapped (text_numbers c) (texts_mapped r c maps_to));
         members_known = stay.known;
         members_ordered = stay.ordered;

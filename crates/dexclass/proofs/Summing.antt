@@ -78,12 +78,10 @@ module _ (b : List ℕ) (m : Mentions) (pools : ArePools b m) (h : HoldBelow 17 
     pub class_more : old.weight + w ≤ most_weight → (c : NumberedClass) → c ≡ row_class → (bodies : Bodies) → bodies.classes.items ≡ old.classes.items ++ c ∷ [] → bodies.weight ≡ old.weight + w → AreBodies b m (r + 1) bodies
     class_more light c is bodies pushed so =
         let known : IsKnownClass m row_class = row_known b m pools r most x w (h Condition.Classes (omega arith) r lt) are (omega (arith, class_weight, light)) in
-        let known_so : IsKnownClass m c = subst (IsKnownClass m) (sym is) known in
-        let one : map (definition_of m) (c ∷ []) ≡ definition_of m row_class ∷ [] = ap (λ (k : NumberedClass). definition_of m k ∷ []) is in
-        let all : map (definition_of m) bodies.classes.items ≡ D ++ definition_of m row_class ∷ [] = ap (map (definition_of m)) pushed ∙ map-append (definition_of m) old.classes.items (c ∷ []) ∙ ap (λ (l : List Definition). D ++ l) one in
+        let all : map (definition_of m) bodies.classes.items ≡ D ++ definition_of m row_class ∷ [] = ap (map (definition_of m)) pushed ∙ map-append (definition_of m) old.classes.items (c ∷ []) ∙ ap (λ (l : List Definition). D ++ l) (ap (λ (k : NumberedClass). definition_of m k ∷ []) is) in
         record {
           readable = below_more (IsReadable b) r before.readable are.readable;
-          known = subst (All (IsKnownClass m)) (sym pushed) (All-append (IsKnownClass m) old.classes.items (c ∷ []) before.known (All-cons (IsKnownClass m) c [] known_so (All-nil (IsKnownClass m))));
+          known = subst (All (IsKnownClass m)) (sym pushed) (All-append (IsKnownClass m) old.classes.items (c ∷ []) before.known (All-cons (IsKnownClass m) c [] (subst (IsKnownClass m) (sym is) known) (All-nil (IsKnownClass m))));
           rows = subst (AreRows b (r + 1)) (sym all) (rows_more b r D (definition_of m row_class) before.rows class_row);
           weight_is = so ∙ sym sum_is ∙ ap bodies_weight (sym all);
           light = omega (arith, so, light);

@@ -1,4 +1,4 @@
-use Rattle.dexclass.proofs.Common.{◌≡◌, ℕ, ◌+◌, ◌-◌, [], length, length-drop, ◌∙◌, ap, arith, ushorts_at, appended_more}
+use Rattle.dexclass.proofs.Common.{◌≡◌, ℕ, ◌+◌, [], length, length-drop, ◌∙◌, ap, arith, ushorts_at, appended_more}
 use Rattle.dexclass.proofs.Interfaces.{index_is, list_within, index_within, counted_indices}
 use Rattle.dexclass.proofs.classes.interfaces_at.Goals as goal
 
@@ -7,8 +7,7 @@ rest-list-requires c = list_within c.args.frame.now c.args.off c.args.count c.re
 
 pub u16_at-requires : goal.u16_at-requires
 u16_at-requires c =
-    let left : length c.rest-list.result.now ≡ length c.args.frame.now - c.args.off = ap length c.rest-list.ensures ∙ length-drop {A = ℕ} c.args.off c.args.frame.now in
-    omega (arith, left, index_within c.args.frame.now c.args.off c.args.count c.requires.list c.requires.count c.loop-k.k c.loop-k-test.true)
+    omega (arith, ap length c.rest-list.ensures ∙ length-drop {A = ℕ} c.args.off c.args.frame.now, index_within c.args.frame.now c.args.off c.args.count c.requires.list c.requires.count c.loop-k.k c.loop-k-test.true)
 
 pub loop-k-preserved : goal.loop-k-preserved
 loop-k-preserved c =

@@ -1,5 +1,6 @@
-use Rattle.dexclass.proofs.Common.{refl, false≢true}
-use Rattle.dexclass.proofs.RowConditions.{class_of, parent_of, source_of, parent_before_of, interfaces_of, seen_not, has_class}
+use Rattle.dexclass.proofs.Common.{subst, refl, false≢true}
+use Rattle.dexclass.specs.internal.Rows.{IsParentIndex, IsSourceIndex}
+use Rattle.dexclass.proofs.RowConditions.{class_of, parent_before_of, interfaces_of, seen_not, has_class}
 use Rattle.dexclass.proofs.class_checks.KnownFile.holds.Goals as goal
 
 pub returns-then-not-is_class : goal.returns-then-not-is_class
@@ -9,10 +10,10 @@ pub returns-then-seen-row : goal.returns-then-seen-row
 returns-then-seen-row c = λ r seen is. (λ e. absurd (false≢true e), λ h. absurd (seen_not c.args.self.now.frame.now r c.args.row.now is c.args.seen.now seen (c.if-not-is_class.ensures.0 refl) c.if-seen-row.true h))
 
 pub returns-then-not-is_parent : goal.returns-then-not-is_parent
-returns-then-not-is_parent c = λ r seen is. (λ e. absurd (false≢true e), λ h. c.if-not-is_parent.ensures.1 (parent_of c.args.self.now.frame.now r c.args.row.now is h))
+returns-then-not-is_parent c = λ r seen is. (λ e. absurd (false≢true e), λ h. c.if-not-is_parent.ensures.1 (subst (IsParentIndex c.args.self.now.frame.now) is.superclass_is h.superclass))
 
 pub returns-then-not-is_source : goal.returns-then-not-is_source
-returns-then-not-is_source c = λ r seen is. (λ e. absurd (false≢true e), λ h. c.if-not-is_source.ensures.1 (source_of c.args.self.now.frame.now r c.args.row.now is h))
+returns-then-not-is_source c = λ r seen is. (λ e. absurd (false≢true e), λ h. c.if-not-is_source.ensures.1 (subst (IsSourceIndex c.args.self.now.frame.now) is.source_is h.source))
 
 pub returns-then-not-has_parent_before : goal.returns-then-not-has_parent_before
 returns-then-not-has_parent_before c = λ r seen is. (λ e. absurd (false≢true e), λ h. (c.if-not-has_parent_before.ensures r seen).1 (parent_before_of c.args.self.now.frame.now r c.args.row.now is h))

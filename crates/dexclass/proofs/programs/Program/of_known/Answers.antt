@@ -15,8 +15,7 @@ arranged-requires-clause-depths c =
     let m = c.args.numbering in
     let cs = c.args.classes.items in
     let at : NumberedClass → Option ℕ = λ x. slice_index_or c.args.depths.now x.name None in
-    let are : c.deref-3.result.now ≡ map at cs = c.deref-3.ensures.value ∙ c.in_ok-known.ensures ∙ ap (map at) c.deref-2.ensures.value in
-    subst (AreDepthsOf (map (definition_of m) cs)) (sym are) (known_are m cs (named m cs c.requires.mergeable c.is_numbering.ensures) c.args.depths.now c.requires.depths)
+    subst (AreDepthsOf (map (definition_of m) cs)) (sym (c.deref-3.ensures.value ∙ c.in_ok-known.ensures ∙ ap (map at) c.deref-2.ensures.value)) (known_are m cs (named m cs c.requires.mergeable c.is_numbering.ensures) c.args.depths.now c.requires.depths)
 
 pub arranged-requires-clause-total : goal.arranged-requires-clause-total
 arranged-requires-clause-total c =

@@ -13,7 +13,7 @@ pub use Rattle.std.specs.Cmp.{IsTotalOrder}
 pub use Rattle.std.specs.List.{AllPairs, Contains, IsDistinct, filter, flat_map, list_all, range_with_len}
 pub use Rattle.std.specs.List.Sorted.{IsPermutation, IsSorted}
 pub use Rattle.std.specs.Option.{IsSome, unwrap_or}
-pub use Rattle.std.specs.Ordering.{MatchOrdering, is_lt, nat_cmp, ordering_reverse, ordering_then}
+pub use Rattle.std.specs.Ordering.{is_lt, nat_cmp, ordering_reverse, ordering_then}
 pub use Rattle.std.specs.Prelude.{option_to_list, slice_set}
 pub use Rattle.std.proofs.lemmas.List.Folds.{list_all_at, list_all-append}
 pub use Rattle.std.proofs.lemmas.Option.{same_Some}

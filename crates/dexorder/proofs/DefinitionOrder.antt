@@ -1,5 +1,5 @@
 -- The order of numbered classes is that of the definitions that they number.
-use Rattle.dexorder.proofs.Common.{◌≡◌, ◌≢◌, ℕ, ◌+◌, ◌<◌, true, List, [], ◌∷◌, length, map, get_or, Option, Some, None, Ordering, Less, Equal, Greater, refl, sym, ap, ◌∙◌, subst, arith, All, Contains, range_with_len, IsPermutation, IsSome, unwrap_or, nat_cmp, ordering_then, ordering_reverse, MatchOrdering, IsTotalOrder, ranked, nat_cmp_total, on_total, then_total, get_or_default, get_or-map, Contains-get_or, get_or-range_with_len, length-range_with_len, Contains-permutation, IsPermutation-sym, AreDistinct, rises, Text, text_cmp, Definition, depth, place_cmp, in_class_order, AreAmong, Contains-first, Contains-later, Contains-map, Contains-map_source, class_place as definition_place, in_class_order-only, in_class_order-has, class_places-rise, map-length, text_total, text_exact}
+use Rattle.dexorder.proofs.Common.{◌≡◌, ◌≢◌, ℕ, ◌+◌, ◌<◌, true, List, [], ◌∷◌, length, map, get_or, Option, Some, None, Ordering, Less, Equal, Greater, refl, sym, ap, ◌∙◌, subst, arith, All, Contains, range_with_len, IsPermutation, IsSome, unwrap_or, nat_cmp, ordering_then, ordering_reverse, IsTotalOrder, ranked, nat_cmp_total, on_total, then_total, get_or_default, get_or-map, Contains-get_or, get_or-range_with_len, length-range_with_len, Contains-permutation, IsPermutation-sym, AreDistinct, rises, Text, text_cmp, Definition, depth, place_cmp, in_class_order, AreAmong, Contains-first, Contains-later, Contains-map, Contains-map_source, class_place as definition_place, in_class_order-only, in_class_order-has, class_places-rise, map-length, text_total, text_exact}
 use Rattle.dexspec.proofs.lists.InOrder.{Rises, Rises-from_rises, Rises-same}
 use Rattle.dexorder.specs.{IsDepthOrNone, AreDepths, class_place, class_cmp, name_at, AreClassesOf, AreDepthsOf, AreNamesOf}
 use Rattle.dexorder.proofs.DepthLaws.{Contains-range}
@@ -10,9 +10,6 @@ use Rattle.dexorder.proofs.PlaceLaws.{class_total}
 
 place_total : IsTotalOrder place_cmp
 place_total = then_total (on_total (λ (x : ℕ × Text). x.0) nat_cmp_total) (on_total (λ (x : ℕ × Text). x.1) text_total)
-
-less_number : (m n : ℕ) → nat_cmp m n ≡ Less → m < n
-less_number m n e = subst (λ o. MatchOrdering o (m < n) (m ≡ n) (n < m)) e (ranked m n (nat_cmp m n) refl)
 
 -- less by the same first order and a second that implies the other
 less_along : (a b c : Ordering) → (b ≡ Less → c ≡ Less) → ordering_then a b ≡ Less → ordering_then a c ≡ Less
@@ -37,8 +34,7 @@ Rises-mapped R f (x ∷ xs) r = (λ y c. r.0 (f y) (Contains-map f xs y c), Rise
 -- a number of the range is below its end
 pub range_below : (n i : ℕ) → Contains (range_with_len 0 n) i → i < n
 range_below n i c =
-    let lt : c.0 < length (range_with_len 0 n) = c.1 in
-    let less : c.0 < n = omega (arith, lt, length-range_with_len 0 n) in
+    let less : c.0 < n = omega (arith, c.1, length-range_with_len 0 n) in
     let e : 0 + c.0 ≡ i = sym (get_or-range_with_len 0 n c.0 i less) ∙ c.2 in
     omega arith
 
@@ -48,11 +44,7 @@ module _ (D : List Definition) (names : List ℕ) (h : AreNamesOf D names) where
   -- the numbers of different names are different
   pub names_distinct : AreDistinct (map (λ d. d.0) D) → AreDistinct names
   names_distinct distinct i j d ij lt e =
-      let few : length (map (λ (x : Definition). x.0) D) ≡ length D = map-length (λ (x : Definition). x.0) D in
-      let one : get_or names i d ≡ get_or names i 0 = get_or_default names i d 0 (omega arith) in
-      let other : get_or names j d ≡ get_or names j 0 = get_or_default names j d 0 lt in
-      let same : get_or names i 0 ≡ get_or names j 0 = sym one ∙ e ∙ other in
-      by (text_cmp (name_at D i) (name_at D j)) refl same (omega (arith, ij, lt, h.count)) (omega (arith, lt, h.count)) (distinct i j [] ij (omega (arith, few, lt, h.count)))
+      by (text_cmp (name_at D i) (name_at D j)) refl (sym (get_or_default names i d 0 (omega arith)) ∙ e ∙ (get_or_default names j d 0 lt)) (omega (arith, ij, lt, h.count)) (omega (arith, lt, h.count)) (distinct i j [] ij (omega (arith, map-length (λ (x : Definition). x.0) D, lt, h.count)))
     where
       by : (o : Ordering) → text_cmp (name_at D i) (name_at D j) ≡ o → get_or names i 0 ≡ get_or names j 0 → i < length D → j < length D → name_at D i ≢ name_at D j → ⊥
       by Less f same a b ne = let l = (h.order i j a b).1 f in absurd (omega arith)
@@ -95,7 +87,7 @@ module _ (D : List Definition) (depths : List (Option ℕ)) (names : List ℕ) (
       let first : nat_cmp (unwrap_or (get_or depths i None) 0) (unwrap_or (get_or depths j None) 0) ≡ nat_cmp (depth D (get_or D i d).0) (depth D (get_or D j d).0) =
       λ t. nat_cmp ((own_depth i lt ∙ ap (depth D) m) t) ((own_depth j less ∙ ap (depth D) k) t) in
       let names_less : nat_cmp (get_or names i 0) (get_or names j 0) ≡ Less → text_cmp (get_or D i d).0 (get_or D j d).0 ≡ Less =
-      λ f. (λ t. text_cmp (sym m t) (sym k t)) ∙ (n.order i j lt less).0 (less_number (get_or names i 0) (get_or names j 0) f) in
+      λ f. (λ t. text_cmp (sym m t) (sym k t)) ∙ (n.order i j lt less).0 (ranked (get_or names i 0) (get_or names j 0) Less (sym f)) in
       less_along (nat_cmp (depth D (get_or D i d).0) (depth D (get_or D j d).0)) (nat_cmp (get_or names i 0) (get_or names j 0)) (text_cmp (get_or D i d).0 (get_or D j d).0) names_less
       (ap (λ o. ordering_then o (nat_cmp (get_or names i 0) (get_or names j 0))) (sym first) ∙ e)
 
@@ -103,13 +95,10 @@ module _ (D : List Definition) (depths : List (Option ℕ)) (names : List ℕ) (
   pub same_order : (order : List ℕ) → AreDistinct (map (λ x. x.0) D) → IsPermutation (range_with_len 0 (length D)) order → rises class_cmp (map (class_place depths names) order) ≡ true → map (λ i. get_or D i d) order ≡ in_class_order D
   same_order order distinct p r =
       let below : (i : ℕ) → Contains order i → i < length D = λ i c. range_below (length D) i (Contains-permutation order (range_with_len 0 (length D)) i (IsPermutation-sym (range_with_len 0 (length D)) order p) c) in
-      let numbers : Rises class_cmp (map (class_place depths names) order) = Rises-from_rises class_cmp class_total (map (class_place depths names) order) r in
-      let one : Rises (definition_cmp D) (map (λ i. get_or D i d) order) = Rises-along class_cmp (definition_cmp D) (class_place depths names) (λ i. get_or D i d) order (λ i j c e. lesser_place i j (below i c) (below j e)) numbers in
-      let other : Rises (definition_cmp D) (in_class_order D) = Rises-mapped place_cmp (definition_place D) (in_class_order D) (class_places-rise D) in
+      let one : Rises (definition_cmp D) (map (λ i. get_or D i d) order) = Rises-along class_cmp (definition_cmp D) (class_place depths names) (λ i. get_or D i d) order (λ i j c e. lesser_place i j (below i c) (below j e)) (Rises-from_rises class_cmp class_total (map (class_place depths names) order) r) in
       let there : AreAmong (map (λ i. get_or D i d) order) (in_class_order D) = λ x c. let s = Contains-map_source (λ i. get_or D i d) order x c in
       in_class_order-has D x distinct (subst (Contains D) s.2 (Contains-get_or D s.0 d (below s.0 s.1))) in
       let back : AreAmong (in_class_order D) (map (λ i. get_or D i d) order) = λ x c. let s = in_class_order-only D x c in
-      let at : get_or D s.0 d ≡ x = get_or_default D s.0 d x s.1 ∙ s.2 in
       let member : Contains order s.0 = Contains-permutation (range_with_len 0 (length D)) order s.0 p (let lt : s.0 < length D = s.1 in Contains-range 0 (length D) s.0 (omega arith) (omega arith)) in
-      subst (Contains (map (λ i. get_or D i d) order)) at (Contains-map (λ i. get_or D i d) order s.0 member) in
-      Rises-same (definition_cmp D) (definition_total D) (map (λ i. get_or D i d) order) (in_class_order D) one other there back
+      subst (Contains (map (λ i. get_or D i d) order)) (get_or_default D s.0 d x s.1 ∙ s.2) (Contains-map (λ i. get_or D i d) order s.0 member) in
+      Rises-same (definition_cmp D) (definition_total D) (map (λ i. get_or D i d) order) (in_class_order D) one (Rises-mapped place_cmp (definition_place D) (in_class_order D) (class_places-rise D)) there back

@@ -14,9 +14,7 @@ part-append xs ys s h =
 parts-append : (xs ys : List ℕ) (ss : List Span) → All (IsPart (length xs)) ss → map (part (xs ++ ys)) ss ≡ map (part xs) ss
 parts-append xs ys [] h = refl
 parts-append xs ys (s ∷ ss) h =
-    let one = part-append xs ys s (All-head (IsPart (length xs)) s ss h) in
-    let rest = parts-append xs ys ss (All-tail (IsPart (length xs)) s ss h) in
-    λ i. one i ∷ rest i
+    λ i. (part-append xs ys s (All-head (IsPart (length xs)) s ss h)) i ∷ (parts-append xs ys ss (All-tail (IsPart (length xs)) s ss h)) i
 
 -- the added elements are the part from the old end to the new end
 part-added : (xs ys : List ℕ) (s : Span) → s.start ≡ length xs → s.end ≡ length (xs ++ ys) → part (xs ++ ys) s ≡ ys
@@ -27,9 +25,7 @@ part-added xs ys s e f =
 pub parts_pushed : (xs ys zs : List ℕ) (ss ts : List Span) (s : Span) → All (IsPart (length xs)) ss → zs ≡ xs ++ ys → ts ≡ ss ++ s ∷ [] → s.start ≡ length xs → s.end ≡ length zs → map (part zs) ts ≡ map (part xs) ss ++ ys ∷ []
 parts_pushed xs ys zs ss ts s h grown more e f =
     let all : map (part zs) ts ≡ map (part (xs ++ ys)) (ss ++ s ∷ []) = λ i. map (part (grown i)) (more i) in
-    let old = parts-append xs ys ss h in
-    let new = part-added xs ys s e (f ∙ ap length grown) in
-    all ∙ map-append (part (xs ++ ys)) ss (s ∷ []) ∙ (λ i. old i ++ new i ∷ [])
+    all ∙ map-append (part (xs ++ ys)) ss (s ∷ []) ∙ (λ i. (parts-append xs ys ss h) i ++ (part-added xs ys s e (f ∙ ap length grown)) i ∷ [])
 
 -- no further part
 pub parts_kept : (xs ys zs : List ℕ) (ss ts : List Span) → All (IsPart (length xs)) ss → zs ≡ xs ++ ys → ts ≡ ss → map (part zs) ts ≡ map (part xs) ss

@@ -18,11 +18,7 @@ work_unseen-set _ _ i lt same fresh = absurd (omega arith)
 -- so the first visit of a class takes fewer steps than were left
 pub begun_nearer : (classes : List (List ℕ)) (seen now : List Bool) (path visits : List Visit) (v : Visit) (i : ℕ) → i < length classes → length seen ≡ length classes → get_or seen i false ≡ false → now ≡ set seen i true → visits ≡ path ++ v ∷ [] → v.left.now ≡ parents_of classes i → work_unseen classes now + work_left visits < work_unseen classes seen + work_left path
 begun_nearer classes seen now path visits v i lt same fresh written grown rest =
-    let less : work_unseen classes now ≡ work_unseen classes (set seen i true) = ap (work_unseen classes) written in
-    let fewer = work_unseen-set classes seen i lt same fresh in
-    let more : work_left visits ≡ work_left path + (1 + length v.left.now) = ap work_left grown ∙ sum_by_push (λ (u : Visit). 1 + length u.left.now) path v in
-    let parents : length v.left.now ≡ length (parents_of classes i) = ap length rest in
-    omega (arith, less, fewer, more, parents)
+    omega (arith, ap (work_unseen classes) written, work_unseen-set classes seen i lt same fresh, ap work_left grown ∙ sum_by_push (λ (u : Visit). 1 + length u.left.now) path v, ap length rest)
 
 module _ (classes : List (List ℕ)) where
   -- a class is under n if its parents are
@@ -64,16 +60,12 @@ module _ (classes : List (List ℕ)) where
     prefix_waiting : AllPairs (λ u w. IsWaitingFor classes w.class u) path
     prefix_waiting i j d ij lt =
         let less : i < length path = omega arith in
-        let one = get_or-append path (v ∷ []) d i less in
-        let other = get_or-append path (v ∷ []) d j lt in
-        subst (λ w. IsWaitingFor classes w.class (get_or path i d)) other (subst (IsWaitingFor classes (get_or (path ++ v ∷ []) j d).class) one (h.waiting i j d ij (omega (arith, length-append path (v ∷ [])))))
+        subst (λ w. IsWaitingFor classes w.class (get_or path i d)) (get_or-append path (v ∷ []) d j lt) (subst (IsWaitingFor classes (get_or (path ++ v ∷ []) j d).class) (get_or-append path (v ∷ []) d i less) (h.waiting i j d ij (omega (arith, length-append path (v ∷ [])))))
 
     -- each of them waits for the last
     waits_last : All (IsWaitingFor classes v.class) path
     waits_last k d lt =
-        let one = get_or-append path (v ∷ []) d k lt in
-        let other = get_or-append_seam path v [] d in
-        subst (λ w. IsWaitingFor classes w.class (get_or path k d)) other (subst (IsWaitingFor classes (get_or (path ++ v ∷ []) (length path) d).class) one (h.waiting k (length path) d lt (omega (arith, length-append path (v ∷ [])))))
+        subst (λ w. IsWaitingFor classes w.class (get_or path k d)) (get_or-append_seam path v [] d) (subst (IsWaitingFor classes (get_or (path ++ v ∷ []) (length path) d).class) (get_or-append path (v ∷ []) d k lt) (h.waiting k (length path) d lt (omega (arith, length-append path (v ∷ [])))))
 
     -- ---- the last visit has no parent left
 
@@ -104,8 +96,7 @@ module _ (classes : List (List ℕ)) where
           seen_count = ap length f ∙ h.seen_count;
           known = λ i k g. elim (cases_eq i v.class) [
             | inl same ↦
-                let y : v.depth ≡ k = same_Some v.depth k (sym here ∙ ap (λ j. get_or t.depths.items j None) (sym same) ∙ g) in
-                subst (IsDepth classes i) y (subst (λ j. IsDepth classes j v.depth) (sym same) (finished e))
+                subst (IsDepth classes i) (same_Some v.depth k (sym here ∙ ap (λ j. get_or t.depths.items j None) (sym same) ∙ g)) (subst (λ j. IsDepth classes j v.depth) (sym same) (finished e))
             | inr ne ↦ h.known i k (sym (other i ne) ∙ g)
           ];
           unknown = λ i seen g. elim (cases_eq i v.class) [

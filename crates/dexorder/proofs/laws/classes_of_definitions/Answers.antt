@@ -1,4 +1,4 @@
-use Rattle.dexorder.proofs.OwnParents.{classes_of_parents}
+use Rattle.dexorder.proofs.DefinitionDepths.{classes_of_parents}
 use Rattle.dexorder.proofs.laws.classes_of_definitions.Goals as goal
 
 pub returns : goal.returns

@@ -6,10 +6,9 @@ use Rattle.dexorder.proofs.order.class_order.Goals as goal
 pub returns-clause-classes : goal.returns-clause-classes
 returns-clause-classes c =
     let names = c.args.names.now in
-    let all = classes_permuted c.args.depths.now names (length names) c.in_ok-places.places.items c.sort_unstable.new.self.items c.in_ok-places.ensures c.sort_unstable.ensures.permutation in
     let f = c.classes.ensures in
     let g = c.deref.ensures.value in
-    IfOk-weaker c.classes.result _ _ (λ order e. subst (IsPermutation (range_with_len 0 (length names))) (sym (e ∙ ap (map (λ p. p.class)) g)) all) f
+    IfOk-weaker c.classes.result _ _ (λ order e. subst (IsPermutation (range_with_len 0 (length names))) (sym (e ∙ ap (map (λ p. p.class)) g)) (classes_permuted c.args.depths.now names (length names) c.in_ok-places.places.items c.sort_unstable.new.self.items c.in_ok-places.ensures c.sort_unstable.ensures.permutation)) f
 
 pub returns-clause-rises : goal.returns-clause-rises
 returns-clause-rises c =

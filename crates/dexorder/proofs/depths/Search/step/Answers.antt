@@ -13,8 +13,7 @@ index-requires c = let w = next_within c.args.classes.now c.args.self.now c.args
 pub overflow_add-depth : goal.overflow_add-depth
 overflow_add-depth c =
     let w = next_within c.args.classes.now c.args.self.now c.args.self.now.path.items c.args.visit c.requires.search c.in-Some.parent.now c.in-Some.left.now c.in-Some.ensures.cases.0 c.requires.within in
-    let k = c.requires.search.known c.in-Some.parent.now c.in-Some-index.depth (sym (get_or_read c.args.self.now.depths.items _ _ (omega (arith, w, c.requires.search.depth_count)) c.index.ensures None) ∙ c.in-Some-index.is) in
-    let l = depth_less c.args.classes.now c.requires.within c.in-Some.parent.now c.in-Some-index.depth w k in
+    let l = depth_less c.args.classes.now c.requires.within c.in-Some.parent.now c.in-Some-index.depth w (c.requires.search.known c.in-Some.parent.now c.in-Some-index.depth (sym (get_or_read c.args.self.now.depths.items _ _ (omega (arith, w, c.requires.search.depth_count)) c.index.ensures None) ∙ c.in-Some-index.is)) in
     omega (arith, l, c.requires.search.depth_count)
 
 pub index-was_seen-requires : goal.index-was_seen-requires

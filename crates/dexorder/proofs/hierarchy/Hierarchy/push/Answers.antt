@@ -4,9 +4,8 @@ use Rattle.dexorder.proofs.hierarchy.Hierarchy.push.Goals as goal
 
 pub returns-in_err-push-clause-err : goal.returns-in_err-push-clause-err
 returns-in_err-push-clause-err c =
-    let p = err_from_is_err_and c.from_residual-in_err-push.result c.from_residual-in_err-push.ensures.1 in
     let kept = parts_kept c.self.inside.parents.items c.args.parents.now c.extend_from_slice.new.self.items c.self.inside.spans.items c.push.new.self.items c.self.invariant c.in_ok-extend_from_slice.ensures.items c.in_err-push.ensures.items in
-    rw p.1 (kept ∙ c.self.view_is)
+    rw (err_from_is_err_and c.from_residual-in_err-push.result c.from_residual-in_err-push.ensures.1).1 (kept ∙ c.self.view_is)
 
 pub returns-clause-added : goal.returns-clause-added
 returns-clause-added c =

@@ -58,11 +58,10 @@ module _ {R : Type 0} (key : R → List ℕ) where
   -- as the code joins them
   pub joined_two : {V : Type 0} (see : V → List ℕ) (left right front back rows : List R) (lefts rights left_places right_places : List ℕ) (left_images right_images left_held right_held left_moved right_moved all : List V) → front ≡ left → back ≡ right → IsMerge key front back rows lefts rights → left_places ≡ lefts → right_places ≡ rights → left_held ≡ left_images → right_held ≡ right_images → map see left_moved ≡ map (map (slice_index left_places)) (map see left_held) → map see right_moved ≡ map (map (slice_index right_places)) (map see right_held) → all ≡ left_moved ++ right_moved → IsJoinOfTwo key left (map see left_images) right (map see right_images) rows (map see all)
   joined_two see left right front back rows lefts rights left_places right_places left_images right_images left_held right_held left_moved right_moved all is_left is_right h is_lefts is_rights held also moved too e =
-      let merge : IsMerge key left right rows lefts rights = subst (λ xs. IsMerge key xs right rows lefts rights) is_left (subst (λ ys. IsMerge key front ys rows lefts rights) is_right h) in
       let a : map see left_moved ≡ map (map (slice_index lefts)) (map see left_images) = moved ∙ ap (λ ps. map (map (slice_index ps)) (map see left_held)) is_lefts ∙ ap (λ vs. map (map (slice_index lefts)) (map see vs)) held in
       let b : map see right_moved ≡ map (map (slice_index rights)) (map see right_images) = too ∙ ap (λ ps. map (map (slice_index ps)) (map see right_held)) is_rights ∙ ap (λ vs. map (map (slice_index rights)) (map see vs)) also in
       let both : map see all ≡ map (map (slice_index lefts)) (map see left_images) ++ map (map (slice_index rights)) (map see right_images) = ap (map see) e ∙ map-append see left_moved right_moved ∙ (λ i. a i ++ b i) in
-      subst (IsJoinOfTwo key left (map see left_images) right (map see right_images) rows) (sym both) (join_of_two left right rows lefts rights (map see left_images) (map see right_images) merge)
+      subst (IsJoinOfTwo key left (map see left_images) right (map see right_images) rows) (sym both) (join_of_two left right rows lefts rights (map see left_images) (map see right_images) (subst (λ xs. IsMerge key xs right rows lefts rights) is_left (subst (λ ys. IsMerge key front ys rows lefts rights) is_right h)))
 
   -- ---- what calls ask
 

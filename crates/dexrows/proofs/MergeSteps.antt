@@ -48,11 +48,10 @@ module _ {R : Type 0} (key : R → List ℕ) where
     less = λ d more.
         let n : length (places ++ length rows ∷ []) ≡ length places + 1 = length_push places (length rows) in
         let following : row_cmp key (get_or part (length places) d) (get_or part (length places + 1) d) ≡ Less = next_less part (length places) d sorted (omega arith) in
-        let at : key x ≡ key (get_or part (length places) d) = is ∙ ap key (get_or_default part (length places) x d lt) in
         rw n (All-push (λ row. row_cmp key row (get_or part (length places + 1) d) ≡ Less) rows x
         (All-weaker (λ row. row_cmp key row (get_or part (length places) d) ≡ Less) (λ row. row_cmp key row (get_or part (length places + 1) d) ≡ Less)
         (λ row l. row_total.trans row (get_or part (length places) d) (get_or part (length places + 1) d) l following) rows (h.less d lt))
-        (subst (λ k. key_cmp k (key (get_or part (length places + 1) d)) ≡ Less) (sym at) following));
+        (subst (λ k. key_cmp k (key (get_or part (length places + 1) d)) ≡ Less) (sym (is ∙ ap key (get_or_default part (length places) x d lt))) following));
   }
 
   -- a row before the next one of the part is taken from another
@@ -145,9 +144,8 @@ module _ {R : Type 0} (key : R → List ℕ) where
 
   pub sorted_more : (rows : List R) (i j : ℕ) (a b : R) (o : Ordering) → i + 1 ≡ j → j < length rows → a ≡ get_or rows i a → b ≡ get_or rows j b → o ≡ row_cmp key a b → true ≡ is_lt o → AreSorted key (take j rows) → AreSorted key (take (j + 1) rows)
   sorted_more rows i j a b o next lt is_a is_b is less sorted =
-      let pair : row_cmp key (get_or rows i a) (get_or rows j a) ≡ Less = sym (pair_is rows i j a b o (omega arith) lt is_a is_b is) ∙ less_is o (sym less) in
       let after : suc i ≡ j = omega arith in
-      let more = rises_more (row_cmp key) rows i a (omega arith) (subst (λ k. AreSorted key (take k rows)) (sym after) sorted) (subst (λ k. row_cmp key (get_or rows i a) (get_or rows k a) ≡ Less) (sym after) pair) in
+      let more = rises_more (row_cmp key) rows i a (omega arith) (subst (λ k. AreSorted key (take k rows)) (sym after) sorted) (subst (λ k. row_cmp key (get_or rows i a) (get_or rows k a) ≡ Less) (sym after) (sym (pair_is rows i j a b o (omega arith) lt is_a is_b is) ∙ less_is o (sym less))) in
       let last : suc (suc i) ≡ j + 1 = omega arith in
       subst (λ k. AreSorted key (take k rows)) last more
 

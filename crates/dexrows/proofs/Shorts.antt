@@ -14,8 +14,7 @@ key_at xs ys i d lt less = rw (drop_more xs i d lt, drop_more ys i d less) refl
 
 pub key_differs : (a b c : Ordering) → a ≡ b → (b ≡ Equal → ⊥) → ordering_then a c ≡ b
 key_differs Equal b c e n = absurd (n (sym e))
-key_differs Less b c e n = e
-key_differs Greater b c e n = e
+key_differs x b c e n = e
 
 pub key_agrees : (a c : Ordering) → a ≡ Equal → ordering_then a c ≡ c
 key_agrees Equal c e = refl

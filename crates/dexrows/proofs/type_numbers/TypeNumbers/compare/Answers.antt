@@ -7,16 +7,14 @@ loop-i-preserved c =
     let xs = c.args.self.now in
     let ys = c.args.other.now in
     let i = c.loop-i.i in
-    let order : c.cmp.result ≡ nat_cmp (get_or xs i 0) (get_or ys i 0) = c.cmp.ensures ∙ (λ k. nat_cmp (c.at.ensures k) (c.at-in-loop-i.ensures k)) in
-    sym (key_agrees (nat_cmp (get_or xs i 0) (get_or ys i 0)) (key_cmp (drop (i + 1) xs) (drop (i + 1) ys)) (sym order ∙ c.in-Equal.is)) ∙ sym (key_at xs ys i 0 (omega arith) (omega arith)) ∙ c.loop-i.invariant
+    sym (key_agrees (nat_cmp (get_or xs i 0) (get_or ys i 0)) (key_cmp (drop (i + 1) xs) (drop (i + 1) ys)) (sym (c.cmp.ensures ∙ (λ k. nat_cmp (c.at.ensures k) (c.at-in-loop-i.ensures k))) ∙ c.in-Equal.is)) ∙ sym (key_at xs ys i 0 (omega arith) (omega arith)) ∙ c.loop-i.invariant
 
 pub returns-in_default : goal.returns-in_default
 returns-in_default c =
     let xs = c.args.self.now in
     let ys = c.args.other.now in
     let i = c.loop-i.i in
-    let order : c.cmp.result ≡ nat_cmp (get_or xs i 0) (get_or ys i 0) = c.cmp.ensures ∙ (λ k. nat_cmp (c.at.ensures k) (c.at-in-loop-i.ensures k)) in
-    sym (key_differs (nat_cmp (get_or xs i 0) (get_or ys i 0)) c.cmp.result (key_cmp (drop (i + 1) xs) (drop (i + 1) ys)) (sym order) c.in_default.not-Equal) ∙ sym (key_at xs ys i 0 (omega arith) (omega arith)) ∙ c.loop-i.invariant
+    sym (key_differs (nat_cmp (get_or xs i 0) (get_or ys i 0)) c.cmp.result (key_cmp (drop (i + 1) xs) (drop (i + 1) ys)) (sym (c.cmp.ensures ∙ (λ k. nat_cmp (c.at.ensures k) (c.at-in-loop-i.ensures k)))) c.in_default.not-Equal) ∙ sym (key_at xs ys i 0 (omega arith) (omega arith)) ∙ c.loop-i.invariant
 
 pub returns : goal.returns
 returns c =

@@ -1,11 +1,8 @@
 -- The units of pieces with zeros for the numbers, one by one.
-use Rattle.dexinsn.proofs.Common.{◌≡◌, ℕ, zero, suc, ◌+◌, ◌-◌, ◌<◌, ◌≤◌, ◌==◌, ◌&&◌, ◌||◌, Bool, true, false, cond, List, [], ◌∷◌, ◌++◌, length, drop, take, map, get_or, slice_index, slice_set, Option, Some, None, inl, inr, refl, ap, sym, ◌∙◌, subst, arith, eq-eqb, ne_eqb, length-drop, Any, flat_map, list_any, IsNonDecreasingBy, cases_eq, cases_lt, get_or-take, get_or-drop, get_or_append_left, get_or-append_right, length-take-le, list_any_at, Any-from_list_any, Pool, index_pool, is_payload_ident, is_wide_index, with_index}
-use Rattle.dexinsn.specs.declared.pieces.Index.{Index}
-use Rattle.dexinsn.specs.{Instruction, numbered_units, IsCountBefore, Rise, blank_units, covers, AreStored, Follow, after_index, cuts_in, index_units, left_by, parts_in, piece_with, pieces_with, spelled_from}
-use Rattle.dexinsn.specs.Numbered.{Payload}
-use Rattle.dexinsn.proofs.PutUnits.{spelled_all, stored_follow}
+use Rattle.dexinsn.proofs.Common.{and_second, false_from_ne_true, ◌≡◌, ℕ, zero, suc, ◌+◌, ◌-◌, ◌<◌, ◌≤◌, ◌==◌, ◌&&◌, ◌||◌, Bool, true, false, cond, List, [], ◌∷◌, ◌++◌, length, drop, take, map, get_or, slice_index, slice_set, Option, Some, None, inl, inr, refl, ap, sym, ◌∙◌, subst, arith, eq-eqb, ne_eqb, length-drop, Any, flat_map, list_any, IsNonDecreasingBy, cases_eq, cases_lt, get_or-take, get_or-drop, get_or_append_left, get_or-append_right, length-take-le, list_any_at, Any-from_list_any, Pool, index_pool, is_payload_ident, is_wide_index, with_index, Index, Instruction, numbered_units, IsCountBefore, Rise, blank_units, covers, AreStored, Follow, after_index, cuts_in, index_units, left_by, parts_in, piece_with, pieces_with, spelled_from, Payload}
+use Rattle.dexinsn.proofs.PutUnits.{follow_within, spelled_all, stored_follow}
 use Rattle.dexinsn.proofs.StartBits.{same_test}
-use Rattle.dexinsn.proofs.StoredRead.{first_kept, same_wide}
+use Rattle.dexinsn.proofs.StoredRead.{any_default, first_kept, same_wide}
 
 abbrev zeroed : List Index → List Index
 zeroed is = map (λ x. record { unit = x.unit; number = 0 }) is
@@ -23,8 +20,7 @@ zero_twice false (a ∷ b ∷ xs) = refl
 
 zero_again : (xs : List ℕ) → with_index 0 (with_index 0 xs) ≡ with_index 0 xs
 zero_again xs =
-    let same : is_wide_index (with_index 0 xs) ≡ is_wide_index xs = same_wide (with_index 0 xs) xs (first_kept 0 xs) in
-    ap (λ (w : Bool). cond w (slice_set (slice_set (with_index 0 xs) 1 0) 2 0) (slice_set (with_index 0 xs) 1 0)) same
+    ap (λ (w : Bool). cond w (slice_set (slice_set (with_index 0 xs) 1 0) 2 0) (slice_set (with_index 0 xs) 1 0)) (same_wide (with_index 0 xs) xs (first_kept 0 xs))
     ∙ zero_twice (is_wide_index xs) xs
 
 plain_blank : (t : Bool) (xs : List ℕ) → blank_units (cond t (Payload xs) (Instruction xs None)) ≡ numbered_units (cond t (Payload xs) (Instruction xs None))
@@ -51,18 +47,7 @@ same_places : (is : List Index) → map (λ (i : Index). i.unit) (zeroed is) ≡
 same_places [] = refl
 same_places (i ∷ is) = ap (λ (ks : List ℕ). i.unit ∷ ks) (same_places is)
 
-blank_all : (us : List ℕ) (is : List Index) → AreStored us is → flat_map blank_units (pieces_with (parts_in us) is) ≡ spelled_from us 0 (zeroed is)
-blank_all us is s = all_blank (parts_in us) is ∙ spelled_all us 0 (cuts_in us) (zeroed is) (omega arith) s.cut (same_places is ∙ s.places)
-
 -- ---- the units of an index
-
-second_true : (a b : Bool) → (a && b) ≡ true → b ≡ true
-second_true true b e = e
-second_true false b e = absurd cc
-
-not_true : (b : Bool) → (b ≡ true → ⊥) → b ≡ false
-not_true true none = absurd (none refl)
-not_true false none = refl
 
 -- the units between its start and what is after it
 covers_within : (us : List ℕ) (i : ℕ) (x : Index) → covers us i x ≡ true → (x.unit < i) × (i < after_index (is_wide_index (drop x.unit us)) x.unit)
@@ -70,8 +55,7 @@ covers_within us i x e = elim (cases_eq i (x.unit + 1)) [
   | inl first ↦ one_after (is_wide_index (drop x.unit us)) first
   | inr later ↦ elim (cases_eq i (x.unit + 2)) [
     | inl second ↦
-        let wide : is_wide_index (drop x.unit us) ≡ true = second_true (i == x.unit + 2) (is_wide_index (drop x.unit us)) (rw (ne_eqb i (x.unit + 1) later) at e) in
-        (omega (arith, second), subst (λ (w : Bool). i < after_index w x.unit) (sym wide) (omega (arith, second)))
+        (omega (arith, second), subst (λ (w : Bool). i < after_index w x.unit) (sym (and_second (i == x.unit + 2) (is_wide_index (drop x.unit us)) (rw (ne_eqb i (x.unit + 1) later) at e))) (omega (arith, second)))
     | inr other ↦ absurd (let none = rw (ne_eqb i (x.unit + 1) later, ne_eqb i (x.unit + 2) other) at e in cc)
   ]
 ]
@@ -96,16 +80,15 @@ within_covers us i x more below = by_width (is_wide_index (drop x.unit us)) belo
 
 -- ---- the order
 
+after_is_more : (w : Bool) (unit : ℕ) → unit < after_index w unit
+after_is_more true unit = omega arith
+after_is_more false unit = omega arith
+
 follow_after : (us : List ℕ) (from : ℕ) (is : List Index) (l : ℕ) (d : Index) → Follow us from is → l < length is → from ≤ (get_or is l d).unit
 follow_after us from [] l d h lt = absurd (omega (arith, lt))
 follow_after us from (x ∷ is) zero d h lt = h.0
 follow_after us from (x ∷ is) (suc l) d h lt =
-    let on = follow_after us (after_index (is_wide_index (drop x.unit us)) x.unit) is l d h.1 (omega (arith, lt)) in
-    omega (arith, h.0, on, after_is_more (is_wide_index (drop x.unit us)) x.unit)
-  where
-    after_is_more : (w : Bool) (unit : ℕ) → unit < after_index w unit
-    after_is_more true unit = omega arith
-    after_is_more false unit = omega arith
+    omega (arith, h.0, (follow_after us (after_index (is_wide_index (drop x.unit us)) x.unit) is l d h.1 (omega (arith, lt))), after_is_more (is_wide_index (drop x.unit us)) x.unit)
 
 follow_order : (us : List ℕ) (from : ℕ) (is : List Index) (j l : ℕ) (d : Index) → Follow us from is → j < l → l < length is → after_index (is_wide_index (drop (get_or is j d).unit us)) (get_or is j d).unit ≤ (get_or is l d).unit
 follow_order us from [] j l d h less lt = absurd (omega (arith, lt))
@@ -113,19 +96,9 @@ follow_order us from (x ∷ is) j zero d h less lt = absurd (omega (arith, less)
 follow_order us from (x ∷ is) zero (suc l) d h less lt = follow_after us (after_index (is_wide_index (drop x.unit us)) x.unit) is l d h.1 (omega (arith, lt))
 follow_order us from (x ∷ is) (suc j) (suc l) d h less lt = follow_order us (after_index (is_wide_index (drop x.unit us)) x.unit) is j l d h.1 (omega (arith, less)) (omega (arith, lt))
 
-after_is_more : (w : Bool) (unit : ℕ) → unit < after_index w unit
-after_is_more true unit = omega arith
-after_is_more false unit = omega arith
-
 pub stored_rise : (us : List ℕ) (is : List Index) → AreStored us is → Rise is
 stored_rise us is s = λ i j d less lt.
-    let order = follow_order us 0 is i j d (stored_follow us is s) less lt in
-    omega (arith, order, after_is_more (is_wide_index (drop (get_or is i d).unit us)) (get_or is i d).unit)
-
-pub any_default : (xs : List Index) (n : ℕ) (d e : Index) → n < length xs → get_or xs n d ≡ get_or xs n e
-any_default [] n d e lt = absurd (omega (arith, lt))
-any_default (x ∷ xs) zero d e lt = refl
-any_default (x ∷ xs) (suc n) d e lt = any_default xs n d e (omega (arith, lt))
+    omega (arith, follow_order us 0 is i j d (stored_follow us is s) less lt, after_is_more (is_wide_index (drop (get_or is i d).unit us)) (get_or is i d).unit)
 
 -- they rise by their units
 pub rise_by_unit : (is : List Index) → Rise is → IsNonDecreasingBy (λ (x : Index). x.unit) is
@@ -137,12 +110,10 @@ rise_by_unit is rise i j d le lt = elim (cases_eq i j) [
 -- ---- whether a unit is one of an index
 
 pub none_covers : (us : List ℕ) (is : List Index) (i : ℕ) → IsCountBefore is i 0 → false ≡ list_any (covers us i) is
-none_covers us is i h = sym (not_true (list_any (covers us i) is) (λ e.
+none_covers us is i h = sym (false_from_ne_true (list_any (covers us i) is) (λ e.
     let found : Any (λ (x : Index). covers us i x ≡ true) is = Any-from_list_any (covers us i) is e in
     let c : Index = found.1 in
-    let within = covers_within us i c found.4 in
-    let late : i ≤ c.unit = subst (λ (x : Index). i ≤ x.unit) found.3 (h.after found.0 c (omega arith) found.2) in
-    omega (arith, within.0, late)))
+    omega (arith, (covers_within us i c found.4).0, subst (λ (x : Index). i ≤ x.unit) found.3 (h.after found.0 c (omega arith) found.2))))
 
 pub last_covers : (us : List ℕ) (is : List Index) (i k : ℕ) (d : Index) → AreStored us is → IsCountBefore is i (k + 1) → covers us i (get_or is k d) ≡ list_any (covers us i) is
 last_covers us is i k d s h = same_test (covers us i (get_or is k d)) (list_any (covers us i) is)
@@ -153,35 +124,27 @@ last_covers us is i k d s h = same_test (covers us i (get_or is k d)) (list_any 
     let within = covers_within us i c found.4 in
     elim (cases_lt found.0 k) [
       | inl less ↦
-          let last : (get_or is k c).unit < i = h.before k c (omega arith) in
-          let order = subst (λ (x : Index). after_index (is_wide_index (drop x.unit us)) x.unit ≤ (get_or is k c).unit) found.3 (follow_order us 0 is found.0 k c (stored_follow us is s) less (omega (arith, h.within))) in
-          absurd (omega (arith, within.1, order, last))
+          absurd (omega (arith, within.1, (subst (λ (x : Index). after_index (is_wide_index (drop x.unit us)) x.unit ≤ (get_or is k c).unit) found.3 (follow_order us 0 is found.0 k c (stored_follow us is s) less (omega (arith, h.within)))), h.before k c (omega arith)))
       | inr more ↦ elim (cases_eq found.0 k) [
         | inl same ↦
-            let here : get_or is k d ≡ c = any_default is k d c (omega (arith, h.within)) ∙ ap (λ (j : ℕ). get_or is j c) (sym same) ∙ found.3 in
-            ap (covers us i) here ∙ found.4
+            ap (covers us i) (any_default is k d c (omega (arith, h.within)) ∙ ap (λ (j : ℕ). get_or is j c) (sym same) ∙ found.3) ∙ found.4
         | inr other ↦
-            let late : i ≤ c.unit = subst (λ (x : Index). i ≤ x.unit) found.3 (h.after found.0 c (omega (arith, more, other)) found.2) in
-            absurd (omega (arith, within.0, late))
+            absurd (omega (arith, within.0, (subst (λ (x : Index). i ≤ x.unit) found.3 (h.after found.0 c (omega (arith, more, other)) found.2))))
       ]
     ])
 
 -- ---- one unit
 
 none_after : (us : List ℕ) (from i : ℕ) (is : List Index) → Follow us from is → i ≤ from → list_any (covers us i) is ≡ false
-none_after us from i is h le = not_true (list_any (covers us i) is) (λ e.
+none_after us from i is h le = false_from_ne_true (list_any (covers us i) is) (λ e.
     let found : Any (λ (x : Index). covers us i x ≡ true) is = Any-from_list_any (covers us i) is e in
     let c : Index = found.1 in
-    let within = covers_within us i c found.4 in
-    let late : from ≤ c.unit = subst (λ (x : Index). from ≤ x.unit) found.3 (follow_after us from is found.0 c h found.2) in
-    omega (arith, within.0, late, le))
+    omega (arith, (covers_within us i c found.4).0, subst (λ (x : Index). from ≤ x.unit) found.3 (follow_after us from is found.0 c h found.2), le))
 
 zero_units : (w : Bool) (k : ℕ) (more : List ℕ) → k < length (index_units w 0) → slice_index (index_units w 0 ++ more) k ≡ 0
-zero_units true zero more lt = refl
-zero_units true (suc zero) more lt = refl
 zero_units true (suc (suc k)) more lt = absurd (omega (arith, lt))
-zero_units false zero more lt = refl
 zero_units false (suc k) more lt = absurd (omega (arith, lt))
+zero_units _ _ more lt = refl
 
 units_after : (w : Bool) (unit : ℕ) → unit + 1 + length (index_units w 0) ≡ after_index w unit
 units_after true unit = omega arith
@@ -193,29 +156,26 @@ blank_one us from i (x ∷ is) h le lt =
     let w : Bool = is_wide_index (drop x.unit us) in
     let front : List ℕ = take (x.unit + 1 - from) (drop from us) in
     let rest : List ℕ = spelled_from us (after_index w x.unit) (zeroed is) in
-    let following : after_index w x.unit ≤ length us = follow_end us (after_index w x.unit) is h.1 in
-    let long : length front ≡ x.unit + 1 - from = length-take-le (x.unit + 1 - from) (drop from us) (omega (arith, length-drop from us, following, after_is_more w x.unit)) in
+    let long : length front ≡ x.unit + 1 - from = length-take-le (x.unit + 1 - from) (drop from us) (omega (arith, length-drop from us, follow_within us (after_index w x.unit) is h.1, after_is_more w x.unit)) in
     elim (cases_lt i (x.unit + 1)) [
       | inl below ↦
           let place : from + (i - from) ≡ i = omega (arith, le) in
           let here : i - from < x.unit + 1 - from = omega (arith, below, le) in
-          let none : covers us i x ≡ false = not_true (covers us i x) (λ e. let c = covers_within us i x e in omega (arith, c.0, below)) in
-          let none_on : list_any (covers us i) is ≡ false = none_after us (after_index w x.unit) i is h.1 (omega (arith, below, after_is_more w x.unit)) in
+          let none : covers us i x ≡ false = false_from_ne_true (covers us i x) (λ e. let c = covers_within us i x e in omega (arith, c.0, below)) in
           get_or_append_left front (index_units w 0 ++ rest) 0 (i - from) (omega (arith, long, here))
           ∙ get_or-take (x.unit + 1 - from) (drop from us) (i - from) 0 here
           ∙ get_or-drop from us (i - from) 0 ∙ ap (slice_index us) place
-          ∙ ap (λ (b : Bool). cond b 0 (slice_index us i)) (sym (ap (λ (b : Bool). b || list_any (covers us i) is) none ∙ none_on))
+          ∙ ap (λ (b : Bool). cond b 0 (slice_index us i)) (sym (ap (λ (b : Bool). b || list_any (covers us i) is) none ∙ (none_after us (after_index w x.unit) i is h.1 (omega (arith, below, after_is_more w x.unit)))))
       | inr above ↦
           let moved : slice_index (front ++ (index_units w 0 ++ rest)) (i - from) ≡ slice_index (index_units w 0 ++ rest) (i - from - (x.unit + 1 - from)) =
           get_or-append_right front (index_units w 0 ++ rest) (x.unit + 1 - from) (i - from) 0 long (omega (arith, above, le, h.0)) in
           let step : i - from - (x.unit + 1 - from) ≡ i - (x.unit + 1) = omega (arith, above, le, h.0) in
           elim (cases_lt i (after_index w x.unit)) [
             | inl inside ↦
-                let yes : covers us i x ≡ true = within_covers us i x (omega (arith, above)) inside in
                 moved ∙ ap (slice_index (index_units w 0 ++ rest)) step ∙ zero_units w (i - (x.unit + 1)) rest (omega (arith, units_after w x.unit, inside, above))
-                ∙ ap (λ (b : Bool). cond (b || list_any (covers us i) is) 0 (slice_index us i)) (sym yes)
+                ∙ ap (λ (b : Bool). cond (b || list_any (covers us i) is) 0 (slice_index us i)) (sym (within_covers us i x (omega (arith, above)) inside))
             | inr beyond ↦
-                let none : covers us i x ≡ false = not_true (covers us i x) (λ e. let c = covers_within us i x e in omega (arith, c.1, beyond)) in
+                let none : covers us i x ≡ false = false_from_ne_true (covers us i x) (λ e. let c = covers_within us i x e in omega (arith, c.1, beyond)) in
                 let over : slice_index (index_units w 0 ++ rest) (i - (x.unit + 1)) ≡ slice_index rest (i - (x.unit + 1) - length (index_units w 0)) =
                 get_or-append_right (index_units w 0) rest (length (index_units w 0)) (i - (x.unit + 1)) 0 refl (omega (arith, units_after w x.unit, beyond)) in
                 let last : i - (x.unit + 1) - length (index_units w 0) ≡ i - after_index w x.unit = omega (arith, units_after w x.unit, beyond) in
@@ -224,13 +184,9 @@ blank_one us from i (x ∷ is) h le lt =
                 ∙ ap (λ (b : Bool). cond (b || list_any (covers us i) is) 0 (slice_index us i)) (sym none)
           ]
     ]
-  where
-    follow_end : (us : List ℕ) (from : ℕ) (is : List Index) → Follow us from is → from ≤ length us
-    follow_end us from [] h = h
-    follow_end us from (y ∷ is) h = let on = follow_end us (after_index (is_wide_index (drop y.unit us)) y.unit) is h.1 in omega (arith, h.0, on, after_is_more (is_wide_index (drop y.unit us)) y.unit)
 
 -- a unit of the pieces, as it is or zero
 pub blank_unit : (us : List ℕ) (is : List Index) (i : ℕ) → AreStored us is → i < length us → slice_index (flat_map blank_units (pieces_with (parts_in us) is)) i ≡ cond (list_any (covers us i) is) 0 (slice_index us i)
 blank_unit us is i s lt =
     let whole : i - 0 ≡ i = omega arith in
-    ap (λ (xs : List ℕ). slice_index xs i) (blank_all us is s) ∙ ap (slice_index (spelled_from us 0 (zeroed is))) (sym whole) ∙ blank_one us 0 i is (stored_follow us is s) (omega arith) lt
+    ap (λ (xs : List ℕ). slice_index xs i) (all_blank (parts_in us) is ∙ spelled_all us 0 (cuts_in us) (zeroed is) (omega arith) s.cut (same_places is ∙ s.places)) ∙ ap (slice_index (spelled_from us 0 (zeroed is))) (sym whole) ∙ blank_one us 0 i is (stored_follow us is s) (omega arith) lt

@@ -1,11 +1,9 @@
 -- Indices that are built from units that are checked.
-use Rattle.dexinsn.proofs.Common.{◌≡◌, ℕ, ◌+◌, ◌*◌, ◌<◌, ◌≤◌, true, false, List, [], ◌∷◌, ◌++◌, length, drop, take, Option, Some, None, refl, ap, sym, ◌∙◌, subst, arith, length-drop, zero-add, All, IsSome, is_some, option_map, append_assoc, drop-drop, length-append, Mentions, IsInData, Pool, Cut, AreCut, index_in, index_pool, piece_size}
-use Rattle.dexinsn.specs.declared.pieces.Index.{Index}
-use Rattle.dexinsn.specs.declared.shape.PiecesShape.{PiecesShape}
-use Rattle.dexinsn.specs.{units_in, kind_of_pool, FitsAt, AreCodeIndices, AreUnitsAt, indices_at, with_index_at, AreTheIndices, HaveIndices, IsChecked, IsShapeAt}
+use Rattle.dexinsn.proofs.Common.{◌≡◌, ℕ, ◌+◌, ◌*◌, ◌<◌, ◌≤◌, true, false, List, [], ◌∷◌, ◌++◌, length, drop, take, Option, Some, None, refl, ap, sym, ◌∙◌, subst, arith, length-drop, zero-add, All, IsSome, is_some, option_map, append_assoc, drop-drop, length-append, Mentions, IsInData, Pool, Cut, AreCut, index_in, index_pool, piece_size, Index, PiecesShape, kind_of_pool, FitsAt, AreCodeIndices, AreUnitsAt, indices_at, with_index_at, AreTheIndices, HaveIndices, IsChecked, IsShapeAt}
+use Rattle.dexinsn.specs.{units_in}
 use Rattle.dexinsn.proofs.CodeRead.{units_there}
 use Rattle.dexinsn.proofs.Halves.{uint_after}
-use Rattle.dexinsn.proofs.Passed.{same_cuts}
+use Rattle.dexinsn.proofs.Once.{whole_once}
 use Rattle.dexinsn.proofs.Sizes.{piece_size-fits}
 
 -- These indices are built, the pieces from a unit on have the others, and together they are all.
@@ -20,7 +18,7 @@ none_built us count is none h = subst (IndicesBuilt us count 0) (sym none) recor
   rest = h.cuts;
   ahead = h.cut;
   left = zero-add (length (indices_at us h.cuts)) ∙ h.counted;
-  whole = λ cs cut. ap (indices_at us) (same_cuts us h.cuts cs h.cut cut);
+  whole = λ cs cut. ap (indices_at us) (whole_once us h.cuts cs h.cut cut);
 }
 
 -- the piece that is next
@@ -50,17 +48,13 @@ next_piece us count at is h more = by_rest h.rest h.ahead h.left h.whole
 
 -- it begins within the units, which do not end before it does
 pub next_within : (us : List ℕ) (count at size : ℕ) (is : List Index) → NextPiece us count at is → piece_size at (drop at us) ≡ Some size → at + size ≤ length us
-next_within us count at size is n size_is =
-    let f = piece_size-fits at (drop at us) size size_is in
-    omega (arith, f.0, f.1, length-drop at us)
+next_within us count at size is n size_is = let f = piece_size-fits at (drop at us) size size_is in omega (arith, f.0, f.1, length-drop at us)
 
 pub some_units : (us : List ℕ) (at size : ℕ) → piece_size at (drop at us) ≡ Some size → 0 < size
 some_units us at size is = (piece_size-fits at (drop at us) size is).0
 
 pub next_begins : (us : List ℕ) (count at : ℕ) (is : List Index) → NextPiece us count at is → at < length us
-next_begins us count at is n =
-    let f = piece_size-fits at (drop at us) n.piece.units n.size in
-    omega (arith, f.0, f.1, length-drop at us)
+next_begins us count at is n = let f = piece_size-fits at (drop at us) n.piece.units n.size in omega (arith, f.0, f.1, length-drop at us)
 
 -- there is a piece at the unit
 pub next_size : (us : List ℕ) (count at : ℕ) (is : List Index) → NextPiece us count at is → IsSome (piece_size at (drop at us))
@@ -80,12 +74,11 @@ same_size a b o x y = let e : Some a ≡ Some b = sym x ∙ y in cc
 -- a piece without an index
 pub plain_built : (us : List ℕ) (count at size : ℕ) (is : List Index) → NextPiece us count at is → piece_size at (drop at us) ≡ Some size → index_pool (drop at us) ≡ None → IndicesBuilt us count (at + size) is
 plain_built us count at size is n size_is none =
-    let same : n.piece.units ≡ size = same_size n.piece.units size (piece_size at (drop at us)) n.size size_is in
     let here : index_pool (drop n.piece.unit us) ≡ None = ap (λ (k : ℕ). index_pool (drop k us)) n.unit ∙ none in
     let those : indices_at us (n.piece ∷ n.rest) ≡ indices_at us n.rest = ap (λ (o : Option Pool). with_index_at o us n.piece (indices_at us n.rest)) here in
     record {
       rest = n.rest;
-      ahead = subst (λ (k : ℕ). AreCut (at + k) (drop (at + k) us) n.rest []) same n.ahead;
+      ahead = subst (λ (k : ℕ). AreCut (at + k) (drop (at + k) us) n.rest []) (same_size n.piece.units size (piece_size at (drop at us)) n.size size_is) n.ahead;
       left = ap (λ (js : List Index). length is + length js) (sym those) ∙ n.left;
       whole = λ cs cut. ap (λ (js : List Index). is ++ js) (sym those) ∙ n.whole cs cut;
     }
@@ -94,7 +87,6 @@ plain_built us count at size is n size_is none =
 pub index_built : (us : List ℕ) (count at size number : ℕ) (is more : List Index) (pool : Pool) → NextPiece us count at is → piece_size at (drop at us) ≡ Some size → index_pool (drop at us) ≡ Some pool → number ≡ index_in (drop at us) → more ≡ is ++ record { unit = at; number = number } ∷ []
     → IndicesBuilt us count (at + size) more
 index_built us count at size number is more pool n size_is some number_is grown =
-    let same : n.piece.units ≡ size = same_size n.piece.units size (piece_size at (drop at us)) n.size size_is in
     let here : index_pool (drop n.piece.unit us) ≡ Some pool = ap (λ (k : ℕ). index_pool (drop k us)) n.unit ∙ some in
     let index : Index = record { unit = at; number = number } in
     let those : indices_at us (n.piece ∷ n.rest) ≡ index ∷ indices_at us n.rest =
@@ -105,7 +97,7 @@ index_built us count at size number is more pool n size_is some number_is grown 
     ap (λ (js : List Index). js ++ indices_at us n.rest) grown ∙ append_assoc is (index ∷ []) (indices_at us n.rest) ∙ ap (λ (js : List Index). is ++ js) (sym those) in
     record {
       rest = n.rest;
-      ahead = subst (λ (k : ℕ). AreCut (at + k) (drop (at + k) us) n.rest []) same n.ahead;
+      ahead = subst (λ (k : ℕ). AreCut (at + k) (drop (at + k) us) n.rest []) (same_size n.piece.units size (piece_size at (drop at us)) n.size size_is) n.ahead;
       left = sym (length-append more (indices_at us n.rest)) ∙ ap length joined ∙ length-append is (indices_at us (n.piece ∷ n.rest)) ∙ n.left;
       whole = λ cs cut. joined ∙ n.whole cs cut;
     }

@@ -1,12 +1,9 @@
 -- Remapped numbers fit their places.
-use Rattle.dexinsn.proofs.Common.{◌≡◌, ℕ, ◌+◌, ◌^◌, ◌<◌, ◌≤◌, max, nat_lt, ◌==◌, Bool, true, false, not, ◌&&◌, ◌||◌, cond, if◌then◌else◌, replicate, List, [], ◌∷◌, ◌++◌, length, take, drop, map, get_or, slice_index, Option, Some, None, inl, inr, refl, ap, sym, ◌∙◌, subst, arith, zero-add, All, Contains, flat_map, range_with_len, IsSome, option_and_then, option_map_or, ltb-true, ltb-false, eqb-true, and_parts, take_more, append-nil, get_or-replicate, get_or-map-range_with_len, flat_map-append, All-nil, All-cons, All-head, All-tail, All-push, All-weaker, All-get_or, Contains-append_left, Contains-append_right, Contains-append_cases, Pool, StringPool, TypePool, ProtoPool, FieldPool, MethodPool, Symbol, TextSymbol, TypeSymbol, ProtoSymbol, FieldSymbol, MethodSymbol, Mentions, Opcode, opcode_of, opcode_runs, Piece, index_pool, is_wide_index, is_payload_ident, low_byte, with_index, Text, SymbolKind, IsAt, Maps, image, image_of, AllMapTo, Use, IsMappedUse}
+use Rattle.dexinsn.proofs.Common.{if◌then◌else◌, ◌≡◌, ℕ, ◌+◌, ◌^◌, ◌<◌, ◌≤◌, max, nat_lt, ◌==◌, Bool, true, false, not, ◌&&◌, ◌||◌, cond, replicate, List, [], ◌∷◌, ◌++◌, length, take, drop, map, get_or, slice_index, Option, Some, None, inl, inr, refl, ap, sym, ◌∙◌, subst, arith, zero-add, All, Contains, flat_map, range_with_len, IsSome, option_and_then, option_map_or, ltb-true, ltb-false, eqb-true, and_parts, take_more, append-nil, get_or-replicate, get_or-map-range_with_len, flat_map-append, All-nil, All-cons, All-head, All-tail, All-push, All-weaker, All-get_or, Contains-append_left, Contains-append_right, Contains-append_cases, Pool, StringPool, TypePool, ProtoPool, FieldPool, MethodPool, Symbol, TextSymbol, TypeSymbol, ProtoSymbol, FieldSymbol, MethodSymbol, Mentions, Opcode, opcode_of, opcode_runs, Piece, index_pool, is_wide_index, is_payload_ident, low_byte, with_index, Text, SymbolKind, IsAt, Maps, image, image_of, AllMapTo, Use, IsMappedUse, Contains-nil, Contains-cons_cases, Contains-first, Contains-later, Index, is_text, is_short_string, short_number, short_string, short_strings, HasConstString, IsGreatest, short_at, ImagesFit, IsNotTooLarge, MapsShort, NumberedPiece, Instruction, Denotes, Denote, kind_in, kind_of_pool, uses_of, index_room, FitsPlace, FitPlaces, HasImage, parts_in, piece_with, left_by, pieces_with, AreStored, FitsAt, Payload}
 use Rattle.dexspec.specs.Pieces as symbolic
-use Rattle.dexspec.proofs.lists.Members.{Contains-nil, Contains-cons_cases, Contains-first, Contains-later}
 use Rattle.dexpool.specs.declared.symbols.SymbolKind.TheVariants as kinds
 use Rattle.dexpool.specs.Orderly.{KeepOrder, MapsDown}
-use Rattle.dexinsn.specs.declared.pieces.Index.{Index}
-use Rattle.dexinsn.specs.{is_text, is_short_string, short_number, short_string, short_strings, HasConstString, IsGreatest, short_at, ImagesFit, IsNotTooLarge, MapsShort, NumberedPiece, Instruction, Denotes, Denote, kind_in, kind_of_pool, uses_of, index_room, FitsPlace, FitPlaces, HasImage, HasPlace, parts_in, piece_with, left_by, pieces_with, AreStored, FitsAt}
-use Rattle.dexinsn.specs.Numbered.{Payload}
+use Rattle.dexinsn.specs.{HasPlace}
 use Rattle.dexinsn.proofs.Lined.{Heads, Lined, LinedBy, stored_lined, head_kind, head_room, head_wide}
 
 -- ---- images, piece by piece and use by use
@@ -115,8 +112,7 @@ short_is false n k c = absurd (Contains-nil k c)
 short_remapped : (r : Maps) (p : NumberedPiece) (i : ℕ) → HasImage r p → Contains (short_string p) i → IsSome (image r.texts i)
 short_remapped r (Instruction us None) i has c = absurd (Contains-nil i c)
 short_remapped r (Instruction us (Some n)) i has c =
-    let s = short_is (is_short_string us) n i c in
-    subst (λ k. IsSome (image r.texts k)) s.1 (text_remapped r (kind_in us) (is_wide_index us) n s.0 has)
+    let s = short_is (is_short_string us) n i c in subst (λ k. IsSome (image r.texts k)) s.1 (text_remapped r (kind_in us) (is_wide_index us) n s.0 has)
 short_remapped r (Payload us) i has c = absurd (Contains-nil i c)
 
 pub shorts_remapped : (r : Maps) (ps : List NumberedPiece) (i : ℕ) → All (HasImage r) ps → Contains (short_strings ps) i → IsSome (image r.texts i)
@@ -130,21 +126,15 @@ shorts_remapped r (p ∷ ps) i all c = elim (Contains-append_cases (short_string
 lesser_by : (r : Maps) (i g j k : ℕ) (b : Bool) → nat_lt i g ≡ b → KeepOrder r → image r.texts g ≡ Some k → k < 2 ^ 16 → i ≤ g → image r.texts i ≡ Some j → j < 2 ^ 16
 lesser_by r i g j k true test order e lt le f = let less : j < k = order.texts_keep i g j k (ltb-true i g test) f e in omega (arith, less, lt)
 lesser_by r i g j k false test order e lt le f =
-    let same : i ≡ g = omega (arith, ltb-false i g test, le) in
-    let one : Some j ≡ Some k = sym f ∙ ap (image r.texts) same ∙ e in
-    let is : j ≡ k = cc in
-    omega (arith, is, lt)
+    let same : i ≡ g = omega (arith, ltb-false i g test, le) in let one : Some j ≡ Some k = sym f ∙ ap (image r.texts) same ∙ e in let is : j ≡ k = cc in omega (arith, is, lt)
 
 lesser_image : (r : Maps) (i g j : ℕ) (o : Option ℕ) → KeepOrder r → image r.texts g ≡ o → IsSome o → MapsShort r (Some g) → i ≤ g → image r.texts i ≡ Some j → j < 2 ^ 16
 lesser_image r i g j None order e some short le f = absurd cc
 lesser_image r i g j (Some k) order e some short le f = lesser_by r i g j k (nat_lt i g) refl order e (short k e) le f
 
-below : (ns : List ℕ) (g i : ℕ) → All (λ k. k ≤ g) ns → Contains ns i → i ≤ g
-below ns g i all c = subst (λ k. k ≤ g) c.2 (All-get_or (λ k. k ≤ g) ns c.0 i c.1 all)
-
 pub short_mapped : (r : Maps) (ns : List ℕ) (greatest : Option ℕ) → KeepOrder r → IsGreatest ns greatest → MapsShort r greatest → ((i : ℕ) → Contains ns i → IsSome (image r.texts i)) → ShortMapped r ns
 short_mapped r ns None order is short remapped i j c e = absurd (Contains-nil i (subst (λ ks. Contains ks i) is c))
-short_mapped r ns (Some g) order is short remapped i j c e = lesser_image r i g j (image r.texts g) order refl (remapped g is.0) short (below ns g i is.1 c) e
+short_mapped r ns (Some g) order is short remapped i j c e = lesser_image r i g j (image r.texts g) order refl (remapped g is.0) short (subst (λ k. k ≤ g) c.2 (All-get_or (λ k. k ≤ g) ns c.0 i c.1 is.1)) e
 
 pub places_after_join : (r : Maps) (ps : List NumberedPiece) (greatest : Option ℕ) → KeepOrder r → ImagesFit r → IsGreatest (short_strings ps) greatest → MapsShort r greatest → All (IsMappedUse r) (uses_of ps) → All (HasPlace r) ps
 places_after_join r ps greatest order fit is short uses =
@@ -281,14 +271,11 @@ const_string us pool narrow =
     let named = pool_under (is_payload_ident (slice_index us 0)) (option_and_then (λ (o : Opcode). o.index) (opcode_of (low_byte (slice_index us 0)))) pool in
     const_by (option_and_then (λ (o : Opcode). o.index) (opcode_of (low_byte (slice_index us 0)))) (low_byte (slice_index us 0)) named (string_op (low_byte (slice_index us 0)) (omega arith)) narrow
 
-narrow_const : (us : List ℕ) → low_byte (slice_index us 0) ≡ 0x1a → is_wide_index us ≡ false
-narrow_const us e = ap (λ (n : ℕ). n == 0x1b) e
-
 text_const : (us : List ℕ) → index_pool us ≡ Some StringPool → kind_in us ≡ kinds.Text
 text_const us e = ap (λ (o : Option Pool). option_map_or kind_of_pool o kinds.Text) e
 
 short_const : (us : List ℕ) → index_pool us ≡ Some StringPool → low_byte (slice_index us 0) ≡ 0x1a → is_short_string us ≡ true
-short_const us pool op = ap (λ k. is_text k && not (is_wide_index us)) (text_const us pool) ∙ ap not (narrow_const us op)
+short_const us pool op = ap (λ k. is_text k && not (is_wide_index us)) (text_const us pool) ∙ ap not (ap (λ (n : ℕ). n == 0x1b) op)
 
 -- ---- what short strings denote
 
@@ -296,8 +283,7 @@ short_const us pool op = ap (λ k. is_text k && not (is_wide_index us)) (text_co
 named_piece : (m : Mentions) (p : NumberedPiece) (us : List ℕ) (s : Text) → Denotes m p (symbolic.Instruction us (Some (TextSymbol s))) → low_byte (slice_index us 0) ≡ 0x1a → (n : ℕ) × Contains (short_string p) n × IsAt m.texts n s
 named_piece m (Instruction xs None) us s h op = absurd h
 named_piece m (Instruction xs (Some n)) us s h op =
-    let at : low_byte (slice_index xs 0) ≡ 0x1a = ap (λ (ys : List ℕ). low_byte (slice_index ys 0)) h.0 ∙ op in
-    (n, subst (λ b. Contains (if b then n ∷ [] else []) n) (sym (short_const xs h.1 at)) (Contains-first n []), h.2)
+    (n, subst (λ b. Contains (if b then n ∷ [] else []) n) (sym (short_const xs h.1 (ap (λ (ys : List ℕ). low_byte (slice_index ys 0)) h.0 ∙ op))) (Contains-first n []), h.2)
 named_piece m (Payload xs) us s h op = absurd h
 
 named_in : (m : Mentions) (ps : List NumberedPiece) (qs : List Piece) (s : Text) (us : List ℕ) → Denote m ps qs → Contains qs (symbolic.Instruction us (Some (TextSymbol s))) → low_byte (slice_index us 0) ≡ 0x1a → (n : ℕ) × Contains (short_strings ps) n × IsAt m.texts n s
@@ -314,8 +300,7 @@ short_named m ps qs s h has = named_in m ps qs s has.units h has.piece has.short
 -- the symbol of a kind that is not of texts
 no_text : (us : List ℕ) (pool : Pool) → index_pool us ≡ Some pool → is_short_string us ≡ true → is_text (kind_of_pool pool) ≡ true
 no_text us pool e short =
-    let kind : kind_in us ≡ kind_of_pool pool = ap (λ (o : Option Pool). option_map_or kind_of_pool o kinds.Text) e in
-    ap is_text (sym kind) ∙ (and_parts (is_text (kind_in us)) (not (is_wide_index us)) short).0
+    ap is_text (sym (ap (λ (o : Option Pool). option_map_or kind_of_pool o kinds.Text) e)) ∙ (and_parts (is_text (kind_in us)) (not (is_wide_index us)) short).0
 
 not_back : (b : Bool) → not b ≡ true → b ≡ false
 not_back true e = absurd cc
@@ -326,8 +311,7 @@ Meant m n q = (s : Text) × IsAt m.texts n s × (us : List ℕ) × (q ≡ symbol
 
 meant_by : (m : Mentions) (us xs : List ℕ) (n : ℕ) (t : Symbol) → Denotes m (Instruction us (Some n)) (symbolic.Instruction xs (Some t)) → is_short_string us ≡ true → Meant m n (symbolic.Instruction xs (Some t))
 meant_by m us xs n (TextSymbol s) h short =
-    let narrow : is_wide_index us ≡ false = not_back (is_wide_index us) (and_parts (is_text (kind_in us)) (not (is_wide_index us)) short).1 in
-    (s, h.2, xs, refl, ap (λ (ys : List ℕ). low_byte (slice_index ys 0)) (sym h.0) ∙ const_string us h.1 narrow)
+    (s, h.2, xs, refl, ap (λ (ys : List ℕ). low_byte (slice_index ys 0)) (sym h.0) ∙ const_string us h.1 (not_back (is_wide_index us) (and_parts (is_text (kind_in us)) (not (is_wide_index us)) short).1))
 meant_by m us xs n (TypeSymbol s) h short = let bad : false ≡ true = no_text us TypePool h.1 short in absurd cc
 meant_by m us xs n (ProtoSymbol s) h short = let bad : false ≡ true = no_text us ProtoPool h.1 short in absurd cc
 meant_by m us xs n (FieldSymbol s) h short = let bad : false ≡ true = no_text us FieldPool h.1 short in absurd cc
@@ -336,8 +320,7 @@ meant_by m us xs n (MethodSymbol s) h short = let bad : false ≡ true = no_text
 meant_piece : (m : Mentions) (p : NumberedPiece) (q : Piece) (n : ℕ) → Denotes m p q → Contains (short_string p) n → Meant m n q
 meant_piece m (Instruction us None) q n h c = absurd (Contains-nil n c)
 meant_piece m (Instruction us (Some k)) (symbolic.Instruction xs (Some t)) n h c =
-    let s = short_is (is_short_string us) k n c in
-    subst (λ i. Meant m i (symbolic.Instruction xs (Some t))) s.1 (meant_by m us xs k t h s.0)
+    let s = short_is (is_short_string us) k n c in subst (λ i. Meant m i (symbolic.Instruction xs (Some t))) s.1 (meant_by m us xs k t h s.0)
 meant_piece m (Instruction us (Some k)) (symbolic.Instruction xs None) n h c = absurd h
 meant_piece m (Instruction us (Some k)) (symbolic.Payload xs) n h c = absurd h
 meant_piece m (Payload us) q n h c = absurd (Contains-nil n c)
@@ -347,8 +330,7 @@ short_denoted m [] qs n h c = absurd (Contains-nil n c)
 short_denoted m (p ∷ ps) [] n h c = absurd h
 short_denoted m (p ∷ ps) (q ∷ qs) n h c = elim (Contains-append_cases (short_string p) (short_strings ps) n c) [
   | inl l ↦
-      let f = meant_piece m p q n h.0 l in
-      (f.0, f.1, record { units = f.2; piece = subst (λ x. Contains (q ∷ qs) x) f.3 (Contains-first q qs); short = f.4 })
+      let f = meant_piece m p q n h.0 l in (f.0, f.1, record { units = f.2; piece = subst (λ x. Contains (q ∷ qs) x) f.3 (Contains-first q qs); short = f.4 })
   | inr l ↦
       let f = short_denoted m ps qs n h.1 l in
       let has : HasConstString qs f.0 = f.2 in

@@ -1,5 +1,5 @@
 -- Units that bytes encode, two for each.
-use Rattle.dexinsn.proofs.Common.{◌≡◌, ℕ, zero, suc, ◌+◌, ◌-◌, ◌*◌, ◌/◌, ◌<◌, ◌≤◌, List, ◌∷◌, length, take, drop, slice_index, refl, sym, ap, ◌∙◌, arith, length-drop, drop-drop, drop-take, take-take, length-take-le, number_of, ushort_at, ushorts_at, uint_at, length-ushorts_at}
+use Rattle.dexinsn.proofs.Common.{◌≡◌, ℕ, zero, suc, ◌+◌, ◌-◌, ◌*◌, ◌/◌, ◌≤◌, List, ◌∷◌, length, take, drop, refl, ap, ◌∙◌, arith, length-drop, drop-drop, drop-take, take-take, length-take-le, number_of, ushort_at, ushorts_at, uint_at, length-ushorts_at, ◌<◌, slice_index, sym}
 use Rattle.dexinsn.specs.{units_in}
 
 -- the unit at a place
@@ -35,8 +35,7 @@ ushorts_from b o n zero le = let e : o ≡ o + 2 * 0 = omega arith in let f : n 
 ushorts_from b o zero (suc k) le = absurd (omega arith)
 ushorts_from b o (suc n) (suc k) le =
     let e : o + 2 + 2 * k ≡ o + 2 * suc k = omega arith in
-    let f : n - k ≡ suc n - suc k = omega arith in
-    ushorts_from b (o + 2) n k (omega arith) ∙ ap (λ (m : ℕ). ushorts_at b m (n - k)) e ∙ ap (ushorts_at b (o + 2 * suc k)) f
+    let f : n - k ≡ suc n - suc k = omega arith in ushorts_from b (o + 2) n k (omega arith) ∙ ap (λ (m : ℕ). ushorts_at b m (n - k)) e ∙ ap (ushorts_at b (o + 2 * suc k)) f
 
 pub rest_from : (b : List ℕ) (at : ℕ) → at ≤ length (units_in b) → units_in (drop (2 * at) b) ≡ drop at (units_in b)
 rest_from b at le =
@@ -57,8 +56,7 @@ ushort_prefix : (b : List ℕ) (m o : ℕ) → o + 2 ≤ m → ushort_at (take m
 unfolding ushort_at
 ushort_prefix b m o le =
     let e : m ≡ o + (m - o) = omega arith in
-    let two : 2 ≤ m - o = omega arith in
-    ap number_of (ap (λ (k : ℕ). take 2 (drop o (take k b))) e ∙ ap (take 2) (drop-take o (m - o) b) ∙ take-take 2 (m - o) (drop o b) two)
+    ap number_of (ap (λ (k : ℕ). take 2 (drop o (take k b))) e ∙ ap (take 2) (drop-take o (m - o) b) ∙ take-take 2 (m - o) (drop o b) (omega arith))
 
 -- units among the first bytes
 ushorts_prefix : (b : List ℕ) (m o n : ℕ) → o + 2 * n ≤ m → ushorts_at (take m b) o n ≡ ushorts_at b o n

@@ -1,5 +1,5 @@
 -- An instruction with an index has room for it.
-use Rattle.dexinsn.proofs.Common.{◌≡◌, ℕ, ◌+◌, ◌-◌, ◌<◌, ◌≤◌, nat_le, Bool, true, false, ◌&&◌, ◌||◌, ◌==◌, cond, List, [], ◌∷◌, length, drop, slice_index, Option, Some, None, inl, inr, refl, ap, sym, ◌∙◌, subst, arith, length-drop, find, list_all, option_map, option_and_then, leb-true, and_parts, eqb-true, same_Some, Pool, Opcode, OpcodeRun, Format, units_in, opcode_of, opcode_runs, is_in_run, piece_size, index_pool, is_wide_index, is_payload_ident, packed_switch_ident, sparse_switch_ident, array_data_ident, low_byte, InstructionPiece, piece_is}
+use Rattle.dexinsn.proofs.Common.{found_passes, mapped_some, if_false, if_true, ◌≡◌, ℕ, ◌+◌, ◌-◌, ◌<◌, ◌≤◌, nat_le, Bool, true, false, ◌||◌, ◌==◌, cond, List, length, drop, slice_index, Option, Some, None, inl, inr, refl, ap, sym, ◌∙◌, subst, arith, length-drop, find, list_all, option_map, option_and_then, leb-true, eqb-true, same_Some, Pool, Opcode, OpcodeRun, Format, units_in, opcode_of, opcode_runs, is_in_run, piece_size, index_pool, is_wide_index, is_payload_ident, packed_switch_ident, sparse_switch_ident, array_data_ident, low_byte, InstructionPiece, piece_is}
 
 -- what has an index has two units at least
 abbrev is_long : Format → Option Pool → Bool
@@ -9,18 +9,6 @@ is_long f (Some pool) = nat_le 2 (units_in f)
 runs_are_long : list_all (λ (r : OpcodeRun). is_long r.format r.index) opcode_runs ≡ true
 unfolding opcode_runs
 runs_are_long = refl
-
-found_by : {X : Type 0} (p q : X → Bool) (x y : X) (ys : List X) (t : Bool) → (q y && list_all q ys) ≡ true → cond t (Some y) (find p ys) ≡ Some x → (list_all q ys ≡ true → find p ys ≡ Some x → q x ≡ true) → q x ≡ true
-found_by p q x y ys true all e again = let same : y ≡ x = cc in ap q (sym same) ∙ (and_parts (q y) (list_all q ys) all).0
-found_by p q x y ys false all e again = again (and_parts (q y) (list_all q ys) all).1 e
-
-found_passes : {X : Type 0} (p q : X → Bool) (xs : List X) (x : X) → list_all q xs ≡ true → find p xs ≡ Some x → q x ≡ true
-found_passes p q [] x all e = absurd cc
-found_passes p q (y ∷ ys) x all e = found_by p q x y ys (p y) all e (found_passes p q ys x)
-
-mapped_some : {X Y : Type 0} (f : X → Y) (o : Option X) (y : Y) → option_map f o ≡ Some y → (x : X) × (o ≡ Some x) × (f x ≡ y)
-mapped_some f None y e = absurd cc
-mapped_some f (Some x) y e = (x, refl, cc)
 
 opcode_is_long : (n : ℕ) (op : Opcode) → opcode_of n ≡ Some op → is_long op.format op.index ≡ true
 unfolding opcode_of
@@ -37,14 +25,6 @@ long_units : (f : Format) (i : Option Pool) (pool : Pool) → i ≡ Some pool �
 long_units f None pool e h = absurd cc
 long_units f (Some p) pool e h = leb-true 2 (units_in f) h
 
-pool_by : (t : Bool) (o : Option Pool) (pool : Pool) → t ≡ true → cond t None o ≡ Some pool → ⊥
-pool_by true o pool e h = cc
-pool_by false o pool e h = cc
-
-pool_from : (t : Bool) (o : Option Pool) (pool : Pool) → t ≡ false → cond t None o ≡ Some pool → o ≡ Some pool
-pool_from true o pool e h = absurd cc
-pool_from false o pool e h = h
-
 -- the room of an index
 pub record HasRoom (us : List ℕ) (n : ℕ) : Type 0 where
   pub within : n ≤ length us
@@ -53,37 +33,28 @@ pub record HasRoom (us : List ℕ) (n : ℕ) : Type 0 where
 
 room_of : (us : List ℕ) (n : ℕ) (pool : Pool) → InstructionPiece us n → index_pool us ≡ Some pool → HasRoom us n
 room_of us n pool p named =
-    let index : option_and_then (λ (op : Opcode). op.index) (opcode_of (low_byte (slice_index us 0))) ≡ Some pool = pool_from (is_payload_ident (slice_index us 0)) (option_and_then (λ (op : Opcode). op.index) (opcode_of (low_byte (slice_index us 0)))) pool p.ident named in
-    let own : p.op.index ≡ Some pool = sym (ap (option_and_then (λ (op : Opcode). op.index)) p.is) ∙ index in
-    let two : 2 ≤ units_in p.op.format = long_units p.op.format p.op.index pool own (opcode_is_long (low_byte (slice_index us 0)) p.op p.is) in
+    let index : option_and_then (λ (op : Opcode). op.index) (opcode_of (low_byte (slice_index us 0))) ≡ Some pool = sym (if_false (is_payload_ident (slice_index us 0)) None (option_and_then (λ (op : Opcode). op.index) (opcode_of (low_byte (slice_index us 0)))) p.ident) ∙ named in
     record {
       within = p.within;
-      two = omega (arith, two, p.units);
+      two = omega (arith, long_units p.op.format p.op.index pool (sym (ap (option_and_then (λ (op : Opcode). op.index)) p.is) ∙ index) (opcode_is_long (low_byte (slice_index us 0)) p.op p.is), p.units);
       three = λ wide.
-          let op : low_byte (slice_index us 0) ≡ 0x1b = eqb-true (low_byte (slice_index us 0)) 0x1b wide in
-          let units : units_in p.op.format ≡ 3 = same_Some (units_in p.op.format) 3 (sym (ap (option_map (λ (o : Opcode). units_in o.format)) p.is) ∙ ap (λ (k : ℕ). option_map (λ (o : Opcode). units_in o.format) (opcode_of k)) op ∙ jumbo_units) in
-          omega (arith, units, p.units);
+          omega (arith, same_Some (units_in p.op.format) 3 (sym (ap (option_map (λ (o : Opcode). units_in o.format)) p.is) ∙ ap (λ (k : ℕ). option_map (λ (o : Opcode). units_in o.format) (opcode_of k)) (eqb-true (low_byte (slice_index us 0)) 0x1b wide) ∙ jumbo_units), p.units);
     }
 
 -- a piece with an index has room for it
 pub has_room : (at : ℕ) (us : List ℕ) (n : ℕ) (pool : Pool) → piece_size at us ≡ Some n → index_pool us ≡ Some pool → HasRoom us n
 has_room at us n pool size named = elim (piece_is at us n size) [
-  | inl p ↦ absurd (pool_by (is_payload_ident (slice_index us 0)) (option_and_then (λ (op : Opcode). op.index) (opcode_of (low_byte (slice_index us 0)))) pool p.ident named)
+  | inl p ↦ absurd (let none : None ≡ Some pool = sym (if_true (is_payload_ident (slice_index us 0)) None (option_and_then (λ (op : Opcode). op.index) (opcode_of (low_byte (slice_index us 0)))) p.ident) ∙ named in cc)
   | inr p ↦ room_of us n pool p named
 ]
 
 -- the same of a piece that is among units
 pub room_after : (us : List ℕ) (at n : ℕ) (pool : Pool) → piece_size at (drop at us) ≡ Some n → index_pool (drop at us) ≡ Some pool → at + 1 < length us
-room_after us at n pool size named =
-    let r : HasRoom (drop at us) n = has_room at (drop at us) n pool size named in
-    let l : length (drop at us) ≡ length us - at = length-drop at us in
-    omega (arith, r.within, r.two)
+room_after us at n pool size named = let r : HasRoom (drop at us) n = has_room at (drop at us) n pool size named in omega (arith, r.within, r.two, length-drop at us)
 
 pub wide_room_after : (us : List ℕ) (at n : ℕ) (pool : Pool) → piece_size at (drop at us) ≡ Some n → index_pool (drop at us) ≡ Some pool → is_wide_index (drop at us) ≡ true → at + 2 < length us
 wide_room_after us at n pool size named wide =
-    let r : HasRoom (drop at us) n = has_room at (drop at us) n pool size named in
-    let l : length (drop at us) ≡ length us - at = length-drop at us in
-    omega (arith, r.within, r.three wide)
+    let r : HasRoom (drop at us) n = has_room at (drop at us) n pool size named in omega (arith, r.within, r.three wide, length-drop at us)
 
 -- a payload begins with the opcode of an instruction that has no index
 payload_first : (a b c : Bool) (u : ℕ) → (u == packed_switch_ident) ≡ a → (u == sparse_switch_ident) ≡ b → (u == array_data_ident) ≡ c → (a || (b || c)) ≡ true → low_byte u ≡ 0

@@ -1,7 +1,5 @@
 -- The indices of pieces, one after the other.
-use Rattle.dexinsn.proofs.Common.{◌≡◌, ℕ, List, [], ◌∷◌, ◌++◌, drop, Option, Some, None, refl, ap, ◌∙◌, Pool, Cut, index_pool}
-use Rattle.dexinsn.specs.declared.pieces.Index.{Index}
-use Rattle.dexinsn.specs.{with_index_at, indices_at}
+use Rattle.dexinsn.proofs.Common.{◌≡◌, ℕ, List, [], ◌∷◌, ◌++◌, drop, Option, Some, None, refl, ap, ◌∙◌, Pool, Cut, index_pool, Index, with_index_at, indices_at}
 
 -- ---- one piece more
 

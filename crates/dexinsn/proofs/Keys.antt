@@ -27,5 +27,4 @@ do_rise-less us i j n (suc k) a b is some next first second less =
 
 pub do_rise-not : (us : List ℕ) (i n k : ℕ) (a b : ℤ) → n ≡ suc k → 0 < k → a ≡ int_in us i → b ≡ int_in us (i + 2) → b ≤ℤ a → do_rise us i n ≡ false
 do_rise-not us i n zero a b is some first second le = absurd (omega arith)
-do_rise-not us i n (suc k) a b is some first second le =
-    ap (do_rise us i) is ∙ step us i k false (compared us i a b false first second (is_lt-not a b le))
+do_rise-not us i n (suc k) a b is some first second le = ap (do_rise us i) is ∙ step us i k false (compared us i a b false first second (is_lt-not a b le))

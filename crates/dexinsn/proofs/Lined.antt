@@ -1,9 +1,7 @@
 -- Pieces and the indices beside them, one after the other.
-use Rattle.dexinsn.proofs.Common.{get_or, ◌≡◌, ℕ, ◌+◌, ◌-◌, ◌<◌, ◌^◌, Bool, true, false, cond, List, [], ◌∷◌, ◌++◌, length, drop, map, slice_index, Option, Some, None, refl, ap, sym, ◌∙◌, subst, arith, length-drop, All, option_map_or, unwrap_or, drop-drop, get_or-map, length-map, All-cons, All-get_or, All-head, All-nil, All-tail, Pool, Cut, AreCut, piece_size, cut_units, index_pool, is_wide_index, is_payload_ident, with_index, Maps, image_of, Use}
+use Rattle.dexinsn.proofs.Common.{get_or, ◌≡◌, ℕ, ◌+◌, ◌-◌, ◌<◌, ◌^◌, Bool, true, false, cond, List, [], ◌∷◌, ◌++◌, length, drop, map, slice_index, Option, Some, None, refl, ap, sym, ◌∙◌, subst, arith, length-drop, All, option_map_or, unwrap_or, drop-drop, get_or-map, length-map, All-cons, All-get_or, All-head, All-nil, All-tail, Pool, Cut, AreCut, piece_size, cut_units, index_pool, is_wide_index, is_payload_ident, with_index, Maps, image_of, Use, Index, IsPieceAt, NumberedPiece, Instruction, kind_in, kind_of_pool, index_room, piece_uses, uses_of, renumbered_piece, cuts_in, parts_in, piece_with, left_by, pieces_with, with_place, index_places, AreStored, FitsAt, use_at, HasPlaceAt, renumbered_index, IsIndexed, Payload}
 use Rattle.dexpool.specs.declared.symbols.SymbolKind.TheVariants as kinds
-use Rattle.dexinsn.specs.declared.pieces.Index.{Index}
-use Rattle.dexinsn.specs.{IsPieceAt, NumberedPiece, Instruction, kind_in, kind_of_pool, index_room, piece_uses, uses_of, HasPlace, renumbered_piece, cuts_in, parts_in, piece_with, left_by, pieces_with, with_place, index_places, AreStored, FitsAt, use_at, HasPlaceAt, renumbered_index, IsIndexed}
-use Rattle.dexinsn.specs.Numbered.{Payload}
+use Rattle.dexinsn.specs.{HasPlace}
 use Rattle.dexinsn.proofs.IndexRoom.{HasRoom, has_room}
 use Rattle.dexinsn.proofs.StoredRead.{same_pool, same_wide, first_kept, cut_pool, cut_first, cut_length}
 
@@ -30,8 +28,7 @@ lined_by (Some pool) us c at parts places (i ∷ is) unit piece e same on =
     let here : i.unit ≡ at = cc in
     let rest : map (λ (i : Index). i.unit) is ≡ places = cc in
     let there : i.unit ≡ c.unit = here ∙ sym unit in
-    let named : index_pool (drop c.unit us) ≡ Some pool = sym (cut_pool us c piece) ∙ e in
-    let r : HasRoom (drop c.unit us) c.units = has_room c.unit (drop c.unit us) c.units pool piece named in
+    let r : HasRoom (drop c.unit us) c.units = has_room c.unit (drop c.unit us) c.units pool piece (sym (cut_pool us c piece) ∙ e) in
     let l : length (drop c.unit us) ≡ length us - c.unit = length-drop c.unit us in (
       record {
         first = ap (λ (k : ℕ). slice_index (drop k us) 0) there ∙ sym (cut_first us c piece);
@@ -76,9 +73,6 @@ stored_indexed us is s = all_indexed us (parts_in us) is (stored_lined us is s)
 pub same_kind_in : (xs ys : List ℕ) → slice_index xs 0 ≡ slice_index ys 0 → kind_in xs ≡ kind_in ys
 same_kind_in xs ys e = ap (λ (o : Option Pool). option_map_or kind_of_pool o kinds.Text) (same_pool xs ys e)
 
-same_room : (xs ys : List ℕ) → slice_index xs 0 ≡ slice_index ys 0 → index_room xs ≡ index_room ys
-same_room xs ys e = ap (λ (t : Bool). cond t (2 ^ 32) (2 ^ 16)) (same_wide xs ys e)
-
 pub head_kind : (us xs : List ℕ) (i : Index) → Heads us xs i → kind_in (with_index 0 xs) ≡ kind_in (drop i.unit us)
 head_kind us xs i h = same_kind_in (with_index 0 xs) (drop i.unit us) (first_kept 0 xs ∙ sym h.first)
 
@@ -86,7 +80,7 @@ pub head_wide : (us xs : List ℕ) (i : Index) → Heads us xs i → is_wide_ind
 head_wide us xs i h = same_wide (with_index 0 xs) (drop i.unit us) (first_kept 0 xs ∙ sym h.first)
 
 pub head_room : (us xs : List ℕ) (i : Index) → Heads us xs i → index_room (with_index 0 xs) ≡ index_room (drop i.unit us)
-head_room us xs i h = same_room (with_index 0 xs) (drop i.unit us) (first_kept 0 xs ∙ sym h.first)
+head_room us xs i h = ap (λ (t : Bool). cond t (2 ^ 32) (2 ^ 16)) (same_wide (with_index 0 xs) (drop i.unit us) (first_kept 0 xs ∙ sym h.first))
 
 -- ---- the symbols that occur
 
@@ -110,9 +104,6 @@ stored_uses us is s = uses_lined us (parts_in us) is (stored_lined us is s)
 
 -- ---- other numbers
 
-place_at : (r : Maps) (us xs : List ℕ) (i : Index) → Heads us xs i → HasPlace r (Instruction (with_index 0 xs) (Some i.number)) → HasPlaceAt r us i
-place_at r us xs i h p = (p.0, ap (λ k. image_of r k i.number) (sym (head_kind us xs i h)) ∙ p.1, subst (λ (n : ℕ). p.0 < n) (head_room us xs i h) p.2)
-
 place_back : (r : Maps) (us xs : List ℕ) (i : Index) → Heads us xs i → HasPlaceAt r us i → HasPlace r (Instruction (with_index 0 xs) (Some i.number))
 place_back r us xs i h p = (p.0, ap (λ k. image_of r k i.number) (head_kind us xs i h) ∙ p.1, subst (λ (n : ℕ). p.0 < n) (sym (head_room us xs i h)) p.2)
 
@@ -120,7 +111,7 @@ has_places_by : (r : Maps) (o : Option Pool) (us xs : List ℕ) (parts : List (L
     → HasPlace r (piece_with o xs is) → All (HasPlace r) (pieces_with parts (left_by o is)) → All (HasPlaceAt r us) is
 has_places_by r None us xs parts is on h first rest = on is h rest
 has_places_by r (Some pool) us xs parts [] on h first rest = absurd h
-has_places_by r (Some pool) us xs parts (i ∷ is) on h first rest = All-cons (HasPlaceAt r us) i is (place_at r us xs i h.0 first) (on is h.1 rest)
+has_places_by r (Some pool) us xs parts (i ∷ is) on h first rest = All-cons (HasPlaceAt r us) i is ((first.0, ap (λ k. image_of r k i.number) (sym (head_kind us xs i h.0)) ∙ first.1, subst (λ (n : ℕ). first.0 < n) (head_room us xs i h.0) first.2)) (on is h.1 rest)
 
 has_places : (r : Maps) (us : List ℕ) (parts : List (List ℕ)) (is : List Index) → Lined us parts is → All (HasPlace r) (pieces_with parts is) → All (HasPlaceAt r us) is
 has_places r us [] is h all = subst (All (HasPlaceAt r us)) (sym h) (All-nil (HasPlaceAt r us))

@@ -1,27 +1,17 @@
 -- What numbers denote: ranks, and the same symbols under other numbers.
-use Rattle.std.proofs.Common.{◌≡◌, ℕ, ◌<◌, List, [], ◌∷◌, ◌++◌, length, map, get_or, Option, Some, None, refl, ap, sym, ◌∙◌, subst, arith}
+use Rattle.dexinsn.proofs.Common.{◌≡◌, ℕ, ◌<◌, List, [], ◌∷◌, ◌++◌, length, map, get_or, Option, Some, None, refl, ap, sym, ◌∙◌, subst, arith, ushort, All, AllZip, flat_map, option_map_or, All-nil, All-cons, All-head, All-tail, rank, text_cmp, Pool, Proto, Field, Method, Symbol, TextSymbol, TypeSymbol, ProtoSymbol, FieldSymbol, MethodSymbol, pool_of, proto_cmp, field_cmp, method_cmp, Mentions, piece_symbols, index_pool, with_index, SymbolKind, IsAt, IsNumbered, IsOfKind, AreRising, AreMarksOf, Maps, image_of, MapsTo, AllMapTo, Use, HasMark, marks_of, IsUseOf, NumberedPiece, Instruction, Payload, Denotes, Denote, kind_in, kind_of_pool, uses_of, numbered_units, numbered_bytes, HasImage, renumbered_piece}
 use Rattle.std.specs.Prelude.{Result}
 use Rattle.std.specs.Global.{Vec}
-use Rattle.dexspec.specs.Bytes.{ushort}
 use Rattle.dexspec.specs.internal.Writing.{Puts}
-use Rattle.std.specs.List.{All, AllZip, flat_map}
-use Rattle.std.specs.Option.{IsSome, option_map_or}
-use Rattle.std.proofs.lemmas.List.Elements.{All-nil, All-cons, All-head, All-tail}
-use Rattle.dexspec.specs.Lists.{rank}
-use Rattle.dexspec.specs.Texts.{text_cmp}
-use Rattle.dexspec.specs.Symbols.{Pool, Proto, Field, Method, Symbol, TextSymbol, TypeSymbol, ProtoSymbol, FieldSymbol, MethodSymbol, pool_of, proto_cmp, field_cmp, method_cmp}
-use Rattle.dexspec.specs.Mentions.{Mentions, piece_symbols}
-use Rattle.dexspec.specs.Pieces.{Piece, index_pool, with_index}
+use Rattle.std.specs.Option.{IsSome}
+use Rattle.dexspec.specs.Pieces.{Piece}
 use Rattle.dexspec.specs.Pieces as symbolic
 use Rattle.dexspec.specs.Spellings.{symbol_index, piece_units}
 use Rattle.dexspec.proofs.lists.InOrder.{Rises-from_rises, rank-get_or}
 use Rattle.dexspec.proofs.merge.SymbolOrders.{text_total, proto_total, field_total, method_total}
-use Rattle.dexpool.specs.declared.symbols.SymbolKind.{SymbolKind}
 use Rattle.dexpool.specs.declared.symbols.SymbolKind.TheVariants as kinds
-use Rattle.dexpool.specs.Numberings.{IsAt, IsNumbered, IsOfKind, AreRising, AreMarksOf, Maps, image_of, MapsTo, AllMapTo}
 use Rattle.dexpool.specs.declared.marks.Marks.{Marks}
-use Rattle.dexpool.specs.Uses.{Use, HasMark, marks_of, IsUseOf}
-use Rattle.dexinsn.specs.Numbered.{NumberedPiece, Instruction, Payload, Denotes, Denote, kind_in, kind_of_pool, uses_of, numbered_units, numbered_bytes, HasImage, HasPlace, renumbered_piece}
+use Rattle.dexinsn.specs.Numbered.{HasPlace}
 
 no_proto : Proto
 no_proto = record { return_type = []; parameters = [] }
@@ -44,11 +34,7 @@ piece_is : (m : Mentions) (p : NumberedPiece) (q : Piece) → AreRising m → De
 piece_is m (Instruction us None) (symbolic.Instruction xs None) r h = h
 piece_is m (Instruction us (Some n)) (symbolic.Instruction xs (Some s)) r h = ap (with_index n) h.0 ∙ ap (λ (k : ℕ). with_index k xs) (sym (index_is m n s r h.2))
 piece_is m (Payload us) (symbolic.Payload xs) r h = h
-piece_is m (Instruction us None) (symbolic.Instruction xs (Some s)) r h = absurd h
-piece_is m (Instruction us None) (symbolic.Payload xs) r h = absurd h
-piece_is m (Instruction us (Some n)) (symbolic.Instruction xs None) r h = absurd h
-piece_is m (Instruction us (Some n)) (symbolic.Payload xs) r h = absurd h
-piece_is m (Payload us) (symbolic.Instruction xs s) r h = absurd h
+piece_is m _ _ r h = absurd h
 
 -- the units are those of the symbolic pieces, where each index is the rank of its symbol
 pub units_are : (m : Mentions) (ps : List NumberedPiece) (qs : List Piece) → AreRising m → Denote m ps qs → flat_map numbered_units ps ≡ flat_map (piece_units m) qs
@@ -81,11 +67,7 @@ renumbered_denotes : (m n : Mentions) (r : Maps) (p : NumberedPiece) (q : Piece)
 renumbered_denotes m n r (Instruction us None) (symbolic.Instruction xs None) l image h = h
 renumbered_denotes m n r (Instruction us (Some i)) (symbolic.Instruction xs (Some s)) l image h = renumbered_by m n r us xs i s (image_of r (kind_in us) i) l refl image h
 renumbered_denotes m n r (Payload us) (symbolic.Payload xs) l image h = h
-renumbered_denotes m n r (Instruction us None) (symbolic.Instruction xs (Some s)) l image h = absurd h
-renumbered_denotes m n r (Instruction us None) (symbolic.Payload xs) l image h = absurd h
-renumbered_denotes m n r (Instruction us (Some i)) (symbolic.Instruction xs None) l image h = absurd h
-renumbered_denotes m n r (Instruction us (Some i)) (symbolic.Payload xs) l image h = absurd h
-renumbered_denotes m n r (Payload us) (symbolic.Instruction xs s) l image h = absurd h
+renumbered_denotes m n r _ _ l image h = absurd h
 
 -- the pieces denote the same symbolic ones
 pub renumbered_denote : (m n : Mentions) (r : Maps) (ps : List NumberedPiece) (qs : List Piece) → AllMapTo m n r → All (HasImage r) ps → Denote m ps qs → Denote n (map (renumbered_piece r) ps) qs
@@ -96,9 +78,8 @@ renumbered_denote m n r (p ∷ ps) (q ∷ qs) l images h =
     (renumbered_denotes m n r p q l (All-head (HasImage r) p ps images) h.0, renumbered_denote m n r ps qs l (All-tail (HasImage r) p ps images) h.1)
 
 image_of_place : (r : Maps) (p : NumberedPiece) → HasPlace r p → HasImage r p
-image_of_place r (Instruction us None) h = tt
 image_of_place r (Instruction us (Some i)) h = subst IsSome (sym h.1) refl
-image_of_place r (Payload us) h = tt
+image_of_place r _ h = tt
 
 -- numbers that have places have images
 pub images_of_places : (r : Maps) (ps : List NumberedPiece) → All (HasPlace r) ps → All (HasImage r) ps
@@ -122,11 +103,7 @@ uses_encoded m (p ∷ ps) [] h = absurd h
 uses_encoded m (Instruction us None ∷ ps) (symbolic.Instruction xs None ∷ qs) h = uses_encoded m ps qs h.1
 uses_encoded m (Instruction us (Some i) ∷ ps) (symbolic.Instruction xs (Some s) ∷ qs) h = (use_encoded m us i s (kind_is us (pool_of s) h.0.1) h.0.2, uses_encoded m ps qs h.1)
 uses_encoded m (Payload us ∷ ps) (symbolic.Payload xs ∷ qs) h = uses_encoded m ps qs h.1
-uses_encoded m (Instruction us None ∷ ps) (symbolic.Instruction xs (Some s) ∷ qs) h = absurd h.0
-uses_encoded m (Instruction us None ∷ ps) (symbolic.Payload xs ∷ qs) h = absurd h.0
-uses_encoded m (Instruction us (Some i) ∷ ps) (symbolic.Instruction xs None ∷ qs) h = absurd h.0
-uses_encoded m (Instruction us (Some i) ∷ ps) (symbolic.Payload xs ∷ qs) h = absurd h.0
-uses_encoded m (Payload us ∷ ps) (symbolic.Instruction xs s ∷ qs) h = absurd h.0
+uses_encoded m _ _ h = absurd h.0
 
 -- so are the bytes
 pub bytes_put : {T E : Type 0} (m : Mentions) (ps : List NumberedPiece) (qs : List Piece) (old new : Vec ℕ) (r : Result T E) → flat_map numbered_units ps ≡ flat_map (piece_units m) qs → Puts (numbered_bytes ps) old new r → Puts (flat_map ushort (flat_map (piece_units m) qs)) old new r
@@ -143,14 +120,11 @@ mark_by m marks kinds.Field n (FieldSymbol s) are h kind = omega (arith, h.withi
 mark_by m marks kinds.Method n (MethodSymbol s) are h kind = omega (arith, h.within, are.methods_count)
 mark_by m marks k n s are h kind = absurd kind
 
-mark_for : (m : Mentions) (marks : Marks) (u : Use) (s : Symbol) → AreMarksOf m marks → IsUseOf m u s → HasMark marks u
-mark_for m marks u s are h = mark_by m marks u.kind u.number s are h.0 h.1
-
 -- there is a mark for each symbol that occurs
 all_marked : (m : Mentions) (marks : Marks) (us : List Use) (ss : List Symbol) → AreMarksOf m marks → AllZip (IsUseOf m) us ss → All (HasMark marks) us
 all_marked m marks [] ss are h = All-nil (HasMark marks)
 all_marked m marks (u ∷ us) [] are h = absurd h
-all_marked m marks (u ∷ us) (s ∷ ss) are h = All-cons (HasMark marks) u us (mark_for m marks u s are h.0) (all_marked m marks us ss are h.1)
+all_marked m marks (u ∷ us) (s ∷ ss) are h = All-cons (HasMark marks) u us (mark_by m marks u.kind u.number s are h.0.0 h.0.1) (all_marked m marks us ss are h.1)
 
 pub marks_there : (m : Mentions) (marks : Marks) (ps : List NumberedPiece) (qs : List Piece) → AreMarksOf m marks → Denote m ps qs → All (HasMark marks) (uses_of ps)
 marks_there m marks ps qs are h = all_marked m marks (uses_of ps) (flat_map piece_symbols qs) are (uses_encoded m ps qs h)

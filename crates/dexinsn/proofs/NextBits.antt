@@ -1,8 +1,7 @@
 -- The next bit that is set.
-use Rattle.dexinsn.proofs.Common.{◌≡◌, ℕ, ◌+◌, ◌-◌, ◌*◌, ◌/◌, ◌%◌, ◌^◌, ◌<◌, ◌≤◌, w64, List, length, slice_index, inl, inr, ap, sym, ◌∙◌, arith, bit_at, trailing_zeros, cases_lt, get_or_past, bit_at-zero, bit_at_above, bit_at-trailing_zeros}
+use Rattle.dexinsn.proofs.Common.{◌≡◌, ℕ, ◌+◌, ◌-◌, ◌*◌, ◌/◌, ◌%◌, ◌^◌, ◌<◌, ◌≤◌, w64, List, length, slice_index, inl, inr, ap, sym, ◌∙◌, arith, bit_at, trailing_zeros, cases_lt, bit_at-zero, bit_at_above, bit_at-trailing_zeros, HasBit, HasNoBit, IsNextBit}
 use Rattle.std.proofs.Math.Nat.{div-le_self}
-use Rattle.dexinsn.specs.internal.{HasBit}
-use Rattle.dexinsn.specs.{HasNoBit, IsNextBit}
+use Rattle.dexinsn.proofs.Placed.{no_bit_past}
 use Rattle.dexinsn.proofs.StartBits.{low_part}
 
 -- no bit is set from one unit up to another
@@ -39,15 +38,13 @@ word_done words from at h is = record {
 -- the first bit of what is left
 pub word_has : (words : List ℕ) (from at rest : ℕ) → NoneUpTo words from at → rest ≡ slice_index words (at / 64) / 2 ^ (at % 64) → 0 < rest → slice_index words (at / 64) < 2 ^ 64 → IsNextBit words from (at + trailing_zeros w64 rest)
 word_has words from at rest h is some fits =
-    let small : rest < 2 ^ 64 = omega (arith, is, div-le_self (slice_index words (at / 64)) (2 ^ (at % 64)), fits) in
-    let z = bit_at-trailing_zeros w64 rest some small in
+    let z = bit_at-trailing_zeros w64 rest some (omega (arith, is, div-le_self (slice_index words (at / 64)) (2 ^ (at % 64)), fits)) in
     let tz : ℕ = trailing_zeros w64 rest in
     let here : bit_at (slice_index words (at / 64) / 2 ^ (at % 64)) tz ≡ 1 = ap (λ w. bit_at w tz) (sym is) ∙ z.1 in
     let in_word : at % 64 + tz < 64 = elim (cases_lt (at % 64 + tz) 64) [
       | inl below ↦ below
       | inr beyond ↦
-          let none = low_part (slice_index words (at / 64)) (at % 64) tz ∙ bit_at_above (slice_index words (at / 64)) 64 (at % 64 + tz) fits beyond in
-          absurd (omega (arith, here, none))
+          absurd (omega (arith, here, low_part (slice_index words (at / 64)) (at % 64) tz ∙ bit_at_above (slice_index words (at / 64)) 64 (at % 64 + tz) fits beyond))
     ] in
     let same : at + tz - at ≡ tz = omega arith in
     record {
@@ -56,19 +53,12 @@ word_has words from at rest h is some fits =
       first = λ k le lt has. elim (cases_lt k at) [
         | inl below ↦ h.none k le below has
         | inr beyond ↦
-            let one = rest_of words at k beyond (omega (arith, in_word, lt, beyond)) has in
-            let none = ap (λ w. bit_at w (k - at)) (sym is) ∙ z.2 (k - at) (omega (arith, lt, beyond)) in
-            omega (arith, one, none)
+            omega (arith, (rest_of words at k beyond (omega (arith, in_word, lt, beyond)) has), (ap (λ w. bit_at w (k - at)) (sym is) ∙ z.2 (k - at) (omega (arith, lt, beyond))))
       ];
     }
-
--- no bit is set after the words
-bit_past : (words : List ℕ) (k : ℕ) → length words ≤ k / 64 → HasBit words k → ⊥
-unfolding HasBit
-bit_past words k past has = let none = ap (λ w. bit_at w (k % 64)) (get_or_past words (k / 64) 0 past) ∙ bit_at-zero (k % 64) in omega arith
 
 pub none_left : (words : List ℕ) (from at : ℕ) → NoneUpTo words from at → length words ≤ at / 64 → HasNoBit words from
 none_left words from at h past = λ k le has. elim (cases_lt k at) [
   | inl below ↦ h.none k le below has
-  | inr beyond ↦ bit_past words k (omega (arith, past, beyond)) has
+  | inr beyond ↦ no_bit_past words k (omega (arith, past, beyond)) has
 ]

@@ -1,12 +1,10 @@
 -- Units have one answer only: they are cut in one way, which ends at their end or breaks at one unit.
-use Rattle.dexinsn.proofs.Common.{◌≡◌, ◌≢◌, inl, inr, ℕ, ◌+◌, ◌-◌, ◌<◌, ◌≤◌, Bool, not, cond, List, [], ◌∷◌, length, drop, Some, None, Result, Ok, Err, refl, ap, sym, ◌∙◌, subst, arith, add-zero, add_assoc, zero-add, length-drop, IsTrue, All, find, option_map, All-head, All-tail, same_Some, Cut, AreCut, IsCode, has_right_targets, piece_size, Vec, IfOk, Global}
-use Rattle.dexinsn.specs.{BreaksAt, cuts_of, units_of_all, first_bad_target, first_bad_target_of, HasBadTargetAt, IsFault, IsResult, IsReturned}
-use Rattle.std.specs.Prelude.{IfErr}
+use Rattle.dexinsn.proofs.Common.{◌≡◌, ◌≢◌, inl, inr, ℕ, ◌+◌, ◌-◌, Bool, not, cond, List, [], ◌∷◌, length, drop, Some, None, Result, Ok, Err, refl, ap, sym, ◌∙◌, subst, arith, add-zero, add_assoc, zero-add, length-drop, IsTrue, All, find, option_map, All-head, All-tail, same_Some, Cut, AreCut, IsCode, has_right_targets, piece_size, Vec, IfOk, Global, BreaksAt, cuts_of, units_of_all, first_bad_target, first_bad_target_of, HasBadTargetAt, IsFault, IsResult, IsReturned, IfErr, Empty, Target, HasNumbersOf, IsSplitFault, unit_of}
 use Rattle.dexinsn.specs.declared.code.Cut.{Cut as CutOfCode}
 use Rattle.dexinsn.specs.declared.code.SplitFault.{SplitFault}
-use Rattle.dexinsn.specs.declared.code.SplitFault.TheVariants.{Empty, Piece, Target, Memory}
+use Rattle.dexinsn.specs.declared.code.SplitFault.TheVariants.{Piece, Memory}
 use Rattle.dexinsn.specs.declared.code_fault.CodeFault.{CodeFault}
-use Rattle.dexinsn.specs.internal.{HasNumbersOf, IsSplitFault, kind_of, unit_of}
+use Rattle.dexinsn.specs.internal.{kind_of}
 use Rattle.dexinsn.proofs.Sizes.{piece_size-fits}
 
 -- the pieces, and what is left, where no piece begins
@@ -16,13 +14,10 @@ record Ends (at : ℕ) (us : List ℕ) (cs : List Cut) (rest : List ℕ) : Type 
 
 -- where no piece begins there is no next piece
 nothing_more : (at : ℕ) (us rest : List ℕ) (n : ℕ) → us ≡ rest → piece_size (at + 0) rest ≡ None → piece_size at us ≡ Some n → ⊥
-nothing_more at us rest n same none some =
-    let here : piece_size at us ≡ None = ap (piece_size at) same ∙ ap (λ (p : ℕ). piece_size p rest) (sym (add-zero at)) ∙ none in
-    let both : None ≡ Some n = sym here ∙ some in
-    cc
+nothing_more at us rest n same none some = let both : None ≡ Some n = sym (ap (piece_size at) same ∙ ap (λ (p : ℕ). piece_size p rest) (sym (add-zero at)) ∙ none) ∙ some in cc
 
 -- two cuts at one unit with one number of units are the same
-same_cut : (c d : Cut) → c.unit ≡ d.unit → c.units ≡ d.units → c ≡ d
+pub same_cut : (c d : Cut) → c.unit ≡ d.unit → c.units ≡ d.units → c ≡ d
 same_cut c d unit units = ap (λ (n : ℕ). record { unit = n; units = c.units }) unit ∙ ap (λ (n : ℕ). record { unit = d.unit; units = n }) units
 
 -- lists with the same first cut and the same rest are the same
@@ -36,10 +31,9 @@ cut_once at us [] (d ∷ ds) rest left e f = absurd (nothing_more at us rest d.u
 cut_once at us (c ∷ cs) [] rest left e f = absurd (nothing_more at us left c.units f.cut f.none e.cut.1)
 cut_once at us (c ∷ cs) (d ∷ ds) rest left e f =
     let units : c.units ≡ d.units = same_Some c.units d.units (sym e.cut.1 ∙ f.cut.1) in
-    let unit : c.unit ≡ d.unit = e.cut.0 ∙ sym f.cut.0 in
     let on : Ends (at + c.units) (drop c.units us) cs rest = record { cut = e.cut.2; none = ap (λ (p : ℕ). piece_size p rest) (add_assoc at c.units (units_of_all cs)) ∙ e.none } in
     let also : Ends (at + d.units) (drop d.units us) ds left = record { cut = f.cut.2; none = ap (λ (p : ℕ). piece_size p left) (add_assoc at d.units (units_of_all ds)) ∙ f.none } in
-    same_cons c d cs ds (same_cut c d unit units)
+    same_cons c d cs ds (same_cut c d (e.cut.0 ∙ sym f.cut.0) units)
     (cut_once (at + c.units) (drop c.units us) cs ds rest left on (subst (λ (n : ℕ). Ends (at + n) (drop n us) ds left) (sym units) also))
 
 -- the same pieces leave the same rest
@@ -50,11 +44,7 @@ rest_once at us (c ∷ cs) rest left e f = rest_once (at + c.units) (drop c.unit
 -- the pieces and what they leave are all units
 reaches : (at : ℕ) (us : List ℕ) (cs : List Cut) (rest : List ℕ) → AreCut at us cs rest → length us ≡ units_of_all cs + length rest
 reaches at us [] rest e = ap length e ∙ sym (zero-add (length rest))
-reaches at us (c ∷ cs) rest e =
-    let on : length (drop c.units us) ≡ units_of_all cs + length rest = reaches (at + c.units) (drop c.units us) cs rest e.2 in
-    let fits : c.units ≤ length us = (piece_size-fits at us c.units e.1).1 in
-    let l : length (drop c.units us) ≡ length us - c.units = length-drop c.units us in
-    omega arith
+reaches at us (c ∷ cs) rest e = omega (arith, reaches (at + c.units) (drop c.units us) cs rest e.2, (piece_size-fits at us c.units e.1).1, length-drop c.units us)
 
 -- no piece begins where no units are left
 pub nothing : (at : ℕ) → piece_size at [] ≡ None
@@ -68,21 +58,14 @@ whole us cs cut = record { cut = cut; none = nothing (0 + units_of_all cs) }
 -- a cut that breaks ends where no piece begins
 broken : (us : List ℕ) (n : ℕ) (b : BreaksAt us n) → Ends 0 us b.cuts (drop n us)
 broken us n b =
-    let all : length us ≡ units_of_all b.cuts + length (drop n us) = reaches 0 us b.cuts (drop n us) b.cut in
-    let within : n < length us = b.within in
-    let l : length (drop n us) ≡ length us - n = length-drop n us in
-    let here : 0 + units_of_all b.cuts ≡ n = omega arith in
+    let here : 0 + units_of_all b.cuts ≡ n = omega (arith, reaches 0 us b.cuts (drop n us) b.cut, b.within, length-drop n us) in
     record { cut = b.cut; none = ap (λ (p : ℕ). piece_size p (drop n us)) here ∙ b.none }
 
 -- a cut that ends at the end is no broken one
 not_both : (us : List ℕ) (cs : List Cut) (n : ℕ) → AreCut 0 us cs [] → BreaksAt us n → ⊥
 not_both us cs n cut b =
-    let same : cs ≡ b.cuts = cut_once 0 us cs b.cuts [] (drop n us) (whole us cs cut) (broken us n b) in
-    let left : [] ≡ drop n us = rest_once 0 us b.cuts [] (drop n us) (subst (λ (ds : List Cut). AreCut 0 us ds []) same cut) b.cut in
-    let within : n < length us = b.within in
-    let l : length (drop n us) ≡ length us - n = length-drop n us in
-    let none : 0 ≡ length (drop n us) = ap length left in
-    omega arith
+    let none : 0 ≡ length (drop n us) = ap length (rest_once 0 us b.cuts [] (drop n us) (subst (λ (ds : List Cut). AreCut 0 us ds []) (cut_once 0 us cs b.cuts [] (drop n us) (whole us cs cut) (broken us n b)) cut) b.cut) in
+    omega (arith, b.within, length-drop n us)
 
 -- there is one cut to the end
 pub whole_once : (us : List ℕ) (cs ds : List Cut) → AreCut 0 us cs [] → AreCut 0 us ds [] → cs ≡ ds
@@ -91,14 +74,8 @@ whole_once us cs ds e f = cut_once 0 us cs ds [] [] (whole us cs e) (whole us ds
 -- a cut breaks at one unit
 breaks_once : (us : List ℕ) (n m : ℕ) → BreaksAt us n → BreaksAt us m → n ≡ m
 breaks_once us n m b d =
-    let same : b.cuts ≡ d.cuts = cut_once 0 us b.cuts d.cuts (drop n us) (drop m us) (broken us n b) (broken us m d) in
-    let left : drop n us ≡ drop m us = rest_once 0 us d.cuts (drop n us) (drop m us) (subst (λ (cs : List Cut). AreCut 0 us cs (drop n us)) same b.cut) d.cut in
-    let one : n < length us = b.within in
-    let other : m < length us = d.within in
-    let l : length (drop n us) ≡ length us - n = length-drop n us in
-    let k : length (drop m us) ≡ length us - m = length-drop m us in
-    let long : length (drop n us) ≡ length (drop m us) = ap length left in
-    omega arith
+    let long : length (drop n us) ≡ length (drop m us) = ap length (rest_once 0 us d.cuts (drop n us) (drop m us) (subst (λ (cs : List Cut). AreCut 0 us cs (drop n us)) (cut_once 0 us b.cuts d.cuts (drop n us) (drop m us) (broken us n b) (broken us m d)) b.cut) d.cut) in
+    omega (arith, b.within, d.within, length-drop n us, length-drop m us)
 
 -- where all targets are right no piece is found with a wrong one
 no_bad_target : (us : List ℕ) (cs some : List Cut) → All (λ c. IsTrue (has_right_targets us cs c)) some → first_bad_target_of us cs some ≡ None
@@ -110,9 +87,7 @@ no_bad_target us cs (c ∷ some) right =
 -- code has no instruction with a wrong target
 is_no_bad_target : (us : List ℕ) (cs : List Cut) (n : ℕ) → IsCode us cs → HasBadTargetAt us n → ⊥
 is_no_bad_target us cs n code a =
-    let same : cs ≡ a.cuts = whole_once us cs a.cuts code.cut a.cut in
-    let both : None ≡ Some n = sym (no_bad_target us cs cs code.targets) ∙ ap (first_bad_target us) same ∙ a.first in
-    cc
+    let both : None ≡ Some n = sym (no_bad_target us cs cs code.targets) ∙ ap (first_bad_target us) (whole_once us cs a.cuts code.cut a.cut) ∙ a.first in cc
 
 -- one instruction is the first with a wrong target
 bad_target_once : (us : List ℕ) (n m : ℕ) → HasBadTargetAt us n → HasBadTargetAt us m → n ≡ m
@@ -124,23 +99,15 @@ empty_cut us cs empty cut = whole_once us cs [] cut empty
 
 -- where there are no units no target is wrong
 empty_bad_target : (us : List ℕ) (n : ℕ) → us ≡ [] → HasBadTargetAt us n → ⊥
-empty_bad_target us n empty a =
-    let both : None ≡ Some n = sym (ap (first_bad_target us) (empty_cut us a.cuts empty a.cut)) ∙ a.first in
-    cc
+empty_bad_target us n empty a = let both : None ≡ Some n = sym (ap (first_bad_target us) (empty_cut us a.cuts empty a.cut)) ∙ a.first in cc
 
 -- where there are no units no cut breaks
 empty_breaks : (us : List ℕ) (n : ℕ) → us ≡ [] → BreaksAt us n → ⊥
-empty_breaks us n empty b =
-    let within : n < length us = b.within in
-    let none : length us ≡ 0 = ap length empty in
-    omega arith
+empty_breaks us n empty b = omega (arith, b.within, ap length empty)
 
 -- no units are no code
 empty_code : (us : List ℕ) (cs : List Cut) → us ≡ [] → IsCode us cs → ⊥
-empty_code us cs empty code =
-    let some : 0 < length us = code.some in
-    let none : length us ≡ 0 = ap length empty in
-    omega arith
+empty_code us cs empty code = omega (arith, code.some, ap length empty)
 
 -- an answer that is true of the units: their pieces, or a fault of theirs by name
 abbrev IsNamedResult : List ℕ → Result (List Cut) SplitFault → Type 0
@@ -192,10 +159,7 @@ name_of us fault (inr (inr (inr f))) other = absurd (other f.0)
 
 -- code has no fault
 no_fault : (us : List ℕ) (cs : List Cut) (fault : CodeFault) → IsCode us cs → IsFault us fault → fault.kind ≢ 4 → ⊥
-no_fault us cs fault code is other =
-    let f = name_of us fault is other in
-    let e : Ok cs ≡ Err f.named = result_once us (Ok cs) (Err f.named) code f.is in
-    cc
+no_fault us cs fault code is other = let f = name_of us fault is other in let e : Ok cs ≡ Err f.named = result_once us (Ok cs) (Err f.named) code f.is in cc
 
 -- the numbers of a fault, or zero
 numbers_in : Result (List Cut) SplitFault → ℕ × ℕ

@@ -1,14 +1,12 @@
 -- Units checked in one pass.
-use Rattle.dexinsn.proofs.Common.{◌≡◌, ℕ, ◌+◌, ◌-◌, ◌/◌, ◌<◌, ◌≤◌, ◌||◌, ◌&&◌, pos, Bool, true, false, List, [], ◌∷◌, ◌++◌, length, drop, slice_index, replicate, Some, None, inl, inr, refl, ap, sym, ◌∙◌, subst, arith, zero-add, length-drop, length-append, ◌↔◌, All, int_eq, cases_eq, drop-drop, drop_all, length-replicate, All-push, All-head, All-tail, All-append, list_any-append, Mentions, Cut, AreCut, index_pool, piece_size}
-use Rattle.dexinsn.specs.{BreaksAt, FitsAt, IsInRange, indices_at, with_index_at, IsPieceAt, starts_with, units_of_all, AreBitsOf, AreCutWith, ArePassed, HasNoCode, HasNoStep, IndexCount, IsOutside, begins_instruction, is_noted}
-use Rattle.dexinsn.specs.internal.{HasBit}
+use Rattle.dexinsn.proofs.Common.{and_right, ◌≡◌, ℕ, ◌+◌, ◌-◌, ◌/◌, ◌<◌, ◌≤◌, ◌||◌, ◌&&◌, pos, Bool, true, false, List, [], ◌∷◌, ◌++◌, length, drop, slice_index, replicate, Some, None, inl, inr, refl, ap, sym, ◌∙◌, subst, arith, zero-add, length-drop, length-append, ◌↔◌, All, int_eq, cases_eq, drop-drop, drop_all, length-replicate, All-push, All-head, All-tail, All-append, list_any-append, Mentions, Cut, AreCut, index_pool, piece_size, BreaksAt, FitsAt, IsInRange, indices_at, with_index_at, IsPieceAt, starts_with, units_of_all, AreBitsOf, AreCutWith, ArePassed, HasNoCode, HasNoStep, IndexCount, IsOutside, begins_instruction, is_noted, HasBit}
 use Rattle.dexinsn.proofs.Cuts.{AreCut-push, units_of_all-push}
 use Rattle.dexinsn.proofs.CodeRead.{broken_is_none}
 use Rattle.dexinsn.proofs.IndicesRead.{indices_push}
-use Rattle.dexinsn.proofs.Once.{nothing, whole_once}
+use Rattle.dexinsn.proofs.Once.{nothing}
 use Rattle.dexinsn.proofs.Sizes.{piece_size-fits}
 use Rattle.dexinsn.proofs.Starts.{int_eq-same, int_eq-other}
-use Rattle.dexinsn.proofs.StartBits.{or_nothing, or_last, and_nothing, none_set}
+use Rattle.dexinsn.proofs.StartBits.{or_nothing, or_last, none_set}
 
 -- ---- bits
 
@@ -20,7 +18,7 @@ pub bits_stay : (test : ℕ → Bool) (us : List ℕ) (cs : List Cut) (c : Cut) 
 bits_stay test us cs c words fails before = record {
   room = before.room;
   each = λ k.
-      let same = bits_more test us cs c k ∙ or_nothing (starts_with test us cs (pos k)) _ (and_nothing (int_eq (pos c.unit) (pos k)) _ fails) in
+      let same = bits_more test us cs c k ∙ or_nothing (starts_with test us cs (pos k)) _ (and_right (int_eq (pos c.unit) (pos k)) _ fails) in
       (λ has. same ∙ (before.each k).0 has, λ e. (before.each k).1 (sym same ∙ e));
   inside = before.inside;
 }
@@ -32,12 +30,10 @@ bits_grow test us cs c words new passes inside long here others before = record 
   room = long ∙ before.room;
   each = λ k. elim (cases_eq c.unit k) [
     | inl same ↦
-        let begins : starts_with test us (cs ++ c ∷ []) (pos k) ≡ true = bits_more test us cs c k ∙ or_last (starts_with test us cs (pos k)) _ (rw (int_eq-same c.unit k same, passes)) in
-        (λ has. begins, λ e. subst (HasBit new) same here)
+        (λ has. (bits_more test us cs c k ∙ or_last (starts_with test us cs (pos k)) _ (rw (int_eq-same c.unit k same, passes))), λ e. subst (HasBit new) same here)
     | inr other ↦
         let as_before = bits_more test us cs c k ∙ or_nothing (starts_with test us cs (pos k)) _ (rw (int_eq-other c.unit k other)) in
-        let bits = others k (λ e. other (sym e)) in
-        (λ has. as_before ∙ (before.each k).0 (bits.0 has), λ e. bits.1 ((before.each k).1 (sym as_before ∙ e)))
+        let bits = others k (λ e. other (sym e)) in (λ has. as_before ∙ (before.each k).0 (bits.0 has), λ e. bits.1 ((before.each k).1 (sym as_before ∙ e)))
   ];
   inside = λ k has. elim (cases_eq c.unit k) [
     | inl same ↦ omega arith
@@ -70,8 +66,7 @@ next_in P a us rest (c ∷ cs) [] e f some all = let none : piece_size a us ≡ 
 next_in P a us rest (c ∷ cs) (d ∷ ds) e f some all =
     let both : Some c.units ≡ Some d.units = sym e.1 ∙ f.1 in
     let same : c.units ≡ d.units = cc in
-    let later : AreCut (a + c.units) (drop c.units us) ds [] = subst (λ (k : ℕ). AreCut (a + k) (drop k us) ds []) (sym same) f.2 in
-    let found = next_in P (a + c.units) (drop c.units us) rest cs ds e.2 later some (All-tail P d ds all) in
+    let found = next_in P (a + c.units) (drop c.units us) rest cs ds e.2 (subst (λ (k : ℕ). AreCut (a + k) (drop k us) ds []) (sym same) f.2) some (All-tail P d ds all) in
     (found.0, omega (arith, found.1), found.2)
 
 -- a piece more
@@ -83,8 +78,6 @@ one_passed us m starts noted news newn at indices size count h more is some inde
     let c : Cut = record { unit = at; units = size } in
     let fits : size ≤ length (drop at us) = (piece_size-fits at (drop at us) size is).1 in
     let counted = h.counted in
-    let one = index.counted size in
-    let reached = h.reached in
     record {
       cuts = h.cuts ++ c ∷ [];
       cut = subst (λ (rest : List ℕ). AreCut 0 us (h.cuts ++ c ∷ []) rest) (drop-drop size at us) (AreCut-push 0 us (drop at us) h.cuts c h.cut (zero-add (units_of_all h.cuts) ∙ h.reached) is);
@@ -93,8 +86,7 @@ one_passed us m starts noted news newn at indices size count h more is some inde
       pieces = All-push (IsPieceAt us) h.cuts c h.pieces is;
       in_range = All-push (IsInRange us m) h.cuts c h.in_range (index.in_range size);
       counted =
-          let pushed = ap length (indices_push us h.cuts c) in
-          omega (arith, pushed, length-append (indices_at us h.cuts) (with_index_at (index_pool (drop at us)) us c []), counted, one);
+          omega (arith, ap length (indices_push us h.cuts c), length-append (indices_at us h.cuts) (with_index_at (index_pool (drop at us)) us c []), counted, index.counted size);
       few = omega (arith, h.few, index.few);
       fit = subst (All (FitsAt us)) (sym (indices_push us h.cuts c)) (All-append (FitsAt us) (indices_at us h.cuts) (with_index_at (index_pool (drop at us)) us c []) h.fit (index.fit size));
       starts_are = s h.cuts size h.starts_are;
@@ -108,8 +100,7 @@ no_piece us m starts noted at indices h more none = λ cuts code all. broken_is_
 -- where an index is out of range there is none with all in range
 no_index : (us : List ℕ) (m : Mentions) (starts noted : List ℕ) (at indices : ℕ) → ArePassed us m starts noted at indices → at < length us → IsOutside us m at → HasNoCode us m
 no_index us m starts noted at indices h more outside = λ cuts code all.
-    let some : 0 < length (drop at us) = omega (arith, length-drop at us) in
-    let found = next_in (IsInRange us m) 0 us (drop at us) h.cuts cuts h.cut code.cut some all in
+    let found = next_in (IsInRange us m) 0 us (drop at us) h.cuts cuts h.cut code.cut (omega (arith, length-drop at us)) all in
     outside found.0 (omega (arith, found.1, h.reached)) found.2
 
 -- by what is missing
@@ -119,9 +110,6 @@ no_step us m starts noted at indices h more (inr outside) = no_index us m starts
 
 pub all_cut : (us : List ℕ) (m : Mentions) (starts noted : List ℕ) (indices : ℕ) → (h : ArePassed us m starts noted (length us) indices) → AreCut 0 us h.cuts []
 all_cut us m starts noted indices h = subst (λ (rest : List ℕ). AreCut 0 us h.cuts rest) (drop_all (length us) us (omega arith)) h.cut
-
-pub same_cuts : (us : List ℕ) (cs ds : List Cut) → AreCut 0 us cs [] → AreCut 0 us ds [] → cs ≡ ds
-same_cuts us cs ds x y = whole_once us cs ds x y
 
 -- no bit is set yet
 pub none_bits : (test : ℕ → Bool) (us words : List ℕ) (n : ℕ) → n ≡ length us / 64 + 2 → words ≡ replicate n 0 → AreBitsOf test us [] words
@@ -140,11 +128,10 @@ pub one_cut_more : (us : List ℕ) (cs : List Cut) (starts noted news newn : Lis
     → AreCutWith us (cs ++ record { unit = at; units = size } ∷ []) news newn (at + size)
 one_cut_more us cs starts noted news newn at size h more is s n =
     let c : Cut = record { unit = at; units = size } in
-    let fits : size ≤ length (drop at us) = (piece_size-fits at (drop at us) size is).1 in
     record {
       cut = subst (λ (rest : List ℕ). AreCut 0 us (cs ++ c ∷ []) rest) (drop-drop size at us) (AreCut-push 0 us (drop at us) cs c h.cut (zero-add (units_of_all cs) ∙ h.reached) is);
       reached = units_of_all-push cs c ∙ ap (λ (k : ℕ). k + size) h.reached;
-      within = let l : length (drop at us) ≡ length us - at = length-drop at us in omega (arith, h.within);
+      within = let l : length (drop at us) ≡ length us - at = length-drop at us in omega (arith, h.within, (piece_size-fits at (drop at us) size is).1);
       pieces = All-push (IsPieceAt us) cs c h.pieces is;
       starts_are = s cs size h.starts_are;
       noted_are = n cs size h.noted_are;

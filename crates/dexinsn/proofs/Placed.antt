@@ -1,11 +1,9 @@
 -- Places by their bits.
-use Rattle.dexinsn.proofs.Common.{◌≡◌, ℕ, ◌/◌, ◌%◌, ◌^◌, ◌≤◌, ◌==◌, ◌||◌, ◌&&◌, ℤ, pos, Bool, true, false, List, length, slice_index, Option, Some, None, refl, ap, sym, ◌∙◌, subst, arith, eqb-true, negsuc, nat_abs, ◌↔◌, list_any, IsSome, bit_at, get_or_past, bit_at-zero, Cut, is_payload_ident, F31t}
+use Rattle.dexinsn.proofs.Common.{and_first, and_second, ◌≡◌, ℕ, ◌/◌, ◌%◌, ◌^◌, ◌≤◌, ◌==◌, ◌||◌, ◌&&◌, ℤ, pos, Bool, true, false, List, length, slice_index, refl, ap, sym, ◌∙◌, subst, arith, eqb-true, negsuc, nat_abs, ◌↔◌, list_any, bit_at, get_or_past, bit_at-zero, Cut, is_payload_ident, F31t, format_of, ident_of, starts_with, AreBitsOf, is_noted, has_targets, PayloadKind, HasBit}
 use Rattle.dexinsn.specs.declared.format.Format.{Format}
 use Rattle.dexinsn.specs.declared.format.Format.TheVariants.{Format31t}
-use Rattle.dexinsn.specs.{format_of, ident_of, starts_with, AreBitsOf, is_noted, has_targets}
-use Rattle.dexinsn.specs.declared.payload.PayloadKind.{PayloadKind}
 use Rattle.dexinsn.specs.declared.payload.PayloadKind.TheVariants.{PackedSwitch}
-use Rattle.dexinsn.specs.internal.{HasBit, HasPlace}
+use Rattle.dexinsn.specs.internal.{HasPlace}
 use Rattle.dexinsn.proofs.StartBits.{same_test}
 use Rattle.dexinsn.proofs.Starts.{starts_with-negsuc, starts_with-pos}
 
@@ -38,14 +36,6 @@ bit_is words unit z at = (λ e. subst (HasPlace words) (sym at) ((read_bit words
 payload_noted : (u : ℕ) → is_payload_ident u ≡ true → is_noted u ≡ true
 payload_noted u is = ap (λ (b : Bool). b || has_targets u) is
 
-second_true : (a b : Bool) → (a && b) ≡ true → b ≡ true
-second_true true b e = e
-second_true false b e = cc
-
-both_true : (a b : Bool) → (a && b) ≡ true → a ≡ true
-both_true true b e = refl
-both_true false b e = e
-
 -- where a payload begins there is a bit, and where there is none none does
 pub no_payload : (ident : ℕ) (us : List ℕ) (cs : List Cut) (words : List ℕ) (z : ℤ) → is_payload_ident ident ≡ true → (HasPlace words z → ⊥) → AreBitsOf is_noted us cs words → starts_with (λ u. u == ident) us cs z ≡ false
 no_payload ident us cs words (negsuc k) is none h = starts_with-negsuc (λ u. u == ident) us cs k
@@ -55,18 +45,13 @@ no_payload ident us cs words (pos k) is none h = by_test (starts_with (λ u. u =
     by_test false e = e
     by_test true e =
         let both = sym (starts_with-pos (λ u. u == ident) us cs k) ∙ e in
-        let starts = both_true (list_any (λ c. c.unit == k) cs) (slice_index us k == ident) both in
-        let here : slice_index us k ≡ ident = eqb-true (slice_index us k) ident (second_true (list_any (λ c. c.unit == k) cs) (slice_index us k == ident) both) in
-        let noted = starts_with-pos is_noted us cs k ∙ ap (λ (b : Bool). b && is_noted (slice_index us k)) starts ∙ payload_noted (slice_index us k) (ap is_payload_ident here ∙ is) in
-        absurd (none ((h.each k).1 noted))
+        let starts = and_first (list_any (λ c. c.unit == k) cs) (slice_index us k == ident) both in
+        absurd (none ((h.each k).1 (starts_with-pos is_noted us cs k ∙ ap (λ (b : Bool). b && is_noted (slice_index us k)) starts ∙ payload_noted (slice_index us k) (ap is_payload_ident (eqb-true (slice_index us k) ident (and_second (list_any (λ c. c.unit == k) cs) (slice_index us k == ident) both)) ∙ is))))
 
 -- where there is a bit the unit there decides
 pub payload_by_unit : (ident : ℕ) (us : List ℕ) (cs : List Cut) (words : List ℕ) (z : ℤ) (k : ℕ) → z ≡ pos k → HasPlace words z → AreBitsOf is_noted us cs words → starts_with (λ u. u == ident) us cs z ≡ (slice_index us k == ident)
 payload_by_unit ident us cs words z k at has h =
-    let here : HasPlace words (pos k) = subst (HasPlace words) at has in
-    let both = sym (starts_with-pos is_noted us cs k) ∙ (h.each k).0 here in
-    let starts = both_true (list_any (λ c. c.unit == k) cs) (is_noted (slice_index us k)) both in
-    ap (starts_with (λ u. u == ident) us cs) at ∙ starts_with-pos (λ u. u == ident) us cs k ∙ ap (λ (b : Bool). b && slice_index us k == ident) starts
+    ap (starts_with (λ u. u == ident) us cs) at ∙ starts_with-pos (λ u. u == ident) us cs k ∙ ap (λ (b : Bool). b && slice_index us k == ident) (and_first (list_any (λ c. c.unit == k) cs) (is_noted (slice_index us k)) (sym (starts_with-pos is_noted us cs k) ∙ (h.each k).0 (subst (HasPlace words) at has)))
 
 -- ---- formats
 
@@ -85,7 +70,3 @@ ident_begins _ = refl
 pub at_place : (words : List ℕ) (z : ℤ) → HasPlace words z → z ≡ pos (nat_abs z)
 at_place words (pos k) has = refl
 at_place words (negsuc k) has = absurd has
-
-pub some_size : (o : Option ℕ) → IsSome o → (n : ℕ) × (o ≡ Some n)
-some_size None h = absurd (let e : false ≡ true = h in cc)
-some_size (Some n) h = (n, refl)

@@ -1,11 +1,8 @@
 -- The units of pieces, their numbers put in, as they are appended.
-use Rattle.dexinsn.proofs.Common.{◌≡◌, ℕ, zero, suc, ◌+◌, ◌-◌, ◌*◌, ◌/◌, ◌%◌, ◌<◌, ◌≤◌, Bool, true, false, cond, List, [], ◌∷◌, ◌++◌, length, drop, take, map, get_or, slice_index, slice_set, Option, Some, None, refl, ap, sym, ◌∙◌, subst, arith, length-drop, append_assoc, drop-cons, add-one, length-append, Completes, completes_more, flat_map, drop-drop, length-take-le, take-append-drop, get_or-drop, take_all, drop_all, flat_map-append, number_of, bytes_of, ushort, uint, ushort_at, ushorts_at, Pool, Cut, AreCut, piece_size, cut_units, index_pool, is_wide_index, is_payload_ident, with_index}
+use Rattle.dexinsn.proofs.Common.{◌≡◌, ℕ, zero, suc, ◌+◌, ◌-◌, ◌*◌, ◌/◌, ◌%◌, ◌<◌, ◌≤◌, Bool, true, false, cond, List, [], ◌∷◌, ◌++◌, length, drop, take, map, get_or, slice_index, slice_set, Option, Some, None, refl, ap, sym, ◌∙◌, subst, arith, length-drop, append_assoc, drop-cons, add-one, length-append, Completes, completes_more, flat_map, drop-drop, length-take-le, take-append-drop, get_or-drop, take_all, drop_all, flat_map-append, number_of, bytes_of, ushort, uint, ushort_at, ushorts_at, Pool, Cut, AreCut, piece_size, cut_units, index_pool, is_wide_index, is_payload_ident, with_index, Index, IsPieceAt, NumberedPiece, Instruction, numbered_units, numbered_bytes, unit_count, cuts_in, parts_in, piece_with, left_by, pieces_with, with_place, index_places, AreStored, index_units, after_index, spelled_from, Follow, Payload, bytes_between}
 use Rattle.dexspec.proofs.numbers.ByteNumbers.{length-ushort}
 use Rattle.std.proofs.Math.Seq.{take-add}
-use Rattle.dexinsn.specs.declared.pieces.Index.{Index}
-use Rattle.dexinsn.specs.{units_in, IsPieceAt, NumberedPiece, Instruction, numbered_units, numbered_bytes, unit_count, cuts_in, parts_in, piece_with, left_by, pieces_with, with_place, index_places, AreStored, index_units, after_index, spelled_from, Follow}
-use Rattle.dexinsn.specs.Numbered.{Payload}
-use Rattle.dexinsn.specs.internal.{bytes_between}
+use Rattle.dexinsn.specs.{units_in}
 use Rattle.dexinsn.proofs.Sizes.{Fits, piece_size-fits}
 use Rattle.dexinsn.proofs.IndexRoom.{HasRoom, has_room}
 use Rattle.dexinsn.proofs.Halves.{length_from, ushorts_from}
@@ -25,15 +22,13 @@ put_by : (w : Bool) (ys : List ℕ) (n k : ℕ) → HasRoom ys k → is_wide_ind
     → with_index n (with_index 0 (take k ys)) ≡ take 1 ys ++ (index_units w n ++ take (k - after_index w 0) (drop (after_index w 0) ys))
 put_by true ys n k r e f g =
     let three : 3 ≤ k = r.three e in
-    let j : k ≡ k - 3 + 3 = omega arith in
     ap (λ (w : Bool). cond w (slice_set (slice_set (with_index 0 (take k ys)) 1 (n % 65536)) 2 (n / 65536)) (slice_set (with_index 0 (take k ys)) 1 n)) g
     ∙ ap (λ (w : Bool). slice_set (slice_set (cond w (slice_set (slice_set (take k ys) 1 0) 2 0) (slice_set (take k ys) 1 0)) 1 (n % 65536)) 2 (n / 65536)) f
-    ∙ put_wide ys (n % 65536) (n / 65536) k (k - 3) (omega (arith, r.within)) j
+    ∙ put_wide ys (n % 65536) (n / 65536) k (k - 3) (omega (arith, r.within)) (omega arith)
 put_by false ys n k r e f g =
-    let j : k ≡ k - 2 + 2 = omega (arith, r.two) in
     ap (λ (w : Bool). cond w (slice_set (slice_set (with_index 0 (take k ys)) 1 (n % 65536)) 2 (n / 65536)) (slice_set (with_index 0 (take k ys)) 1 n)) g
     ∙ ap (λ (w : Bool). slice_set (cond w (slice_set (slice_set (take k ys) 1 0) 2 0) (slice_set (take k ys) 1 0)) 1 n) f
-    ∙ put_short ys n k (k - 2) (omega (arith, r.within, r.two)) j
+    ∙ put_short ys n k (k - 2) (omega (arith, r.within, r.two)) (omega (arith, r.two))
 
 -- ---- one part after the other
 
@@ -45,7 +40,7 @@ pub after_by : (w : Bool) (at n : ℕ) → (w ≡ true → 3 ≤ n) → 2 ≤ n 
 after_by true at n three two = let t : 3 ≤ n = three refl in omega arith
 after_by false at n three two = omega arith
 
-after_is : (w : Bool) (unit : ℕ) → after_index w unit ≡ unit + after_index w 0
+pub after_is : (w : Bool) (unit : ℕ) → after_index w unit ≡ unit + after_index w 0
 after_is true unit = refl
 after_is false unit = refl
 
@@ -53,7 +48,6 @@ after_is false unit = refl
 skip : (us : List ℕ) (from k : ℕ) (is : List Index) → Follow us (from + k) is → spelled_from us from is ≡ take k (drop from us) ++ spelled_from us (from + k) is
 skip us from k [] h = sym (take-append-drop k (drop from us)) ∙ ap (λ (xs : List ℕ). take k (drop from us) ++ xs) (drop-drop k from us)
 skip us from k (i ∷ is) h =
-    let rest : List ℕ = index_units (is_wide_index (drop i.unit us)) i.number ++ spelled_from us (after_index (is_wide_index (drop i.unit us)) i.unit) is in
     let e : i.unit + 1 - from ≡ k + (i.unit + 1 - (from + k)) = omega (arith, h.0) in
     ap (λ (xs : List ℕ). xs ++ (index_units (is_wide_index (drop i.unit us)) i.number ++ spelled_from us (after_index (is_wide_index (drop i.unit us)) i.unit) is))
     (ap (λ (n : ℕ). take n (drop from us)) e ∙ take-add k (i.unit + 1 - (from + k)) (drop from us) ∙ ap (λ (xs : List ℕ). take k (drop from us) ++ take (i.unit + 1 - (from + k)) xs) (drop-drop k from us))
@@ -66,21 +60,16 @@ follow_by (Some pool) us c at places [] unit piece e same on = absurd cc
 follow_by (Some pool) us c at places (i ∷ is) unit piece e same on =
     let here : i.unit ≡ at = cc in
     let rest : map (λ (i : Index). i.unit) is ≡ places = cc in
-    let there : i.unit ≡ c.unit = here ∙ sym unit in
     let r : HasRoom (drop c.unit us) c.units = has_room c.unit (drop c.unit us) c.units pool piece e in
-    let next : after_index (is_wide_index (drop c.unit us)) c.unit ≤ c.unit + c.units = after_by (is_wide_index (drop c.unit us)) c.unit c.units r.three r.two in
-    let same_next : after_index (is_wide_index (drop i.unit us)) i.unit ≡ after_index (is_wide_index (drop c.unit us)) c.unit = ap (λ (k : ℕ). after_index (is_wide_index (drop k us)) k) there in
-    (omega (arith, here), follow_less us (after_index (is_wide_index (drop i.unit us)) i.unit) (at + c.units) is (omega (arith, next, same_next, unit)) (on is rest))
+    (omega (arith, here), follow_less us (after_index (is_wide_index (drop i.unit us)) i.unit) (at + c.units) is (omega (arith, after_by (is_wide_index (drop c.unit us)) c.unit c.units r.three r.two, ap (λ (k : ℕ). after_index (is_wide_index (drop k us)) k) (here ∙ sym unit), unit)) (on is rest))
 
 pub follow_from : (us : List ℕ) (at : ℕ) (cs : List Cut) (is : List Index) → at ≤ length us → AreCut at (drop at us) cs [] → map (λ (i : Index). i.unit) is ≡ index_places at (map (cut_units us) cs) → Follow us at is
 follow_from us at [] [] le cut same = le
 follow_from us at [] (i ∷ is) le cut same = absurd cc
 follow_from us at (c ∷ cs) is le cut same =
     let piece : IsPieceAt us c = subst (λ (k : ℕ). piece_size k (drop k us) ≡ Some c.units) (sym cut.0) cut.1 in
-    let f : Fits (drop at us) c.units = piece_size-fits at (drop at us) c.units cut.1 in
-    let l : length (drop at us) ≡ length us - at = length-drop at us in
     let on = λ (js : List Index) (e : map (λ (i : Index). i.unit) js ≡ index_places (at + length (cut_units us c)) (map (cut_units us) cs)).
-    follow_from us (at + c.units) cs js (omega (arith, f.1)) (subst (λ (xs : List ℕ). AreCut (at + c.units) xs cs []) (drop-drop c.units at us) cut.2)
+    follow_from us (at + c.units) cs js (omega (arith, (piece_size-fits at (drop at us) c.units cut.1).1, length-drop at us)) (subst (λ (xs : List ℕ). AreCut (at + c.units) xs cs []) (drop-drop c.units at us) cut.2)
     (e ∙ ap (λ (n : ℕ). index_places (at + n) (map (cut_units us) cs)) (cut_length us c piece)) in
     follow_by (index_pool (drop c.unit us)) us c at (index_places (at + length (cut_units us c)) (map (cut_units us) cs)) is cut.0 piece refl
     (same ∙ ap (λ (o : Option Pool). with_place o at (index_places (at + length (cut_units us c)) (map (cut_units us) cs))) (cut_pool us c piece)) on
@@ -106,20 +95,14 @@ spelled_by (Some pool) us c at parts places (i ∷ is) unit piece e same on =
     let rest : map (λ (i : Index). i.unit) is ≡ places = cc in
     let there : c.unit ≡ i.unit = unit ∙ sym here in
     let o = on is rest in
-    let r : HasRoom (drop c.unit us) c.units = has_room c.unit (drop c.unit us) c.units pool piece e in
-    let w : Bool = is_wide_index (drop i.unit us) in
-    let ys : List ℕ = drop i.unit us in
-    let rr : HasRoom (drop i.unit us) c.units = subst (λ (k : ℕ). HasRoom (drop k us) c.units) there r in
+    let rr : HasRoom (drop i.unit us) c.units = subst (λ (k : ℕ). HasRoom (drop k us) c.units) there (has_room c.unit (drop c.unit us) c.units pool piece e) in
     let first : slice_index (take c.units (drop i.unit us)) 0 ≡ slice_index (drop i.unit us) 0 = subst (λ (k : ℕ). slice_index (take c.units (drop k us)) 0 ≡ slice_index (drop k us) 0) there (cut_first us c piece) in
-    let kept : is_wide_index (take c.units (drop i.unit us)) ≡ is_wide_index (drop i.unit us) = same_wide (take c.units (drop i.unit us)) (drop i.unit us) first in
     let blank : is_wide_index (with_index 0 (take c.units (drop i.unit us))) ≡ is_wide_index (drop i.unit us) = same_wide (with_index 0 (take c.units (drop i.unit us))) (drop i.unit us) (first_kept 0 (take c.units (drop i.unit us)) ∙ first) in
-    let next : after_index (is_wide_index (drop i.unit us)) i.unit ≤ i.unit + c.units = after_by (is_wide_index (drop i.unit us)) i.unit c.units rr.three rr.two in
     let j : after_index (is_wide_index (drop i.unit us)) i.unit ≡ i.unit + after_index (is_wide_index (drop i.unit us)) 0 = after_is (is_wide_index (drop i.unit us)) i.unit in
-    let k : ℕ = c.units - after_index (is_wide_index (drop i.unit us)) 0 in
-    let to : after_index (is_wide_index (drop i.unit us)) i.unit + (c.units - after_index (is_wide_index (drop i.unit us)) 0) ≡ at + c.units = omega (arith, next, j, here) in
+    let to : after_index (is_wide_index (drop i.unit us)) i.unit + (c.units - after_index (is_wide_index (drop i.unit us)) 0) ≡ at + c.units = omega (arith, after_by (is_wide_index (drop i.unit us)) i.unit c.units rr.three rr.two, j, here) in
     let one : i.unit + 1 - at ≡ 1 = omega (arith, here) in
     ap (λ (x : ℕ). with_index i.number (with_index 0 (take c.units (drop x us))) ++ flat_map numbered_units (pieces_with parts is)) there
-    ∙ ap (λ (xs : List ℕ). xs ++ flat_map numbered_units (pieces_with parts is)) (put_by (is_wide_index (drop i.unit us)) (drop i.unit us) i.number c.units rr refl kept blank)
+    ∙ ap (λ (xs : List ℕ). xs ++ flat_map numbered_units (pieces_with parts is)) (put_by (is_wide_index (drop i.unit us)) (drop i.unit us) i.number c.units rr refl (same_wide (take c.units (drop i.unit us)) (drop i.unit us) first) blank)
     ∙ append_assoc (take 1 (drop i.unit us)) (index_units (is_wide_index (drop i.unit us)) i.number ++ take (c.units - after_index (is_wide_index (drop i.unit us)) 0) (drop (after_index (is_wide_index (drop i.unit us)) 0) (drop i.unit us))) (flat_map numbered_units (pieces_with parts is))
     ∙ ap (λ (xs : List ℕ). take 1 (drop i.unit us) ++ xs) (
     append_assoc (index_units (is_wide_index (drop i.unit us)) i.number) (take (c.units - after_index (is_wide_index (drop i.unit us)) 0) (drop (after_index (is_wide_index (drop i.unit us)) 0) (drop i.unit us))) (flat_map numbered_units (pieces_with parts is))
@@ -162,14 +145,11 @@ two_of (a ∷ b ∷ ys) long small =
     let x : a < 256 = small 0 in
     let y : b < 256 = small 1 in
     let p : (a + 256 * (b + 256 * 0)) % 256 ≡ a = omega arith in
-    let q : (a + 256 * (b + 256 * 0)) / 256 % 256 ≡ b = omega arith in
-    ap (λ (u : ℕ). u ∷ ((a + 256 * (b + 256 * 0)) / 256 % 256) ∷ []) p ∙ ap (λ (u : ℕ). a ∷ u ∷ []) q
+    let q : (a + 256 * (b + 256 * 0)) / 256 % 256 ≡ b = omega arith in ap (λ (u : ℕ). u ∷ ((a + 256 * (b + 256 * 0)) / 256 % 256) ∷ []) p ∙ ap (λ (u : ℕ). a ∷ u ∷ []) q
 
 ushort_back : (b : List ℕ) (o : ℕ) → o + 2 ≤ length b → ((i : ℕ) → get_or b i 0 < 256) → ushort (ushort_at b o) ≡ take 2 (drop o b)
 unfolding ushort_at
-ushort_back b o le small =
-    let l : length (drop o b) ≡ length b - o = length-drop o b in
-    two_of (drop o b) (omega arith) (λ i. subst (λ (x : ℕ). x < 256) (sym (get_or-drop o b i 0)) (small (o + i)))
+ushort_back b o le small = two_of (drop o b) (omega (arith, length-drop o b)) (λ i. subst (λ (x : ℕ). x < 256) (sym (get_or-drop o b i 0)) (small (o + i)))
 
 bytes_of_units : (b : List ℕ) (o n : ℕ) → o + 2 * n ≤ length b → ((i : ℕ) → get_or b i 0 < 256) → flat_map ushort (ushorts_at b o n) ≡ take (2 * n) (drop o b)
 bytes_of_units b o zero le small = refl
@@ -199,9 +179,7 @@ unfolding uint ushort bytes_of
 halves n =
     let a : n % 256 ≡ n % 65536 % 256 = omega arith in
     let b : n / 256 % 256 ≡ n % 65536 / 256 % 256 = omega arith in
-    let c : n / 256 / 256 % 256 ≡ n / 65536 % 256 = omega arith in
-    let d : n / 256 / 256 / 256 % 256 ≡ n / 65536 / 256 % 256 = omega arith in
-    cc
+    let c : n / 256 / 256 % 256 ≡ n / 65536 % 256 = omega arith in let d : n / 256 / 256 / 256 % 256 ≡ n / 65536 / 256 % 256 = omega arith in cc
 
 append_nil : (xs : List ℕ) → xs ≡ xs ++ []
 append_nil [] = refl
@@ -223,8 +201,7 @@ after_is_more false unit = omega arith
 pub follow_within : (us : List ℕ) (from : ℕ) (is : List Index) → Follow us from is → from ≤ length us
 follow_within us from [] h = h
 follow_within us from (i ∷ is) h =
-    let on : after_index (is_wide_index (drop i.unit us)) i.unit ≤ length us = follow_within us (after_index (is_wide_index (drop i.unit us)) i.unit) is h.1 in
-    omega (arith, h.0, after_is_more (is_wide_index (drop i.unit us)) i.unit)
+    omega (arith, h.0, after_is_more (is_wide_index (drop i.unit us)) i.unit, follow_within us (after_index (is_wide_index (drop i.unit us)) i.unit) is h.1)
 
 pub next_is : (is : List Index) (i : ℕ) (d : Index) → i < length is → drop i is ≡ get_or is i d ∷ drop (i + 1) is
 next_is is i d lt = drop-cons is i d lt ∙ ap (λ (k : ℕ). get_or is i d ∷ drop k is) (sym (add-one i))
@@ -268,25 +245,20 @@ put_more gives both us from is i d w whole start a b c lt wide before part index
 pub put_last : {O : Type 0} (gives : List ℕ → O → O → Type 0) (us : List ℕ) (from n : ℕ) (is : List Index) (i : ℕ) (whole : List ℕ) (start a b : O) → length is ≤ i → n ≡ length us → from ≤ length us
     → Completes gives (flat_map ushort (spelled_from us from (drop i is))) a whole start → gives (bytes_between us from n) a b → gives whole start b
 put_last gives us from n is i whole start a b end size le before last =
-    let l : length (drop from us) ≡ length us - from = length-drop from us in
     before.on b (subst (λ (bs : List ℕ). gives bs a b)
-    (ap (flat_map ushort) (take_all (n - from) (drop from us) (omega arith)) ∙ ap (λ (js : List Index). flat_map ushort (spelled_from us from js)) (sym (drop_all i is end))) last)
+    (ap (flat_map ushort) (take_all (n - from) (drop from us) (omega (arith, length-drop from us))) ∙ ap (λ (js : List Index). flat_map ushort (spelled_from us from js)) (sym (drop_all i is end))) last)
 
 -- ---- lengths
 
 spelled_length : (us : List ℕ) (from : ℕ) (is : List Index) → Follow us from is → length (spelled_from us from is) ≡ length us - from
 spelled_length us from [] h = length-drop from us
 spelled_length us from (i ∷ is) h =
-    let w : Bool = is_wide_index (drop i.unit us) in
     let later : length (spelled_from us (after_index (is_wide_index (drop i.unit us)) i.unit) is) ≡ length us - after_index (is_wide_index (drop i.unit us)) i.unit = spelled_length us (after_index (is_wide_index (drop i.unit us)) i.unit) is h.1 in
     let end : after_index (is_wide_index (drop i.unit us)) i.unit ≤ length us = follow_within us (after_index (is_wide_index (drop i.unit us)) i.unit) is h.1 in
     let more : i.unit + 1 < after_index (is_wide_index (drop i.unit us)) i.unit = after_is_more (is_wide_index (drop i.unit us)) i.unit in
     let width : i.unit + 1 + length (index_units (is_wide_index (drop i.unit us)) i.number) ≡ after_index (is_wide_index (drop i.unit us)) i.unit = index_length (is_wide_index (drop i.unit us)) i.number i.unit in
-    let l : length (drop from us) ≡ length us - from = length-drop from us in
-    let part : length (take (i.unit + 1 - from) (drop from us)) ≡ i.unit + 1 - from = length-take-le (i.unit + 1 - from) (drop from us) (omega (arith, h.0)) in
-    let a = length-append (take (i.unit + 1 - from) (drop from us)) (index_units (is_wide_index (drop i.unit us)) i.number ++ spelled_from us (after_index (is_wide_index (drop i.unit us)) i.unit) is) in
     let b = length-append (index_units (is_wide_index (drop i.unit us)) i.number) (spelled_from us (after_index (is_wide_index (drop i.unit us)) i.unit) is) in
-    omega (arith, a, b, h.0)
+    omega (arith, length-append (take (i.unit + 1 - from) (drop from us)) (index_units (is_wide_index (drop i.unit us)) i.number ++ spelled_from us (after_index (is_wide_index (drop i.unit us)) i.unit) is), b, h.0, length-take-le (i.unit + 1 - from) (drop from us) (omega (arith, h.0, length-drop from us)))
 
 length-ushorts : (xs : List ℕ) → length (flat_map ushort xs) ≡ 2 * length xs
 length-ushorts [] = refl

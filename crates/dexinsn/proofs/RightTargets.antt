@@ -1,6 +1,5 @@
 -- Whether targets are right, one after the other.
-use Rattle.dexinsn.proofs.Common.{◌≡◌, ℕ, suc, ◌+◌, ◌^◌, ◌<◌, ◌==◌, ℤ, pos, ◌+ℤ◌, to_z, of_z, w32, w64, Bool, true, false, ◌&&◌, ◌||◌, List, slice_index, Option, Some, None, refl, ap, sym, ◌∙◌, arith, eq-eqb, nat_abs, SFits, option_map, ints, Opcode, Format, opcode_of, F31t, Cut, all_of_option, branch_offset, has_right_targets, int_in, ints_in, is_instruction_start, is_payload_ident, is_right_target, low_byte, payload_ident, payload_targets}
-use Rattle.dexinsn.specs.{branches_right, are_right_targets, targets_payload, starts_with}
+use Rattle.dexinsn.proofs.Common.{◌≡◌, ℕ, suc, ◌+◌, ◌^◌, ◌<◌, ◌==◌, ℤ, pos, ◌+ℤ◌, to_z, of_z, w32, w64, Bool, true, false, ◌&&◌, ◌||◌, List, slice_index, Option, Some, None, refl, ap, sym, ◌∙◌, arith, eq-eqb, nat_abs, SFits, option_map, ints, Opcode, Format, opcode_of, F31t, Cut, all_of_option, branch_offset, has_right_targets, int_in, ints_in, is_instruction_start, is_payload_ident, is_right_target, low_byte, payload_ident, payload_targets, branches_right, are_right_targets, targets_payload, starts_with}
 
 -- whether n targets, from unit i on, are right
 abbrev pub do_target : List ℕ → List Cut → ℕ → ℕ → ℕ → Bool

@@ -1,15 +1,11 @@
 -- Stored pieces are the same once remapped by two maps just where their units agree beside the indices and these have
 -- the same images.
-use Rattle.dexinsn.proofs.Common.{◌≡◌, ℕ, zero, suc, ◌+◌, ◌-◌, ◌<◌, ◌≤◌, Bool, true, false, cond, List, [], ◌∷◌, length, drop, take, map, slice_index, slice_set, Option, Some, None, inl, inr, refl, ap, sym, ◌∙◌, subst, arith, length-drop, get_or-set_other, AllZip, cases_lt, same_number_lists, drop-drop, drop_all, get_or-take, get_or-drop, get_or-set_same, length-set, length-take-le, Pool, Cut, AreCut, piece_size, cut_units, index_pool, is_wide_index, is_payload_ident, with_index, Kept, piece_same, Maps, image_of}
-use Rattle.dexinsn.specs.declared.pieces.Index.{Index}
-use Rattle.dexinsn.specs.{IsPieceAt, NumberedPiece, Instruction, kind_in, renumbered_piece, cuts_in, parts_in, piece_with, left_by, pieces_with, with_place, index_places, after_index, AreStored, Follow}
-use Rattle.dexinsn.specs.Numbered.{Payload}
-use Rattle.dexinsn.specs.internal.{Agree, AgreeBeside, AreEqualMapped, AreEquivalent}
+use Rattle.dexinsn.proofs.Common.{◌≡◌, ℕ, zero, suc, ◌+◌, ◌-◌, ◌<◌, ◌≤◌, Bool, true, false, cond, List, [], ◌∷◌, length, drop, take, map, slice_index, slice_set, Option, Some, None, inl, inr, refl, ap, sym, ◌∙◌, subst, arith, length-drop, get_or-set_other, AllZip, cases_lt, same_number_lists, drop-drop, drop_all, get_or-take, get_or-drop, get_or-set_same, length-set, length-take-le, Pool, Cut, AreCut, piece_size, cut_units, index_pool, is_wide_index, is_payload_ident, with_index, Kept, piece_same, Maps, image_of, Index, IsPieceAt, NumberedPiece, Instruction, kind_in, renumbered_piece, cuts_in, parts_in, piece_with, left_by, pieces_with, with_place, index_places, after_index, AreStored, Follow, Payload, Agree, AgreeBeside, AreEqualMapped, AreEquivalent}
 use Rattle.dexinsn.proofs.Sizes.{Fits, piece_size-fits}
 use Rattle.dexinsn.proofs.IndexRoom.{HasRoom, has_room}
 use Rattle.dexinsn.proofs.StoredRead.{cuts_in_is, same_pool, same_wide, first_kept, cut_pool, cut_first, cut_length}
 use Rattle.dexinsn.proofs.Lined.{same_kind_in}
-use Rattle.dexinsn.proofs.PutUnits.{follow_from, after_by}
+use Rattle.dexinsn.proofs.PutUnits.{after_is, follow_from, after_by}
 
 -- ---- units that agree
 
@@ -88,23 +84,14 @@ blank_same w xs ys e same first rest =
     ∙ same_number_lists (blank_by w xs) (blank_by w ys) (length-blank w xs ∙ same ∙ sym (length-blank w ys)) (λ k lt. blank_unit w xs ys k (omega (arith, lt, length-blank w xs)) same first rest)
     ∙ sym (blank_is w ys (sym (same_wide xs ys first) ∙ e))
 
--- and back
-blank_lengths : (xs ys : List ℕ) → with_index 0 xs ≡ with_index 0 ys → length xs ≡ length ys
-blank_lengths xs ys e = sym (length-blank (is_wide_index xs) xs) ∙ ap length e ∙ length-blank (is_wide_index ys) ys
-
 blank_firsts : (xs ys : List ℕ) → with_index 0 xs ≡ with_index 0 ys → slice_index xs 0 ≡ slice_index ys 0
 blank_firsts xs ys e = sym (first_kept 0 xs) ∙ ap (λ (zs : List ℕ). slice_index zs 0) e ∙ first_kept 0 ys
 
 blank_rest : (xs ys : List ℕ) (k : ℕ) → with_index 0 xs ≡ with_index 0 ys → after_index (is_wide_index xs) 0 ≤ k → slice_index xs k ≡ slice_index ys k
 blank_rest xs ys k e le =
-    let w : is_wide_index xs ≡ is_wide_index ys = same_wide xs ys (blank_firsts xs ys e) in
-    sym (blank_after (is_wide_index xs) xs k le) ∙ ap (λ (zs : List ℕ). slice_index zs k) e ∙ blank_after (is_wide_index ys) ys k (subst (λ (v : Bool). after_index v 0 ≤ k) w le)
+    sym (blank_after (is_wide_index xs) xs k le) ∙ ap (λ (zs : List ℕ). slice_index zs k) e ∙ blank_after (is_wide_index ys) ys k (subst (λ (v : Bool). after_index v 0 ≤ k) (same_wide xs ys (blank_firsts xs ys e)) le)
 
 -- ---- one piece
-
-after_is : (w : Bool) (unit : ℕ) → after_index w unit ≡ unit + after_index w 0
-after_is true unit = refl
-after_is false unit = refl
 
 -- what agreeing beside indices says of the next piece
 record Step (o : Option Pool) (us vs : List ℕ) (c : Cut) (is : List Index) : Type 0 where
@@ -117,27 +104,14 @@ step_by : (o : Option Pool) (us vs : List ℕ) (c : Cut) (places : List ℕ) (is
     → ((js : List Index) → map (λ (i : Index). i.unit) js ≡ places → Follow us (c.unit + c.units) js) → AgreeBeside us vs c.unit is → Step o us vs c is
 step_by None us vs c places is piece e same on h =
     let s = beside_split us vs c.unit (c.unit + c.units) is (omega arith) (on is same) h in
-    let f : Fits (drop c.unit us) c.units = piece_size-fits c.unit (drop c.unit us) c.units piece in
-    record {
-      first = s.0 c.unit (omega arith) (omega (arith, f.0));
-      whole = λ none. s.0;
-      following = λ pool some. absurd cc;
-      later = s.1;
-    }
+    record { first = s.0 c.unit (omega arith) (omega (arith, (piece_size-fits c.unit (drop c.unit us) c.units piece).0)); whole = λ none. s.0; following = λ pool some. absurd cc; later = s.1 }
 step_by (Some pool) us vs c places [] piece e same on h = absurd cc
 step_by (Some pool) us vs c places (i ∷ is) piece e same on h =
     let here : i.unit ≡ c.unit = cc in
     let rest : map (λ (i : Index). i.unit) is ≡ places = cc in
     let r : HasRoom (drop c.unit us) c.units = has_room c.unit (drop c.unit us) c.units pool piece e in
-    let end : after_index (is_wide_index (drop c.unit us)) c.unit ≤ c.unit + c.units = after_by (is_wide_index (drop c.unit us)) c.unit c.units r.three r.two in
-    let later : AgreeBeside us vs (after_index (is_wide_index (drop c.unit us)) c.unit) is = subst (λ (k : ℕ). AgreeBeside us vs (after_index (is_wide_index (drop k us)) k) is) here h.1 in
-    let s = beside_split us vs (after_index (is_wide_index (drop c.unit us)) c.unit) (c.unit + c.units) is end (on is rest) later in
-    record {
-      first = h.0 c.unit (omega arith) (omega (arith, here));
-      whole = λ none. absurd cc;
-      following = λ other some. s.0;
-      later = s.1;
-    }
+    let s = beside_split us vs (after_index (is_wide_index (drop c.unit us)) c.unit) (c.unit + c.units) is (after_by (is_wide_index (drop c.unit us)) c.unit c.units r.three r.two) (on is rest) (subst (λ (k : ℕ). AgreeBeside us vs (after_index (is_wide_index (drop k us)) k) is) here h.1) in
+    record { first = h.0 c.unit (omega arith) (omega (arith, here)); whole = λ none. absurd cc; following = λ other some. s.0; later = s.1 }
 
 -- what follows from it
 step_kept : (us vs : List ℕ) (c : Cut) (is : List Index) → Step (index_pool (drop c.unit us)) us vs c is → Kept (drop c.unit us) (drop c.unit vs) c.units
@@ -164,11 +138,9 @@ left_places us c cs at is piece same =
 step_at : (us vs : List ℕ) (at : ℕ) (c : Cut) (cs : List Cut) (is : List Index) → at ≤ length us → AreCut at (drop at us) (c ∷ cs) [] → map (λ (i : Index). i.unit) is ≡ index_places at (map (cut_units us) (c ∷ cs)) → AgreeBeside us vs at is → Step (index_pool (drop c.unit us)) us vs c is
 step_at us vs at c cs is le cut same h =
     let piece : IsPieceAt us c = subst (λ (k : ℕ). piece_size k (drop k us) ≡ Some c.units) (sym cut.0) cut.1 in
-    let f : Fits (drop at us) c.units = piece_size-fits at (drop at us) c.units cut.1 in
-    let l : length (drop at us) ≡ length us - at = length-drop at us in
     let on = λ (js : List Index) (e : map (λ (i : Index). i.unit) js ≡ index_places (at + length (cut_units us c)) (map (cut_units us) cs)).
     subst (λ (k : ℕ). Follow us (k + c.units) js) (sym cut.0)
-    (follow_from us (at + c.units) cs js (omega (arith, f.1)) (subst (λ (xs : List ℕ). AreCut (at + c.units) xs cs []) (drop-drop c.units at us) cut.2)
+    (follow_from us (at + c.units) cs js (omega (arith, (piece_size-fits at (drop at us) c.units cut.1).1, length-drop at us)) (subst (λ (xs : List ℕ). AreCut (at + c.units) xs cs []) (drop-drop c.units at us) cut.2)
     (e ∙ ap (λ (n : ℕ). index_places (at + n) (map (cut_units us) cs)) (cut_length us c piece))) in
     step_by (index_pool (drop c.unit us)) us vs c (index_places (at + length (cut_units us c)) (map (cut_units us) cs)) is piece refl
     (same ∙ ap (λ (o : Option Pool). with_place o at (index_places (at + length (cut_units us c)) (map (cut_units us) cs))) (cut_pool us c piece) ∙ ap (λ (k : ℕ). with_place (index_pool (drop c.unit us)) k (index_places (at + length (cut_units us c)) (map (cut_units us) cs))) (sym cut.0))
@@ -178,23 +150,17 @@ step_at us vs at c cs is le cut same h =
 
 -- pieces that agree beside indices are cut in the same way
 same_cuts : (us vs : List ℕ) (at : ℕ) (cs : List Cut) (is : List Index) → length us ≡ length vs → at ≤ length us → AreCut at (drop at us) cs [] → map (λ (i : Index). i.unit) is ≡ index_places at (map (cut_units us) cs) → AgreeBeside us vs at is → AreCut at (drop at vs) cs []
-same_cuts us vs at [] is count le cut same h =
-    let l : length (drop at us) ≡ length us - at = length-drop at us in
-    let none : length (drop at us) ≡ 0 = ap length cut in
-    drop_all at vs (omega arith)
+same_cuts us vs at [] is count le cut same h = drop_all at vs (omega (arith, length-drop at us, ap length cut))
 same_cuts us vs at (c ∷ cs) is count le cut same h =
     let piece : IsPieceAt us c = subst (λ (k : ℕ). piece_size k (drop k us) ≡ Some c.units) (sym cut.0) cut.1 in
     let s : Step (index_pool (drop c.unit us)) us vs c is = step_at us vs at c cs is le cut same h in
-    let f : Fits (drop at us) c.units = piece_size-fits at (drop at us) c.units cut.1 in
-    let l : length (drop at us) ≡ length us - at = length-drop at us in
-    let k : length (drop c.unit vs) ≡ length (drop c.unit us) = length-drop c.unit vs ∙ ap (λ (n : ℕ). n - c.unit) (sym count) ∙ sym (length-drop c.unit us) in
-    let size : piece_size c.unit (drop c.unit vs) ≡ Some c.units = piece_same c.unit c.units (drop c.unit us) (drop c.unit vs) k (step_kept us vs c is s) piece in
+    let size : piece_size c.unit (drop c.unit vs) ≡ Some c.units = piece_same c.unit c.units (drop c.unit us) (drop c.unit vs) (length-drop c.unit vs ∙ ap (λ (n : ℕ). n - c.unit) (sym count) ∙ sym (length-drop c.unit us)) (step_kept us vs c is s) piece in
     let places : map (λ (i : Index). i.unit) (left_by (index_pool (drop c.unit us)) is) ≡ index_places (at + c.units) (map (cut_units us) cs) =
     left_places us c cs at is piece same in (
       cut.0,
       subst (λ (n : ℕ). piece_size n (drop n vs) ≡ Some c.units) cut.0 size,
       subst (λ (ys : List ℕ). AreCut (at + c.units) ys cs []) (sym (drop-drop c.units at vs))
-          (same_cuts us vs (at + c.units) cs (left_by (index_pool (drop c.unit us)) is) count (omega (arith, f.1)) (subst (λ (xs : List ℕ). AreCut (at + c.units) xs cs []) (drop-drop c.units at us) cut.2) places
+          (same_cuts us vs (at + c.units) cs (left_by (index_pool (drop c.unit us)) is) count (omega (arith, (piece_size-fits at (drop at us) c.units cut.1).1, length-drop at us)) (subst (λ (xs : List ℕ). AreCut (at + c.units) xs cs []) (drop-drop c.units at us) cut.2) places
           (subst (λ (n : ℕ). AgreeBeside us vs (n + c.units) (left_by (index_pool (drop c.unit us)) is)) cut.0 s.later)),
     )
 
@@ -219,8 +185,7 @@ blank_step us vs c is pool count piece e s =
     let l : length (drop c.unit us) ≡ length us - c.unit = length-drop c.unit us in
     let z : c.unit + 0 ≡ c.unit = omega arith in
     let n : length (cut_units us c) ≡ c.units = part_length us c.unit c.units (omega (arith, f.0, f.1)) in
-    let m : length (cut_units vs c) ≡ c.units = part_length vs c.unit c.units (omega (arith, f.0, f.1, count)) in
-    blank_same (is_wide_index (drop c.unit us)) (cut_units us c) (cut_units vs c) (same_wide (cut_units us c) (drop c.unit us) (cut_first us c piece)) (n ∙ sym m)
+    blank_same (is_wide_index (drop c.unit us)) (cut_units us c) (cut_units vs c) (same_wide (cut_units us c) (drop c.unit us) (cut_first us c piece)) (n ∙ sym (part_length vs c.unit c.units (omega (arith, f.0, f.1, count))))
     (part_read us c.unit c.units 0 f.0 ∙ ap (slice_index us) z ∙ s.first ∙ ap (slice_index vs) (sym z) ∙ sym (part_read vs c.unit c.units 0 f.0))
     (λ j le lt.
     part_read us c.unit c.units j (omega (arith, lt, n))
@@ -233,20 +198,17 @@ equivalent_by : (r q : Maps) (o : Option Pool) (us vs : List ℕ) (c : Cut) (ps 
 equivalent_by r q None us vs c ps ts places is js count piece e s same zip on =
     let f : Fits (drop c.unit us) c.units = piece_size-fits c.unit (drop c.unit us) c.units piece in
     let l : length (drop c.unit us) ≡ length us - c.unit = length-drop c.unit us in
-    let units : cut_units us c ≡ cut_units vs c = agree_part us vs c.unit c.units (omega (arith, f.0, f.1)) (omega (arith, f.0, f.1, count)) (s.whole refl) in
     ap (λ (p : NumberedPiece). p ∷ map (renumbered_piece r) (pieces_with ps is)) (plain_equivalent r q (is_payload_ident (slice_index (cut_units us c) 0)) (cut_units us c))
-    ∙ ap (λ (xs : List ℕ). renumbered_piece q (cond (is_payload_ident (slice_index xs 0)) (Payload xs) (Instruction xs None)) ∷ map (renumbered_piece r) (pieces_with ps is)) units
+    ∙ ap (λ (xs : List ℕ). renumbered_piece q (cond (is_payload_ident (slice_index xs 0)) (Payload xs) (Instruction xs None)) ∷ map (renumbered_piece r) (pieces_with ps is)) (agree_part us vs c.unit c.units (omega (arith, f.0, f.1)) (omega (arith, f.0, f.1, count)) (s.whole refl))
     ∙ ap (λ (rest : List NumberedPiece). renumbered_piece q (cond (is_payload_ident (slice_index (cut_units vs c) 0)) (Payload (cut_units vs c)) (Instruction (cut_units vs c) None)) ∷ rest) (on is js same zip s.later)
 equivalent_by r q (Some pool) us vs c ps ts places [] js count piece e s same zip on = absurd cc
 equivalent_by r q (Some pool) us vs c ps ts places (i ∷ is) [] count piece e s same zip on = absurd zip
 equivalent_by r q (Some pool) us vs c ps ts places (i ∷ is) (j ∷ js) count piece e s same zip on =
     let here : i.unit ≡ c.unit = cc in
     let rest : map (λ (i : Index). i.unit) is ≡ places = cc in
-    let units : with_index 0 (cut_units us c) ≡ with_index 0 (cut_units vs c) = blank_step us vs c (i ∷ is) pool count piece e s in
     let kind : kind_in (with_index 0 (cut_units us c)) ≡ kind_in (drop i.unit us) = head_kind us c i piece here in
-    let image : image_of r (kind_in (with_index 0 (cut_units us c))) i.number ≡ image_of q (kind_in (with_index 0 (cut_units us c))) j.number = ap (λ k. image_of r k i.number) kind ∙ zip.0.image ∙ ap (λ k. image_of q k j.number) (sym kind) in
-    ap (λ (n : Option ℕ). Instruction (with_index 0 (cut_units us c)) n ∷ map (renumbered_piece r) (pieces_with ps is)) image
-    ∙ ap (λ (xs : List ℕ). Instruction xs (image_of q (kind_in xs) j.number) ∷ map (renumbered_piece r) (pieces_with ps is)) units
+    ap (λ (n : Option ℕ). Instruction (with_index 0 (cut_units us c)) n ∷ map (renumbered_piece r) (pieces_with ps is)) (ap (λ k. image_of r k i.number) kind ∙ zip.0.image ∙ ap (λ k. image_of q k j.number) (sym kind))
+    ∙ ap (λ (xs : List ℕ). Instruction xs (image_of q (kind_in xs) j.number) ∷ map (renumbered_piece r) (pieces_with ps is)) (blank_step us vs c (i ∷ is) pool count piece e s)
     ∙ ap (λ (rest : List NumberedPiece). Instruction (with_index 0 (cut_units vs c)) (image_of q (kind_in (with_index 0 (cut_units vs c))) j.number) ∷ rest) (on is js rest zip.1 s.later)
 
 equivalent_same : (r q : Maps) (us vs : List ℕ) (at : ℕ) (cs : List Cut) (is js : List Index) → length us ≡ length vs → at ≤ length us → AreCut at (drop at us) cs [] → AreCut at (drop at vs) cs [] → map (λ (i : Index). i.unit) is ≡ index_places at (map (cut_units us) cs)
@@ -254,17 +216,14 @@ equivalent_same : (r q : Maps) (us vs : List ℕ) (at : ℕ) (cs : List Cut) (is
 equivalent_same r q us vs at [] is js count le cut other same zip h = refl
 equivalent_same r q us vs at (c ∷ cs) is js count le cut other same zip h =
     let piece : IsPieceAt us c = subst (λ (k : ℕ). piece_size k (drop k us) ≡ Some c.units) (sym cut.0) cut.1 in
-    let match : IsPieceAt vs c = subst (λ (k : ℕ). piece_size k (drop k vs) ≡ Some c.units) (sym other.0) other.1 in
-    let f : Fits (drop at us) c.units = piece_size-fits at (drop at us) c.units cut.1 in
     let l : length (drop at us) ≡ length us - at = length-drop at us in
     let s : Step (index_pool (drop c.unit us)) us vs c is = step_at us vs at c cs is le cut same h in
-    let kept : Kept (drop c.unit us) (drop c.unit vs) c.units = step_kept us vs c is s in
     let pool : index_pool (cut_units us c) ≡ index_pool (drop c.unit us) = cut_pool us c piece in
-    let mate : index_pool (cut_units vs c) ≡ index_pool (drop c.unit us) = cut_pool vs c match ∙ same_pool (drop c.unit vs) (drop c.unit us) kept.first in
+    let mate : index_pool (cut_units vs c) ≡ index_pool (drop c.unit us) = cut_pool vs c (subst (λ (k : ℕ). piece_size k (drop k vs) ≡ Some c.units) (sym other.0) other.1) ∙ same_pool (drop c.unit vs) (drop c.unit us) (step_kept us vs c is s).first in
     let places : map (λ (i : Index). i.unit) is ≡ with_place (index_pool (drop c.unit us)) c.unit (index_places (at + length (cut_units us c)) (map (cut_units us) cs)) =
     same ∙ ap (λ (o : Option Pool). with_place o at (index_places (at + length (cut_units us c)) (map (cut_units us) cs))) pool ∙ ap (λ (k : ℕ). with_place (index_pool (drop c.unit us)) k (index_places (at + length (cut_units us c)) (map (cut_units us) cs))) (sym cut.0) in
     let on = λ (ks ls : List Index) (e : map (λ (i : Index). i.unit) ks ≡ index_places (at + length (cut_units us c)) (map (cut_units us) cs)) (zip : AllZip (AreEqualMapped r q us) ks ls) (h : AgreeBeside us vs (c.unit + c.units) ks).
-    equivalent_same r q us vs (at + c.units) cs ks ls count (omega (arith, f.1)) (subst (λ (xs : List ℕ). AreCut (at + c.units) xs cs []) (drop-drop c.units at us) cut.2) (subst (λ (xs : List ℕ). AreCut (at + c.units) xs cs []) (drop-drop c.units at vs) other.2)
+    equivalent_same r q us vs (at + c.units) cs ks ls count (omega (arith, (piece_size-fits at (drop at us) c.units cut.1).1)) (subst (λ (xs : List ℕ). AreCut (at + c.units) xs cs []) (drop-drop c.units at us) cut.2) (subst (λ (xs : List ℕ). AreCut (at + c.units) xs cs []) (drop-drop c.units at vs) other.2)
     (e ∙ ap (λ (n : ℕ). index_places (at + n) (map (cut_units us) cs)) (cut_length us c piece)) zip (subst (λ (k : ℕ). AgreeBeside us vs (k + c.units) ks) cut.0 h) in
     ap (λ (o : Option Pool). renumbered_piece r (piece_with o (cut_units us c) is) ∷ map (renumbered_piece r) (pieces_with (map (cut_units us) cs) (left_by o is))) pool
     ∙ equivalent_by r q (index_pool (drop c.unit us)) us vs c (map (cut_units us) cs) (map (cut_units vs) cs) (index_places (at + length (cut_units us c)) (map (cut_units us) cs)) is js count piece refl s places zip on
@@ -302,23 +261,20 @@ same_by r q None None us vs c d ps ts places more is js piece mate unit e g same
     let xs : cut_units us c ≡ cut_units vs d = plain_units r q (is_payload_ident (slice_index (cut_units us c) 0)) (is_payload_ident (slice_index (cut_units vs d) 0)) (cut_units us c) (cut_units vs d) head in
     let units : c.units ≡ d.units = sym (cut_length us c piece) ∙ ap length xs ∙ cut_length vs d mate in
     let later : PiecesEqualMapped r q us vs (c.unit + c.units) is js = on units same other in
-    let a : Agree us vs c.unit (c.unit + c.units) = part_agrees us vs c.unit c.units (xs ∙ ap (λ (k : ℕ). take d.units (drop k vs)) (sym unit) ∙ ap (λ (k : ℕ). take k (drop c.unit vs)) (sym units)) in
     let f : Fits (drop c.unit us) c.units = piece_size-fits c.unit (drop c.unit us) c.units piece in
     let h : Fits (drop d.unit vs) d.units = piece_size-fits d.unit (drop d.unit vs) d.units mate in
     record {
       left = omega (arith, later.left, f.0, f.1, h.0, h.1, length-drop (c.unit + c.units) us, length-drop (c.unit + c.units) vs, length-drop c.unit us, length-drop c.unit vs, length-drop d.unit vs);
-      agree = beside_join us vs c.unit (c.unit + c.units) is a later.agree;
+      agree = beside_join us vs c.unit (c.unit + c.units) is (part_agrees us vs c.unit c.units (xs ∙ ap (λ (k : ℕ). take d.units (drop k vs)) (sym unit) ∙ ap (λ (k : ℕ). take k (drop c.unit vs)) (sym units))) later.agree;
       are_mapped = later.are_mapped;
     }
 same_by r q None (Some pool) us vs c d ps ts places more is [] piece mate unit e g same other head on = absurd cc
 same_by r q None (Some pool) us vs c d ps ts places more is (j ∷ js) piece mate unit e g same other head on =
-    let first = plain_named r (is_payload_ident (slice_index (cut_units us c) 0)) (cut_units us c) (cut_units vs d) (image_of q (kind_in (with_index 0 (cut_units vs d))) j.number) head in
-    let bad : None ≡ Some pool = sym e ∙ same_pool (cut_units us c) (cut_units vs d) first ∙ g in
+    let bad : None ≡ Some pool = sym e ∙ same_pool (cut_units us c) (cut_units vs d) (plain_named r (is_payload_ident (slice_index (cut_units us c) 0)) (cut_units us c) (cut_units vs d) (image_of q (kind_in (with_index 0 (cut_units vs d))) j.number) head) ∙ g in
     absurd cc
 same_by r q (Some pool) None us vs c d ps ts places more [] js piece mate unit e g same other head on = absurd cc
 same_by r q (Some pool) None us vs c d ps ts places more (i ∷ is) js piece mate unit e g same other head on =
-    let first = plain_named q (is_payload_ident (slice_index (cut_units vs d) 0)) (cut_units vs d) (cut_units us c) (image_of r (kind_in (with_index 0 (cut_units us c))) i.number) (sym head) in
-    let bad : None ≡ Some pool = sym g ∙ same_pool (cut_units vs d) (cut_units us c) first ∙ e in
+    let bad : None ≡ Some pool = sym g ∙ same_pool (cut_units vs d) (cut_units us c) (plain_named q (is_payload_ident (slice_index (cut_units vs d) 0)) (cut_units vs d) (cut_units us c) (image_of r (kind_in (with_index 0 (cut_units us c))) i.number) (sym head)) ∙ e in
     absurd cc
 same_by r q (Some pool) (Some other_pool) us vs c d ps ts places more [] js piece mate unit e g same other head on = absurd cc
 same_by r q (Some pool) (Some other_pool) us vs c d ps ts places more (i ∷ is) [] piece mate unit e g same other head on = absurd cc
@@ -329,7 +285,7 @@ same_by r q (Some pool) (Some other_pool) us vs c d ps ts places more (i ∷ is)
     let other_rest : map (λ (i : Index). i.unit) js ≡ more = cc in
     let blank : with_index 0 (cut_units us c) ≡ with_index 0 (cut_units vs d) = cc in
     let image : image_of r (kind_in (with_index 0 (cut_units us c))) i.number ≡ image_of q (kind_in (with_index 0 (cut_units vs d))) j.number = cc in
-    let units : c.units ≡ d.units = sym (cut_length us c piece) ∙ blank_lengths (cut_units us c) (cut_units vs d) blank ∙ cut_length vs d mate in
+    let units : c.units ≡ d.units = sym (cut_length us c piece) ∙ (sym (length-blank (is_wide_index (cut_units us c)) (cut_units us c)) ∙ ap length blank ∙ length-blank (is_wide_index (cut_units vs d)) (cut_units vs d)) ∙ cut_length vs d mate in
     let later : PiecesEqualMapped r q us vs (c.unit + c.units) is js = on units rest other_rest in
     let f : Fits (drop c.unit us) c.units = piece_size-fits c.unit (drop c.unit us) c.units piece in
     let h : Fits (drop d.unit vs) d.units = piece_size-fits d.unit (drop d.unit vs) d.units mate in
@@ -337,10 +293,9 @@ same_by r q (Some pool) (Some other_pool) us vs c d ps ts places more (i ∷ is)
     let z : c.unit + 0 ≡ c.unit = omega arith in
     let first : slice_index us c.unit ≡ slice_index vs c.unit =
     ap (slice_index us) (sym z) ∙ sym (part_read us c.unit c.units 0 f.0) ∙ blank_firsts (cut_units us c) (cut_units vs d) blank ∙ ap (λ (ys : List ℕ). slice_index ys 0) cut ∙ part_read vs c.unit c.units 0 f.0 ∙ ap (slice_index vs) z in
-    let wide : is_wide_index (cut_units us c) ≡ is_wide_index (drop c.unit us) = same_wide (cut_units us c) (drop c.unit us) (cut_first us c piece) in
     let following : Agree us vs (after_index (is_wide_index (drop c.unit us)) c.unit) (c.unit + c.units) = λ k le lt.
     let n : c.unit + (k - c.unit) ≡ k = omega (arith, le, after_is (is_wide_index (drop c.unit us)) c.unit) in
-    let past : after_index (is_wide_index (cut_units us c)) 0 ≤ k - c.unit = subst (λ (v : Bool). after_index v 0 ≤ k - c.unit) (sym wide) (omega (arith, le, after_is (is_wide_index (drop c.unit us)) c.unit)) in
+    let past : after_index (is_wide_index (cut_units us c)) 0 ≤ k - c.unit = subst (λ (v : Bool). after_index v 0 ≤ k - c.unit) (sym (same_wide (cut_units us c) (drop c.unit us) (cut_first us c piece))) (omega (arith, le, after_is (is_wide_index (drop c.unit us)) c.unit)) in
     ap (slice_index us) (sym n) ∙ sym (part_read us c.unit c.units (k - c.unit) (omega (arith, n, lt))) ∙ blank_rest (cut_units us c) (cut_units vs d) (k - c.unit) blank past
     ∙ ap (λ (ys : List ℕ). slice_index ys (k - c.unit)) cut ∙ part_read vs c.unit c.units (k - c.unit) (omega (arith, n, lt)) ∙ ap (slice_index vs) n in
     let kind : kind_in (with_index 0 (cut_units us c)) ≡ kind_in (drop i.unit us) = head_kind us c i piece here in
@@ -362,13 +317,7 @@ same_by r q (Some pool) (Some other_pool) us vs c d ps ts places more (i ∷ is)
 equivalent_from : (r q : Maps) (us vs : List ℕ) (at : ℕ) (cs ds : List Cut) (is js : List Index) → AreCut at (drop at us) cs [] → AreCut at (drop at vs) ds [] → map (λ (i : Index). i.unit) is ≡ index_places at (map (cut_units us) cs) → map (λ (i : Index). i.unit) js ≡ index_places at (map (cut_units vs) ds)
     → Same r q (map (cut_units us) cs) (map (cut_units vs) ds) is js → PiecesEqualMapped r q us vs at is js
 equivalent_from r q us vs at [] [] [] [] cut other same mate e =
-    let n : length (drop at us) ≡ 0 = ap length cut in
-    let m : length (drop at vs) ≡ 0 = ap length other in
-    record {
-      left = n ∙ sym m;
-      agree = λ k le lt. absurd (omega (arith, n, length-drop at us));
-      are_mapped = tt;
-    }
+    let n : length (drop at us) ≡ 0 = ap length cut in record { left = n ∙ sym (ap length other); agree = λ k le lt. absurd (omega (arith, n, length-drop at us)); are_mapped = tt }
 equivalent_from r q us vs at [] [] (i ∷ is) js cut other same mate e = absurd cc
 equivalent_from r q us vs at [] [] [] (j ∷ js) cut other same mate e = absurd cc
 equivalent_from r q us vs at [] (d ∷ ds) is js cut other same mate e = absurd cc

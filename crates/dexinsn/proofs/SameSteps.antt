@@ -1,8 +1,6 @@
 -- Comparing units in parts, and indices one by one.
-use Rattle.dexinsn.proofs.Common.{◌≡◌, ℕ, zero, suc, ◌+◌, ◌-◌, ◌*◌, ◌/◌, ◌<◌, ◌≤◌, List, [], ◌∷◌, length, drop, take, get_or, refl, ap, sym, ◌∙◌, subst, arith, AllZip, flat_map, drop_all, ushort, ushorts_at, is_wide_index}
-use Rattle.dexinsn.specs.declared.pieces.Index.{Index}
-use Rattle.dexinsn.specs.{units_in, after_index}
-use Rattle.dexinsn.specs.internal.{Agree, AgreeBeside}
+use Rattle.dexinsn.proofs.Common.{◌≡◌, ℕ, zero, suc, ◌+◌, ◌-◌, ◌*◌, ◌/◌, ◌<◌, ◌≤◌, List, [], ◌∷◌, length, drop, take, get_or, refl, ap, sym, ◌∙◌, subst, arith, AllZip, flat_map, drop_all, ushort, ushorts_at, is_wide_index, Index, after_index, Agree, AgreeBeside}
+use Rattle.dexinsn.specs.{units_in}
 use Rattle.dexinsn.proofs.Halves.{length_from, ushorts_from, units_of_part}
 use Rattle.dexinsn.proofs.PutUnits.{next_is, ushorts_taken, part_bytes}
 use Rattle.dexinsn.proofs.SamePieces.{agree_part, part_agrees}

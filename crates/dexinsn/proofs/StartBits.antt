@@ -1,9 +1,7 @@
 -- Starts of instructions as bits of words.
-use Rattle.dexinsn.proofs.Common.{◌≡◌, ℕ, ◌+◌, ◌-◌, ◌*◌, ◌/◌, ◌%◌, ◌^◌, ◌<◌, ◌≤◌, ℤ, pos, ◌+ℤ◌, ◌<ℤ◌, to_z, of_z, w32, Bool, true, false, not, ◌&&◌, ◌||◌, List, length, set, slice_index, replicate, inl, inr, refl, ap, sym, ◌∙◌, subst, arith, w64, negsuc, SFits, ◌↔◌, ◌⊎◌, bit_and, bit_or, max, bit_at, bit_not, from_bool, ints, cases_eq, cases_lt, All, All-weaker, get_or-set_same, get_or-set_other, get_or-replicate, get_or_past, length-replicate, bit_at_and, bit_at_or, bit_at_not, bit_at-lt, bit_at-zero, bit_at_above, bit_at_cat_low, bit_at_cat_high, bit_at_set_same, bit_at_set_other, same_from_bits_below, Cut, is_instruction_start, is_payload_ident}
+use Rattle.dexinsn.proofs.Common.{◌≡◌, ℕ, ◌+◌, ◌-◌, ◌*◌, ◌/◌, ◌%◌, ◌^◌, ◌<◌, ◌≤◌, ℤ, pos, ◌+ℤ◌, ◌<ℤ◌, to_z, of_z, w32, Bool, true, false, not, ◌||◌, List, length, set, slice_index, replicate, inl, inr, refl, ap, sym, ◌∙◌, subst, arith, w64, negsuc, SFits, ◌↔◌, ◌⊎◌, bit_and, bit_or, max, bit_at, bit_not, from_bool, ints, cases_eq, cases_lt, All, All-weaker, get_or-set_same, get_or-set_other, get_or-replicate, get_or_past, length-replicate, bit_at_and, bit_at_or, bit_at_not, bit_at-lt, bit_at-zero, bit_at_above, bit_at_cat_low, bit_at_cat_high, bit_at_set_same, bit_at_set_other, same_from_bits_below, Cut, is_instruction_start, is_payload_ident, AllInGroup, AreGrouped, AreStartBits, HasBit, HasPlaces, EndsEmpty, are_right_targets, AreBitsOf, begins_instruction, TargetGroup}
 use Rattle.std.proofs.lemmas.Nat.{and_le_l, shr-shr, shr_split, pow_pos}
-use Rattle.dexinsn.specs.internal.{AllInGroup, AreGrouped, AreStartBits, HasBit, HasPlace, HasPlaces, EndsEmpty}
-use Rattle.dexinsn.specs.{are_right_targets, AreBitsOf, begins_instruction}
-use Rattle.dexinsn.specs.declared.target_group.TargetGroup.{TargetGroup}
+use Rattle.dexinsn.specs.internal.{HasPlace}
 use Rattle.dexinsn.proofs.Starts.{starts_with-below}
 
 -- ---- 64 bits from one on
@@ -19,13 +17,11 @@ within_word x i lt = sym (bit_at_cat_low (x / 2 ^ 64) 64 (x % 2 ^ 64) i lt) ∙ 
 -- the lower bits of a word, put up
 high_part : (b k i : ℕ) → i < 64 → k ≤ i → bit_at (b * 2 ^ k % 2 ^ 64) i ≡ bit_at b (i - k)
 high_part b k i lt from =
-    let plain : b * 2 ^ k ≡ b * 2 ^ k + 0 = omega arith in
-    within_word (b * 2 ^ k) i lt ∙ ap (λ y. bit_at y i) plain ∙ bit_at_cat_high b k 0 i (pow_pos k) from
+    let plain : b * 2 ^ k ≡ b * 2 ^ k + 0 = omega arith in within_word (b * 2 ^ k) i lt ∙ ap (λ y. bit_at y i) plain ∙ bit_at_cat_high b k 0 i (pow_pos k) from
 
 high_none : (b k i : ℕ) → i < 64 → i < k → bit_at (b * 2 ^ k % 2 ^ 64) i ≡ 0
 high_none b k i lt below =
-    let plain : b * 2 ^ k ≡ b * 2 ^ k + 0 = omega arith in
-    within_word (b * 2 ^ k) i lt ∙ ap (λ y. bit_at y i) plain ∙ bit_at_cat_low b k 0 i below ∙ bit_at-zero i
+    let plain : b * 2 ^ k ≡ b * 2 ^ k + 0 = omega arith in within_word (b * 2 ^ k) i lt ∙ ap (λ y. bit_at y i) plain ∙ bit_at_cat_low b k 0 i below ∙ bit_at-zero i
 
 -- the bit at unit + i, where the word begins at the unit
 pub bits_of_word : (words : List ℕ) (unit s i : ℕ) → unit % 64 ≡ s → s ≡ 0 → i < 64 → HasBit words (unit + i) ↔ (bit_at (slice_index words (unit / 64) / 2 ^ s) i ≡ 1)
@@ -74,8 +70,7 @@ bit_or_not n i = elim (cases_eq (bit_at n i) 1) [
 pub mask_within : (mask word : ℕ) → mask < 2 ^ 64 → word < 2 ^ 64 → (bit_and mask (bit_not w64 word) ≡ 0) ↔ ((i : ℕ) → i < 64 → bit_at mask i ≡ 1 → bit_at word i ≡ 1)
 mask_within mask word fits small = (
   λ e i lt one.
-      let left : bit_at (bit_and mask (bit_not w64 word)) i ≡ 0 = ap (λ x. bit_at x i) e ∙ bit_at-zero i in
-      omega (arith, left, bit_at_and mask (bit_not w64 word) i, bit_at_not w64 word i small lt, bit_at-lt word i),
+      omega (arith, ap (λ x. bit_at x i) e ∙ bit_at-zero i, bit_at_and mask (bit_not w64 word) i, bit_at_not w64 word i small lt, bit_at-lt word i),
   λ all. same_from_bits_below 64 (bit_and mask (bit_not w64 word)) 0 (omega (arith, and_le_l mask (bit_not w64 word))) (omega arith) (λ i lt.
       let none : bit_at 0 i ≡ 0 = bit_at-zero i in
       elim (bit_or_not mask i) [
@@ -89,9 +84,7 @@ mask_within mask word fits small = (
 -- no place is below 0
 pub none_below : (words : List ℕ) (z : ℤ) (mask : ℕ) → z <ℤ pos 0 → bit_at mask 0 ≡ 1 → HasPlaces words z mask → ⊥
 none_below words (pos n) mask below first all = omega (arith, ints)
-none_below words (negsuc n) mask below first all =
-    let same : negsuc n +ℤ pos 0 ≡ negsuc n = omega (arith, ints) in
-    subst (HasPlace words) same (all 0 (omega arith) first)
+none_below words (negsuc n) mask below first all = let same : negsuc n +ℤ pos 0 ≡ negsuc n = omega (arith, ints) in subst (HasPlace words) same (all 0 (omega arith) first)
 
 -- the places from a unit on are those of the word from it on
 pub places_are : (words : List ℕ) (z : ℤ) (unit mask word : ℕ) → z ≡ pos unit → mask < 2 ^ 64 → word < 2 ^ 64 → ((i : ℕ) → i < 64 → HasBit words (unit + i) ↔ (bit_at word i ≡ 1))
@@ -134,9 +127,7 @@ same_bit words unit k within other =
 
 pub others_stay : (words : List ℕ) (unit k : ℕ) → unit / 64 < length words → (k ≡ unit → ⊥) → HasBit (with_bit words unit) k ↔ HasBit words k
 unfolding HasBit
-others_stay words unit k within other =
-    let same = same_bit words unit k within other in
-    (λ e. sym same ∙ e, λ e. same ∙ e)
+others_stay words unit k within other = let same = same_bit words unit k within other in (λ e. sym same ∙ e, λ e. same ∙ e)
 
 -- ---- a bit is put
 
@@ -148,17 +139,12 @@ with_put words unit bit = set words (unit / 64) (bit_or (slice_index words (unit
 abbrev with_mask : List ℕ → ℕ → ℕ → List ℕ
 with_mask words unit mask = set words (unit / 64) (bit_or (slice_index words (unit / 64)) mask)
 
-blank_or : (a mask i : ℕ) → mask ≡ 0 → bit_at (bit_or a mask) i ≡ bit_at a i
-blank_or a mask i none =
-    let zero : bit_at mask i ≡ 0 = ap (λ m. bit_at m i) none ∙ bit_at-zero i in
-    bit_at_or a mask i ∙ ap (max (bit_at a i)) zero ∙ omega arith
-
 blank_bit : (words : List ℕ) (unit k mask : ℕ) → mask ≡ 0 → unit / 64 < length words → bit_at (slice_index (with_mask words unit mask) (k / 64)) (k % 64) ≡ bit_at (slice_index words (k / 64)) (k % 64)
 blank_bit words unit k mask none within = elim (cases_eq (k / 64) (unit / 64)) [
   | inl same ↦
       ap (λ j. bit_at (slice_index (with_mask words unit mask) j) (k % 64)) same
       ∙ ap (λ w. bit_at w (k % 64)) (get_or-set_same words (unit / 64) (bit_or (slice_index words (unit / 64)) mask) 0 within)
-      ∙ blank_or (slice_index words (unit / 64)) mask (k % 64) none
+      ∙ (bit_at_or (slice_index words (unit / 64)) mask (k % 64) ∙ ap (max (bit_at (slice_index words (unit / 64)) (k % 64))) (ap (λ m. bit_at m (k % 64)) none ∙ bit_at-zero (k % 64)) ∙ omega arith)
       ∙ ap (λ j. bit_at (slice_index words j) (k % 64)) (sym same)
   | inr apart ↦ ap (λ w. bit_at w (k % 64)) (get_or-set_other words (unit / 64) (k / 64) (bit_or (slice_index words (unit / 64)) mask) 0 apart)
 ]
@@ -170,10 +156,7 @@ bit_is_put words unit false within e = absurd cc
 pub others_kept : (words : List ℕ) (unit k : ℕ) (bit : Bool) → unit / 64 < length words → (k ≡ unit → bit ≡ true → ⊥) → HasBit (with_put words unit bit) k ↔ HasBit words k
 unfolding HasBit
 others_kept words unit k true within other = others_stay words unit k within (λ e. other e refl)
-others_kept words unit k false within other =
-    let none : 0 * 2 ^ (unit % 64) % 2 ^ 64 ≡ 0 = omega arith in
-    let same = blank_bit words unit k (0 * 2 ^ (unit % 64) % 2 ^ 64) none within in
-    (λ e. sym same ∙ e, λ e. same ∙ e)
+others_kept words unit k false within other = let same = blank_bit words unit k (0 * 2 ^ (unit % 64) % 2 ^ 64) (omega arith) within in (λ e. sym same ∙ e, λ e. same ∙ e)
 
 -- ---- the bits of pieces
 
@@ -183,8 +166,7 @@ unfolding HasBit
 none_set n k has = elim (cases_lt (k / 64) n) [
   | inl within ↦ absurd (let none = ap (λ w. bit_at w (k % 64)) (get_or-replicate n (k / 64) 0 0 within) ∙ bit_at-zero (k % 64) in omega arith)
   | inr past ↦ absurd (
-      let long : length (replicate n 0) ≤ k / 64 = omega (arith, length-replicate {A = ℕ} n 0) in
-      let none = ap (λ w. bit_at w (k % 64)) (get_or_past (replicate n 0) (k / 64) 0 long) ∙ bit_at-zero (k % 64) in omega arith)
+      let none = ap (λ w. bit_at w (k % 64)) (get_or_past (replicate n 0) (k / 64) 0 (omega (arith, length-replicate {A = ℕ} n 0))) ∙ bit_at-zero (k % 64) in omega arith)
 ]
 
 pub or_nothing : (x y : Bool) → y ≡ false → (x || (y || false)) ≡ x
@@ -194,10 +176,6 @@ or_nothing false y none = cc
 pub or_last : (x y : Bool) → y ≡ true → (x || (y || false)) ≡ true
 or_last true y some = refl
 or_last false y some = cc
-
-pub and_nothing : (x y : Bool) → y ≡ false → (x && y) ≡ false
-and_nothing true y none = none
-and_nothing false y none = refl
 
 -- the last word has no bit
 pub ends_empty : (test : ℕ → Bool) (us : List ℕ) (cs : List Cut) (words : List ℕ) → AreBitsOf test us cs words → EndsEmpty words
@@ -236,7 +214,4 @@ groups_are us cs words at ts groups r starts grouped says =
 
 -- the bits of instructions are those of their starts
 pub start_bits : (us : List ℕ) (cs : List Cut) (words : List ℕ) → AreBitsOf begins_instruction us cs words → AreStartBits us cs words
-start_bits us cs words h = record {
-  each = h.each;
-  last = ends_empty begins_instruction us cs words h;
-}
+start_bits us cs words h = record { each = h.each; last = ends_empty begins_instruction us cs words h }

@@ -1,7 +1,5 @@
 -- Where pieces begin.
-use Rattle.dexinsn.proofs.Common.{◌≡◌, ℕ, ◌==◌, ℤ, pos, ◌<ℤ◌, Bool, true, false, cond, ◌&&◌, ◌||◌, List, [], ◌∷◌, drop, slice_index, Option, Some, None, inl, inr, refl, ap, sym, ◌∙◌, subst, arith, eqb-true, eq-eqb, ne_eqb, negsuc, IsSome, is_some, option_map, All, Any, list_any, int_eq, ints, cases_eq, All-get_or, Any-from_list_any, Cut, piece_size}
-use Rattle.dexinsn.specs.declared.payload.PayloadKind.{PayloadKind}
-use Rattle.dexinsn.specs.{ident_of, IsPieceAt, starts_with}
+use Rattle.dexinsn.proofs.Common.{◌≡◌, ℕ, ◌==◌, ℤ, pos, ◌<ℤ◌, Bool, true, false, cond, ◌&&◌, ◌||◌, List, [], ◌∷◌, drop, slice_index, Option, Some, None, inl, inr, refl, ap, sym, ◌∙◌, subst, arith, eqb-true, eq-eqb, ne_eqb, negsuc, IsSome, is_some, option_map, All, Any, list_any, int_eq, ints, cases_eq, All-get_or, Any-from_list_any, Cut, piece_size, PayloadKind, ident_of, IsPieceAt, starts_with}
 
 -- nothing begins at a negative number
 pub starts_with-negsuc : (test : ℕ → Bool) (us : List ℕ) (cs : List Cut) (n : ℕ) → starts_with test us cs (negsuc n) ≡ false
@@ -50,14 +48,11 @@ pub piece_at : (us : List ℕ) (cs : List Cut) (k : ℕ) → All (IsPieceAt us) 
 piece_at us cs k pieces marked =
     let found : Any (λ (c : Cut). (c.unit == k) ≡ true) cs = Any-from_list_any (λ (c : Cut). c.unit == k) cs marked in
     let c : Cut = found.1 in
-    let at : c.unit ≡ k = eqb-true c.unit k found.4 in
-    let piece : IsPieceAt us c = subst (IsPieceAt us) found.3 (All-get_or (IsPieceAt us) cs found.0 c found.2 pieces) in
-    let size : piece_size k (drop k us) ≡ Some c.units = subst (λ (p : ℕ). piece_size p (drop p us) ≡ Some c.units) at piece in
+    let size : piece_size k (drop k us) ≡ Some c.units = subst (λ (p : ℕ). piece_size p (drop p us) ≡ Some c.units) (eqb-true c.unit k found.4) (subst (IsPieceAt us) found.3 (All-get_or (IsPieceAt us) cs found.0 c found.2 pieces)) in
     subst (λ (o : Option ℕ). IsSome o) (sym size) refl
 
 -- a payload begins with the unit where the code finds a kind
 pub payload_is : (o : Option PayloadKind) (u : ℕ) (payload some : Bool) → option_map ident_of o ≡ cond payload (Some u) None → is_some o ≡ some → payload ≡ some
-payload_is None u true some is found = cc
 payload_is None u false some is found = found
 payload_is (Some kind) u true some is found = found
-payload_is (Some kind) u false some is found = cc
+payload_is _ u _ some is found = cc

@@ -1,21 +1,13 @@
 -- What is read is stored so that it denotes the pieces of the code_item.
-use Rattle.dexinsn.proofs.Common.{◌≡◌, ℕ, zero, suc, ◌+◌, ◌-◌, ◌*◌, ◌/◌, ◌%◌, ◌^◌, ◌<◌, ◌≤◌, ◌==◌, Bool, true, false, cond, List, [], ◌∷◌, length, drop, map, get_or, slice_index, slice_set, Option, Some, None, refl, ap, sym, ◌∙◌, subst, arith, length-drop, get_or-set_other, All, AllZip, option_map_or, option_and_then, MatchOption, drop-drop, get_or-take, length-take-le, All-nil, All-cons, All-head, All-tail, uint_at, opcode_of, Pool, StringPool, TypePool, ProtoPool, FieldPool, MethodPool, Proto, Symbol, TextSymbol, TypeSymbol, ProtoSymbol, FieldSymbol, MethodSymbol, pool_of, Mentions, Cut, AreCut, IsCode, Piece, DenotesPiece, piece_size, cut_units, index_pool, index_in, is_wide_index, is_payload_ident, with_index, low_byte, two_units, PiecesAt, length-ushorts_at, ArePools, count_of, IsNumbered}
+use Rattle.dexinsn.proofs.Common.{◌≡◌, ℕ, zero, suc, ◌+◌, ◌-◌, ◌*◌, ◌/◌, ◌%◌, ◌^◌, ◌<◌, ◌≤◌, ◌==◌, Bool, true, false, cond, List, [], ◌∷◌, length, drop, map, get_or, slice_index, slice_set, Option, Some, None, refl, ap, sym, ◌∙◌, subst, arith, length-drop, get_or-set_other, All, AllZip, option_map_or, option_and_then, MatchOption, drop-drop, get_or-take, length-take-le, All-nil, All-cons, All-head, All-tail, uint_at, opcode_of, Pool, StringPool, TypePool, ProtoPool, FieldPool, MethodPool, Proto, Symbol, TextSymbol, TypeSymbol, ProtoSymbol, FieldSymbol, MethodSymbol, pool_of, Mentions, Cut, AreCut, IsCode, Piece, DenotesPiece, piece_size, cut_units, index_pool, index_in, is_wide_index, is_payload_ident, with_index, low_byte, two_units, PiecesAt, length-ushorts_at, ArePools, count_of, IsNumbered, Index, IsPieceAt, Instruction, kind_of_pool, Denotes, Denote, cuts_from, cuts_in, parts_in, piece_with, left_by, pieces_with, with_place, index_places, AreStored, ArePiecesAt, AreUnitsAt, with_index_at, indices_at, IsInRange, AreCodeIndices, Payload}
 use Rattle.dexspec.specs.Rows.{SymbolRow}
 use Rattle.dexspec.specs.Pieces as symbolic
-use Rattle.dexinsn.specs.declared.pieces.Index.{Index}
-use Rattle.dexinsn.specs.{units_in, IsPieceAt, Instruction, kind_of_pool, Denotes, Denote, cuts_from, cuts_in, parts_in, piece_with, left_by, pieces_with, with_place, index_places, AreStored, ArePiecesAt, AreUnitsAt, with_index_at, indices_at, IsInRange, AreCodeIndices}
-use Rattle.dexinsn.specs.Numbered.{Payload}
+use Rattle.dexinsn.specs.{units_in}
+use Rattle.dexinsn.proofs.Once.{nothing, same_cut}
 use Rattle.dexinsn.proofs.Sizes.{Fits, piece_size-fits}
 use Rattle.dexinsn.proofs.IndexRoom.{HasRoom, has_room}
 
 -- ---- the cuts
-
-nothing : (at : ℕ) → piece_size at [] ≡ None
-unfolding piece_size
-nothing at = refl
-
-same_cut : (c d : Cut) → c.unit ≡ d.unit → c.units ≡ d.units → c ≡ d
-same_cut c d unit units = ap (λ (n : ℕ). record { unit = n; units = c.units }) unit ∙ ap (λ (n : ℕ). record { unit = d.unit; units = n }) units
 
 abbrev more_cuts : ℕ → ℕ → List ℕ → ℕ → List Cut
 more_cuts n at us size = record { unit = at; units = size } ∷ cuts_from n (at + size) (drop size us)
@@ -25,11 +17,9 @@ cuts_from_is zero at us [] cut le = refl
 cuts_from_is zero at us (c ∷ cs) cut le = let f : Fits us c.units = piece_size-fits at us c.units cut.1 in absurd (omega (arith, f.0, f.1))
 cuts_from_is (suc n) at us [] cut le = ap (λ (o : Option ℕ). option_map_or (more_cuts n at us) o []) (ap (piece_size at) cut ∙ nothing at)
 cuts_from_is (suc n) at us (c ∷ cs) cut le =
-    let f : Fits us c.units = piece_size-fits at us c.units cut.1 in
-    let l : length (drop c.units us) ≡ length us - c.units = length-drop c.units us in
     let here : record { unit = at; units = c.units } ≡ c = same_cut (record { unit = at; units = c.units }) c (sym cut.0) refl in
     ap (λ (o : Option ℕ). option_map_or (more_cuts n at us) o []) cut.1
-    ∙ ap (λ (ds : List Cut). record { unit = at; units = c.units } ∷ ds) (cuts_from_is n (at + c.units) (drop c.units us) cs cut.2 (omega (arith, f.0)))
+    ∙ ap (λ (ds : List Cut). record { unit = at; units = c.units } ∷ ds) (cuts_from_is n (at + c.units) (drop c.units us) cs cut.2 (omega (arith, (piece_size-fits at us c.units cut.1).0, length-drop c.units us)))
     ∙ ap (λ (d : Cut). d ∷ cs) here
 
 pub cuts_in_is : (us : List ℕ) (cs : List Cut) → AreCut 0 us cs [] → cuts_in us ≡ cs
@@ -128,7 +118,7 @@ symbol_row b m ProtoPool n h lt = h.protos_are.each n no_proto (omega (arith, lt
 symbol_row b m FieldPool n h lt = h.fields_are.each n (record { class = []; name = []; type = [] }) (omega (arith, lt, h.fields_are.count))
 symbol_row b m MethodPool n h lt = h.methods_are.each n (record { class = []; name = []; proto = no_proto }) (omega (arith, lt, h.methods_are.count))
 
-any_default : {X : Type 0} (xs : List X) (n : ℕ) (d e : X) → n < length xs → get_or xs n d ≡ get_or xs n e
+pub any_default : {X : Type 0} (xs : List X) (n : ℕ) (d e : X) → n < length xs → get_or xs n d ≡ get_or xs n e
 any_default [] n d e lt = absurd (omega arith)
 any_default (x ∷ xs) zero d e lt = refl
 any_default (x ∷ xs) (suc n) d e lt = any_default xs n d e (omega arith)
@@ -167,7 +157,6 @@ piece_encoded : (b : List ℕ) (m : Mentions) (us : List ℕ) (c : Cut) (o : Opt
 unfolding named_by
 piece_encoded b m us c None pools is e range = plain_encoded (is_payload_ident (slice_index (cut_units us c) 0)) (SymbolRow b) (cut_units us c) refl (cut_pool us c is ∙ e)
 piece_encoded b m us c (Some pool) pools is e range =
-    let n : ℕ = index_in (drop c.unit us) in
     let small : index_in (drop c.unit us) < count_of (kind_of_pool pool) m = subst (λ (o : Option Pool). MatchOption o (Unit {0}) (λ p. index_in (drop c.unit us) < count_of (kind_of_pool p) m)) e range in (
       cut_pool us c is ∙ e ∙ ap Some (sym (symbol_pool m pool (index_in (drop c.unit us)))),
       subst (λ (k : ℕ). SymbolRow b k (symbol_at m pool (index_in (drop c.unit us)))) (sym (cut_index us c pool is e)) (symbol_row b m pool (index_in (drop c.unit us)) pools small),
@@ -211,7 +200,6 @@ pieces_for : (m : Mentions) (us : List ℕ) (cs : List Cut) → All (IsPieceAt u
 pieces_for m us [] pieces range = tt
 pieces_for m us (c ∷ cs) pieces range =
     let piece : IsPieceAt us c = All-head (IsPieceAt us) c cs pieces in
-    let o : Option Pool = index_pool (drop c.unit us) in
     let same : index_pool (cut_units us c) ≡ index_pool (drop c.unit us) = cut_pool us c piece in
     let is : List Index = with_index_at (index_pool (drop c.unit us)) us c (indices_at us cs) in (
       subst (λ (p : Option Pool). Denotes m (piece_with p (cut_units us c) (with_index_at (index_pool (drop c.unit us)) us c (indices_at us cs))) (named m us c)) (sym same)
@@ -226,7 +214,6 @@ pub read_pieces : (b : List ℕ) (off : ℕ) (m : Mentions) (bytes : List ℕ) (
 read_pieces b off m bytes is pools at r =
     let us : List ℕ = units_in bytes in
     let pieces : All (IsPieceAt (units_in bytes)) r.cuts = code_pieces (units_in bytes) r.cuts r.code in
-    let same : cuts_in (units_in bytes) ≡ r.cuts = cuts_in_is (units_in bytes) r.cuts r.code.cut in
     record {
       cuts = r.cuts;
       symbolic = map (named m (units_in bytes)) r.cuts;
@@ -236,7 +223,7 @@ read_pieces b off m bytes is pools at r =
         code = subst (λ (us : List ℕ). IsCode us r.cuts) at.units r.code;
         pieces = subst (λ (vs : List ℕ). AllZip (λ c p. DenotesPiece (SymbolRow b) (cut_units vs c) p) r.cuts (map (named m (units_in bytes)) r.cuts)) at.units (pieces_encoded b m (units_in bytes) r.cuts pools pieces r.read.in_range);
       };
-      are_encoded = subst (λ (cs : List Cut). Denote m (pieces_with (map (cut_units (units_in bytes)) cs) is) (map (named m (units_in bytes)) r.cuts)) (sym same)
+      are_encoded = subst (λ (cs : List Cut). Denote m (pieces_with (map (cut_units (units_in bytes)) cs) is) (map (named m (units_in bytes)) r.cuts)) (sym (cuts_in_is (units_in bytes) r.cuts r.code.cut))
           (subst (λ (js : List Index). Denote m (pieces_with (map (cut_units (units_in bytes)) r.cuts) js) (map (named m (units_in bytes)) r.cuts)) (sym r.read.are) (pieces_for m (units_in bytes) r.cuts pieces r.read.in_range));
     }
 
@@ -271,6 +258,4 @@ none_read b off m bytes pools at none cuts ps h =
     (subst (λ (us : List ℕ). AllZip (λ c p. DenotesPiece (SymbolRow b) (cut_units us c) p) cuts ps) (sym at.units) h.pieces))
 
 pub few_units : (b : List ℕ) (off : ℕ) (bytes : List ℕ) → AreUnitsAt b off bytes → length (units_in bytes) < 2 ^ 32
-few_units b off bytes at =
-    let l : length (units_in bytes) ≡ uint_at b (off + 12) = ap length at.units ∙ length-ushorts_at b (off + 16) (uint_at b (off + 12)) in
-    omega (arith, at.few)
+few_units b off bytes at = omega (arith, at.few, ap length at.units ∙ length-ushorts_at b (off + 16) (uint_at b (off + 12)))

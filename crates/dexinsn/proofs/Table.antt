@@ -1,13 +1,9 @@
 -- The tables of the code are those of the definitions, opcode by opcode: by computation.
-use Rattle.std.proofs.Common.{◌≡◌, ℕ, ◌<◌, List, map, get_or, refl, ap, sym, ◌∙◌, zero-add}
+use Rattle.dexinsn.proofs.Common.{◌≡◌, ℕ, ◌<◌, List, map, get_or, refl, ap, sym, ◌∙◌, zero-add, range_with_len, get_or-map-range_with_len, opcode_of, opcode_runs, IsRowOf, Row}
 use Rattle.std.specs.Borrow.{Bor}
-use Rattle.std.specs.List.{range_with_len}
 use Rattle.std.proofs.Math.ListN.{get_or-map}
-use Rattle.std.proofs.lemmas.List.FromFn.{get_or-map-range_with_len}
-use Rattle.dexspec.specs.Opcodes.{opcode_of, opcode_runs}
-use Rattle.dexinsn.specs.Opcode.{AreMnemonics, AreRows, IsRowOf, meant, mnemonic_of, row_meant}
+use Rattle.dexinsn.specs.Opcode.{AreMnemonics, AreRows, meant, mnemonic_of, row_meant}
 use Rattle.dexinsn.specs.declared.opcodes.TheConstants.{MNEMONICS, ROWS}
-use Rattle.dexinsn.specs.declared.opcodes.Row.{Row}
 
 pub rows_are : map meant ROWS ≡ map row_meant (range_with_len 0 256)
 unfolding opcode_of opcode_runs

@@ -1,8 +1,6 @@
 -- Targets in groups.
-use Rattle.dexinsn.proofs.Common.{◌≡◌, ℕ, suc, ◌+◌, ◌*◌, ◌%◌, ◌^◌, ◌<◌, ℤ, pos, ◌+ℤ◌, Bool, true, ◌&&◌, List, [], ◌∷◌, ◌++◌, length, take, get_or, Some, inl, inr, refl, ap, sym, ◌∙◌, arith, w64, ◌↔◌, bit_or, bit_at, All, list_all, IsPermutation, ints, cases_eq, and_parts, bit_at_or, bit_at-lt, bit_at_set_same, bit_at_set_other, bit_at-pow_same, bit_at-pow_other, append_assoc, All-push, All-pop, list_all_more, All-permutation, IsPermutation-sym, int_in, ints_in}
+use Rattle.dexinsn.proofs.Common.{and_from, ◌≡◌, ℕ, suc, ◌+◌, ◌*◌, ◌%◌, ◌^◌, ◌<◌, ℤ, pos, ◌+ℤ◌, Bool, true, ◌&&◌, List, [], ◌∷◌, ◌++◌, length, take, get_or, Some, inl, inr, refl, ap, sym, ◌∙◌, arith, w64, ◌↔◌, bit_or, bit_at, All, list_all, IsPermutation, ints, cases_eq, and_parts, bit_at_or, bit_at-lt, bit_at_set_same, bit_at_set_other, bit_at-pow_same, bit_at-pow_other, append_assoc, All-push, All-pop, list_all_more, All-permutation, IsPermutation-sym, int_in, ints_in, TargetGroup, AllFrom, AllInGroup, AreGrouped}
 use Rattle.std.proofs.lemmas.List.Sums.{AllPass-from_list_all, list_all-from_AllPass}
-use Rattle.dexinsn.specs.declared.target_group.TargetGroup.{TargetGroup}
-use Rattle.dexinsn.specs.internal.{AllFrom, AllInGroup, AreGrouped}
 
 -- a number and nothing
 and_none : (z : ℤ) → z +ℤ pos 0 ≡ z
@@ -44,12 +42,6 @@ one_more test first target bits k within at = (
 abbrev pub AreGroupedTo : List ℤ → ℕ → List TargetGroup → TargetGroup → Type 0
 AreGroupedTo ts i groups g = (test : ℤ → Bool) → (list_all test (take i ts) ≡ true) ↔ (All (AllInGroup test) groups × AllInGroup test g)
 
-and_both : (x y : Bool) → x ≡ true → y ≡ true → (x && y) ≡ true
-and_both x y p q = cc
-
-first_passes : (test : ℤ → Bool) (ts : List ℤ) (d : ℤ) → 0 < length ts → list_all test (take 1 ts) ≡ test (get_or ts 0 d)
-first_passes test ts d some = list_all_more test ts 0 d some
-
 -- the next target is one of the group
 pub next_near : (ts : List ℤ) (i : ℕ) (groups : List TargetGroup) (g h : TargetGroup) (t : ℤ) → i < length ts → t ≡ get_or ts i t → AreGroupedTo ts i groups g
     → ((test : ℤ → Bool) → AllInGroup test h ↔ (AllInGroup test g × (test t ≡ true))) → AreGroupedTo ts (i + 1) groups h
@@ -61,7 +53,7 @@ next_near ts i groups g h t lt at before more test =
           (old.0, (more test).1 (old.1, parts.1)),
       λ both.
           let new = (more test).0 both.1 in
-          next ∙ and_both (list_all test (take i ts)) (test t) ((before test).1 (both.0, new.0)) new.1,
+          next ∙ and_from (list_all test (take i ts)) (test t) ((before test).1 (both.0, new.0)) new.1,
     )
 
 -- the next target begins a group
@@ -75,13 +67,13 @@ next_far ts i groups g h t lt at before one test =
           (All-push (AllInGroup test) groups g old.0 old.1, (one test).1 parts.1),
       λ both.
           let old = All-pop (AllInGroup test) (groups ++ g ∷ []) groups (Some g) refl both.0 in
-          next ∙ and_both (list_all test (take i ts)) (test t) ((before test).1 (old.0, old.1)) ((one test).0 both.1),
+          next ∙ and_from (list_all test (take i ts)) (test t) ((before test).1 (old.0, old.1)) ((one test).0 both.1),
     )
 
 -- the first target begins the first group
 pub first_grouped : (ts : List ℤ) (g : TargetGroup) (t : ℤ) → 0 < length ts → t ≡ get_or ts 0 t → ((test : ℤ → Bool) → AllInGroup test g ↔ (test t ≡ true)) → AreGroupedTo ts 1 [] g
 first_grouped ts g t some at one test =
-    let first : list_all test (take 1 ts) ≡ test t = first_passes test ts t some ∙ ap test (sym at) in (
+    let first : list_all test (take 1 ts) ≡ test t = (list_all_more test ts 0 t some) ∙ ap test (sym at) in (
       λ all. (λ i d lt. absurd (omega arith), (one test).1 (sym first ∙ all)),
       λ both. first ∙ (one test).0 both.1,
     )

@@ -1,6 +1,6 @@
-use Rattle.dexinsn.proofs.Common.{◌≡◌, ◌+◌, ◌/◌, length, ap, sym, subst, ◌∙◌, arith, ushort_at, RegistersAt, length-ushorts_at}
+use Rattle.dexinsn.proofs.Common.{◌≡◌, ◌+◌, ◌/◌, length, ap, sym, subst, ◌∙◌, arith, ushort_at, RegistersAt, length-ushorts_at, AreStartsAt}
 use Rattle.std.proofs.lemmas.Result.{err_from_is_err_and}
-use Rattle.dexinsn.specs.{units_in, AreStartsAt}
+use Rattle.dexinsn.specs.{units_in}
 use Rattle.dexinsn.proofs.FaultsRead.{pieces_fault}
 use Rattle.dexinsn.proofs.Halves.{ushort_after}
 use Rattle.dexinsn.proofs.NotedTargets.{pieces_there, shape_there}
@@ -38,6 +38,4 @@ returns c =
 
 pub overflow_cast-result : goal.overflow_cast-result
 overflow_cast-result c =
-    let bytes = c.in-Some.bytes.now in
-    let count : length (units_in bytes) ≡ length bytes / 2 = length-ushorts_at bytes 0 (length bytes / 2) in
-    omega (arith, count, few_units c.args.frame.now c.args.off bytes c.in-Some.ensures)
+    let bytes = c.in-Some.bytes.now in omega (arith, length-ushorts_at bytes 0 (length bytes / 2), few_units c.args.frame.now c.args.off bytes c.in-Some.ensures)

@@ -1,5 +1,4 @@
-use Rattle.dexinsn.proofs.Common.{◌/◌, ◌+◌, ap}
-use Rattle.dexinsn.specs.{begins_instruction, is_noted}
+use Rattle.dexinsn.proofs.Common.{◌/◌, ◌+◌, ap, begins_instruction, is_noted}
 use Rattle.dexinsn.proofs.Passed.{none_bits}
 use Rattle.dexinsn.proofs.checking.check_units.Goals as goal
 

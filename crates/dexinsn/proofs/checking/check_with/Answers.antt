@@ -1,6 +1,4 @@
-use Rattle.dexinsn.proofs.Common.{ℕ, List, Bool, true, false, sym, subst, arith}
-use Rattle.dexinsn.specs.internal.{EndsEmpty}
-use Rattle.dexinsn.specs.{AreNoted, AreAllRight, begins_instruction}
+use Rattle.dexinsn.proofs.Common.{ℕ, List, Bool, true, false, sym, subst, arith, EndsEmpty, AreNoted, AreAllRight, begins_instruction}
 use Rattle.dexinsn.proofs.NotedTargets.{are_noted, bad_target, checked, code_starts}
 use Rattle.dexinsn.proofs.StartBits.{ends_empty}
 use Rattle.dexinsn.proofs.checking.check_with.Goals as goal

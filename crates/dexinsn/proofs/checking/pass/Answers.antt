@@ -1,5 +1,4 @@
-use Rattle.dexinsn.proofs.Common.{drop, arith, length-drop}
-use Rattle.dexinsn.specs.{begins_instruction, is_noted}
+use Rattle.dexinsn.proofs.Common.{drop, arith, length-drop, begins_instruction, is_noted}
 use Rattle.dexinsn.proofs.Sizes.{piece_size-fits}
 use Rattle.dexinsn.proofs.Passed.{bits_put, no_step, one_passed}
 use Rattle.dexinsn.proofs.checking.pass.Goals as goal
@@ -25,5 +24,4 @@ loop-at-preserved c =
 pub overflow_add-at : goal.overflow_add-at
 overflow_add-at c =
     let us = c.args.units.now in
-    let at = c.loop-at.at in
-    omega (arith, (piece_size-fits at (drop at us) c.in_ok-step.step.units c.in_ok-step.ensures.size).1, length-drop at us, c.requires.few)
+    let at = c.loop-at.at in omega (arith, (piece_size-fits at (drop at us) c.in_ok-step.step.units c.in_ok-step.ensures.size).1, length-drop at us, c.requires.few)

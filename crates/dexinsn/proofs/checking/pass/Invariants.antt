@@ -1,5 +1,4 @@
-use Rattle.dexinsn.proofs.Common.{◌-◌, length}
-use Rattle.dexinsn.specs.{ArePassed}
+use Rattle.dexinsn.proofs.Common.{◌-◌, length, ArePassed}
 use Rattle.dexinsn.proofs.checking.pass.Given as goal
 
 abbrev pub invariant-loop-at : goal.invariant-loop-at

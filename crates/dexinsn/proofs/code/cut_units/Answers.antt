@@ -1,14 +1,12 @@
-use Rattle.dexinsn.proofs.Common.{◌≡◌, ◌+◌, List, ◌∷◌, [], ◌++◌, drop, Some, None, sym, ◌∙◌, ap, subst, arith, common_steps, Cut as Meant, piece_size}
+use Rattle.dexinsn.proofs.Common.{◌≡◌, ◌+◌, List, ◌∷◌, [], ◌++◌, drop, Some, sym, ◌∙◌, ap, subst, arith, common_steps, Cut as Meant, piece_size, cuts_of, AreCutWith}
 use Rattle.dexinsn.specs.declared.code.Cut.{Cut}
-use Rattle.dexinsn.specs.{cuts_of, AreCutWith}
 use Rattle.dexinsn.proofs.Cuts.{cuts_of-push}
 use Rattle.dexinsn.proofs.Passed.{one_cut_more, cut_breaks}
 use Rattle.dexinsn.proofs.code.cut_units.Goals as goal
 
 pub returns-in-None-clause-fault : goal.returns-in-None-clause-fault
 returns-in-None-clause-fault c =
-    let none : piece_size c.loop-at.at (drop c.loop-at.at c.args.units.now) ≡ None = ap (piece_size c.loop-at.at) (sym c.rest.ensures) ∙ sym c.in-None.ensures.size in
-    cut_breaks c.args.units.now (cuts_of c.loop-at.cuts.items) c.loop-at.starts.items c.loop-at.noted.items c.loop-at.at c.loop-at.invariant (omega arith) none
+    cut_breaks c.args.units.now (cuts_of c.loop-at.cuts.items) c.loop-at.starts.items c.loop-at.noted.items c.loop-at.at c.loop-at.invariant (omega arith) (ap (piece_size c.loop-at.at) (sym c.rest.ensures) ∙ sym c.in-None.ensures.size)
 
 pub loop-at-preserved : goal.loop-at-preserved
 loop-at-preserved c =

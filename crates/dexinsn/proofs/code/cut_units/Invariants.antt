@@ -1,5 +1,4 @@
-use Rattle.dexinsn.proofs.Common.{◌-◌, length}
-use Rattle.dexinsn.specs.{cuts_of, AreCutWith}
+use Rattle.dexinsn.proofs.Common.{◌-◌, length, cuts_of, AreCutWith}
 use Rattle.dexinsn.proofs.code.cut_units.Given as goal
 
 abbrev pub invariant-loop-at : goal.invariant-loop-at

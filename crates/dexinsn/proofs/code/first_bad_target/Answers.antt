@@ -1,5 +1,4 @@
-use Rattle.dexinsn.proofs.Common.{sym, ◌∙◌}
-use Rattle.dexinsn.specs.{cuts_of, begins_instruction}
+use Rattle.dexinsn.proofs.Common.{sym, ◌∙◌, cuts_of, begins_instruction}
 use Rattle.dexinsn.proofs.Outcome.{bad_target_here, bad_target_on, cut_noted, piece_there}
 use Rattle.dexinsn.proofs.StartBits.{ends_empty}
 use Rattle.dexinsn.proofs.code.first_bad_target.Goals as goal

@@ -1,5 +1,4 @@
-use Rattle.dexinsn.proofs.Common.{◌≡◌, drop}
-use Rattle.dexinsn.specs.{cuts_of, first_bad_target, first_bad_target_of}
+use Rattle.dexinsn.proofs.Common.{◌≡◌, drop, cuts_of, first_bad_target, first_bad_target_of}
 use Rattle.dexinsn.proofs.code.first_bad_target.Given as goal
 
 abbrev pub invariant-loop-cut : goal.invariant-loop-cut

@@ -1,5 +1,4 @@
-use Rattle.dexinsn.proofs.Common.{Ok, rules, nil_from_length}
-use Rattle.dexinsn.specs.declared.code.SplitFault.TheVariants.{Empty}
+use Rattle.dexinsn.proofs.Common.{Ok, rules, nil_from_length, Empty}
 use Rattle.dexinsn.proofs.Once.{reported, only_fault, returned_all}
 use Rattle.dexinsn.proofs.code.split.Goals as goal
 

@@ -1,5 +1,4 @@
-use Rattle.dexinsn.proofs.Common.{◌≡◌, drop, ap, sym, ◌∙◌, subst, arith, piece_size, index_pool}
-use Rattle.dexinsn.specs.{left_by, kind_from, symbol_by, ListsFirst}
+use Rattle.dexinsn.proofs.Common.{◌≡◌, drop, ap, sym, ◌∙◌, subst, arith, piece_size, index_pool, left_by, kind_from, symbol_by, ListsFirst}
 use Rattle.dexinsn.proofs.Listings.{listing_end, listing_on, listing_more, payload_two, payload_four}
 use Rattle.dexinsn.proofs.listing.first_piece.Goals as goal
 

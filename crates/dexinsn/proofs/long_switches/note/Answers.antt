@@ -1,9 +1,6 @@
-use Rattle.dexinsn.proofs.Common.{◌≡◌, ℕ, Some, sym, subst, ◌∙◌, inl, inr, ne_eqb, nat_eq, Vec, Global, List, ℤ, cases_eq, ints_in, payload_targets}
+use Rattle.dexinsn.proofs.Common.{◌≡◌, ℕ, Some, sym, subst, ◌∙◌, inl, inr, ne_eqb, nat_eq, Vec, Global, List, ℤ, cases_eq, ints_in, payload_targets, AreGrouped, TargetGroup}
 use Rattle.std.specs.HashMap.{get}
-use Rattle.dexinsn.specs.internal.{AreGrouped}
-use Rattle.dexinsn.specs.declared.target_group.TargetGroup.{TargetGroup}
-use Rattle.dexinsn.proofs.Placed.{some_size}
-use Rattle.dexinsn.proofs.Sizes.{piece_within}
+use Rattle.dexinsn.proofs.Sizes.{size_is, piece_within}
 use Rattle.dexinsn.proofs.TargetGroups.{sorted_grouped}
 use Rattle.dexinsn.proofs.long_switches.note.Goals as goal
 
@@ -11,7 +8,7 @@ one_value : (a b : Vec TargetGroup Global) → Some a ≡ Some b → b ≡ a
 one_value a b e = cc
 
 pub at-requires : goal.at-requires
-at-requires c = let size = some_size _ c.requires.piece in piece_within c.args.units.now c.args.unit size.0 size.1
+at-requires c = let size = size_is _ c.requires.piece in piece_within c.args.units.now c.args.unit size.0 size.1
 
 pub returns : goal.returns
 returns c = λ k groups e.

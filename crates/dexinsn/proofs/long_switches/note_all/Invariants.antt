@@ -1,5 +1,4 @@
-use Rattle.dexinsn.proofs.Common.{◌-◌, length}
-use Rattle.dexinsn.specs.internal.{ArePayloads}
+use Rattle.dexinsn.proofs.Common.{◌-◌, length, ArePayloads}
 use Rattle.dexinsn.proofs.long_switches.note_all.Given as goal
 
 abbrev pub invariant-loop-at : goal.invariant-loop-at

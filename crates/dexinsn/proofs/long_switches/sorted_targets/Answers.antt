@@ -8,8 +8,7 @@ loop-i-preserved c =
     let t = c.args.targets in
     let i = c.loop-i.i in
     let fits : SFits w32 c.int_at.result = search rules in
-    let same : to_z w32 (of_z w32 c.int_at.result) ≡ c.int_at.result = to_z-of_z w32 c.int_at.result fits in
-    let number : c.loop-i.sorted.items ++ to_z w32 (of_z w32 c.int_at.result) ∷ [] ≡ c.loop-i.sorted.items ++ c.int_at.result ∷ [] = ap (λ (z : ℤ). c.loop-i.sorted.items ++ z ∷ []) same in
+    let number : c.loop-i.sorted.items ++ to_z w32 (of_z w32 c.int_at.result) ∷ [] ≡ c.loop-i.sorted.items ++ c.int_at.result ∷ [] = ap (λ (z : ℤ). c.loop-i.sorted.items ++ z ∷ []) (to_z-of_z w32 c.int_at.result fits) in
     let pushed : c.push.new.self.items ≡ c.loop-i.sorted.items ++ c.int_at.result ∷ [] = subst (λ (read : List ℤ). c.push.new.self.items ≡ read) number c.in_ok-push.ensures.items in
     subst (λ (read : List ℤ). ints_in us t.first t.count ≡ read ++ ints_in us (t.first + 2 * (i + 1)) (t.count - (i + 1))) (sym pushed)
     (one_read us (ints_in us t.first t.count) c.loop-i.sorted.items c.int_at.result (t.first + 2 * i) (t.first + 2 * (i + 1)) (t.count - i) (t.count - (i + 1)) (omega arith) (omega arith) (sym c.int_at.ensures) c.loop-i.invariant)

@@ -1,5 +1,4 @@
-use Rattle.dexinsn.proofs.Common.{ℕ, ap, ◌∙◌, subst, arith, low_byte}
-use Rattle.dexinsn.specs.{IsRowOf}
+use Rattle.dexinsn.proofs.Common.{ℕ, ap, ◌∙◌, subst, arith, low_byte, IsRowOf}
 use Rattle.dexinsn.proofs.piece_step.plain_row.Goals as goal
 
 pub returns : goal.returns

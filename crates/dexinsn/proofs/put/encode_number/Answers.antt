@@ -1,5 +1,4 @@
-use Rattle.dexinsn.proofs.Common.{ap, sym, subst, ◌∙◌, flat_map, ushort}
-use Rattle.dexinsn.specs.{index_units}
+use Rattle.dexinsn.proofs.Common.{ap, sym, subst, ◌∙◌, flat_map, ushort, index_units}
 use Rattle.dexinsn.proofs.PutUnits.{halves, one_half}
 use Rattle.dexinsn.proofs.put.encode_number.Goals as goal
 

@@ -1,5 +1,5 @@
-use Rattle.dexinsn.proofs.Common.{◌≡◌, ℕ, ◌+◌, ◌<◌, length, drop, get_or, ap, sym, ◌∙◌, subst, arith, flat_map, ushort, is_wide_index, Completes, completes_none}
-use Rattle.dexinsn.specs.{units_in, after_index, spelled_from, Follow}
+use Rattle.dexinsn.proofs.Common.{◌≡◌, ℕ, ◌+◌, ◌<◌, length, drop, get_or, ap, sym, ◌∙◌, subst, arith, flat_map, ushort, is_wide_index, Completes, completes_none, after_index, spelled_from, Follow}
+use Rattle.dexinsn.specs.{units_in}
 use Rattle.dexinsn.proofs.Halves.{length_from}
 use Rattle.dexinsn.proofs.PutUnits.{stored_follow, Next, next_index, follow_within, put_more, put_last}
 use Rattle.dexinsn.proofs.put.encode_numbered.Goals as goal
@@ -21,8 +21,7 @@ encode_part-requires-clause-within g c =
     omega (arith, n.inside, length_from c.args.bytes.now)
 
 pub encode_part-requires-2-clause-within : goal.encode_part-requires-2-clause-within
-encode_part-requires-2-clause-within g c =
-    omega (arith, length_from c.args.bytes.now, c.len.ensures.len ∙ ap length c.of_bytes-units.ensures)
+encode_part-requires-2-clause-within g c = omega (arith, length_from c.args.bytes.now, c.len.ensures.len ∙ ap length c.of_bytes-units.ensures)
 
 pub loop-index-preserved : goal.loop-index-preserved
 loop-index-preserved g c =

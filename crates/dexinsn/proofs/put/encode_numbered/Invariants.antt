@@ -1,5 +1,5 @@
-use Rattle.dexinsn.proofs.Common.{drop, flat_map, ushort, Completes}
-use Rattle.dexinsn.specs.{units_in, spelled_from, Follow}
+use Rattle.dexinsn.proofs.Common.{drop, flat_map, ushort, Completes, spelled_from, Follow}
+use Rattle.dexinsn.specs.{units_in}
 use Rattle.dexinsn.proofs.put.encode_numbered.Given as goal
 
 abbrev pub invariant-loop-index : goal.invariant-loop-index

@@ -1,6 +1,5 @@
-use Rattle.dexinsn.proofs.Common.{◌≡◌, ◌+◌, ◌<◌, Bool, length, drop, get_or, ap, sym, ◌∙◌, subst, arith, is_wide_index}
-use Rattle.dexinsn.specs.{units_in, after_index, Follow}
-use Rattle.dexinsn.specs.internal.{Agree, AgreeBeside}
+use Rattle.dexinsn.proofs.Common.{◌≡◌, ◌+◌, ◌<◌, Bool, length, drop, get_or, ap, sym, ◌∙◌, subst, arith, is_wide_index, after_index, Follow, Agree, AgreeBeside}
+use Rattle.dexinsn.specs.{units_in}
 use Rattle.dexinsn.proofs.Halves.{length_from}
 use Rattle.dexinsn.proofs.PutUnits.{Next, next_index}
 use Rattle.dexinsn.proofs.SameSteps.{beside_next, beside_before, beside_last, last_beside}

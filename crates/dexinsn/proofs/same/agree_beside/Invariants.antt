@@ -1,6 +1,5 @@
-use Rattle.dexinsn.proofs.Common.{drop}
-use Rattle.dexinsn.specs.{units_in, Follow}
-use Rattle.dexinsn.specs.internal.{AgreeBeside}
+use Rattle.dexinsn.proofs.Common.{drop, Follow, AgreeBeside}
+use Rattle.dexinsn.specs.{units_in}
 use Rattle.dexinsn.proofs.same.agree_beside.Given as goal
 
 abbrev pub invariant-loop-index : goal.invariant-loop-index

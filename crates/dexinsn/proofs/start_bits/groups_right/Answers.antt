@@ -1,6 +1,4 @@
-use Rattle.dexinsn.proofs.Common.{pos, ◌+ℤ◌, refl, rules, subst, sym, w32, SFits, take_all, All-more, All-same}
-use Rattle.dexinsn.specs.internal.{HasPlaces}
-use Rattle.dexinsn.specs.declared.target_group.TargetGroup.{TargetGroup}
+use Rattle.dexinsn.proofs.Common.{pos, ◌+ℤ◌, refl, rules, subst, sym, w32, SFits, take_all, All-more, All-same, HasPlaces, TargetGroup}
 use Rattle.dexinsn.proofs.StartBits.{sum_is}
 use Rattle.dexinsn.proofs.start_bits.groups_right.Goals as goal
 

@@ -1,5 +1,4 @@
-use Rattle.dexinsn.proofs.Common.{take, pos, ◌+ℤ◌, All}
-use Rattle.dexinsn.specs.internal.{HasPlaces}
+use Rattle.dexinsn.proofs.Common.{take, pos, ◌+ℤ◌, All, HasPlaces}
 use Rattle.dexinsn.proofs.start_bits.groups_right.Given as goal
 
 abbrev pub invariant-loop-group : goal.invariant-loop-group

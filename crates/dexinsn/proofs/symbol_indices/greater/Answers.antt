@@ -1,5 +1,4 @@
-use Rattle.dexinsn.proofs.Common.{◌∷◌, ◌++◌, [], Some, sym, ap, subst}
-use Rattle.dexinsn.specs.{IsGreatest}
+use Rattle.dexinsn.proofs.Common.{◌∷◌, ◌++◌, [], Some, sym, ap, subst, IsGreatest}
 use Rattle.dexinsn.proofs.Fits.{greater_most}
 use Rattle.dexinsn.proofs.symbol_indices.greater.Goals as goal
 

@@ -1,6 +1,4 @@
-use Rattle.dexinsn.proofs.Common.{◌++◌, ◌∷◌, [], take, get_or, subst, sym, ◌∙◌, flat_map}
-use Rattle.dexinsn.specs.declared.pieces.Index.{Index}
-use Rattle.dexinsn.specs.{IsGreatest, short_at}
+use Rattle.dexinsn.proofs.Common.{◌++◌, ◌∷◌, [], take, get_or, subst, sym, ◌∙◌, flat_map, Index, IsGreatest, short_at}
 use Rattle.dexinsn.proofs.Fits.{greatest_with, greatest_without}
 use Rattle.dexinsn.proofs.symbol_indices.greatest_short_string.Goals.{then-is_short_string, else-is_short_string}
 use Rattle.dexinsn.proofs.symbol_indices.greatest_short_string.Goals as goal

@@ -1,5 +1,4 @@
-use Rattle.dexinsn.proofs.Common.{take, flat_map}
-use Rattle.dexinsn.specs.{IsGreatest, short_at}
+use Rattle.dexinsn.proofs.Common.{take, flat_map, IsGreatest, short_at}
 use Rattle.dexinsn.proofs.symbol_indices.greatest_short_string.Given as goal
 
 abbrev pub invariant-loop-index : goal.invariant-loop-index

@@ -1,5 +1,4 @@
-use Rattle.dexinsn.proofs.Common.{refl, subst, arith, All, take_all, All-more}
-use Rattle.dexinsn.specs.{HasPlaceAt}
+use Rattle.dexinsn.proofs.Common.{refl, subst, arith, All, take_all, All-more, HasPlaceAt}
 use Rattle.dexinsn.proofs.symbol_indices.have_places.Goals as goal
 
 pub loop-index-preserved : goal.loop-index-preserved

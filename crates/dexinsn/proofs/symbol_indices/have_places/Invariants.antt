@@ -1,5 +1,4 @@
-use Rattle.dexinsn.proofs.Common.{take, All}
-use Rattle.dexinsn.specs.{HasPlaceAt}
+use Rattle.dexinsn.proofs.Common.{take, All, HasPlaceAt}
 use Rattle.dexinsn.proofs.symbol_indices.have_places.Given as goal
 
 abbrev pub invariant-loop-index : goal.invariant-loop-index

@@ -1,5 +1,4 @@
-use Rattle.dexinsn.proofs.Common.{sym, ◌∙◌, ap, subst, arith}
-use Rattle.dexinsn.specs.{HasPlaceAt, IsIndexed, renumbered_index}
+use Rattle.dexinsn.proofs.Common.{sym, ◌∙◌, ap, subst, arith, HasPlaceAt, IsIndexed, renumbered_index}
 use Rattle.dexinsn.proofs.Steps.{unchanged, changed_more}
 use Rattle.dexinsn.proofs.symbol_indices.renumber_indices.Goals as goal
 

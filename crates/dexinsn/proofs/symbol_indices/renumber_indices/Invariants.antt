@@ -1,4 +1,4 @@
-use Rattle.dexinsn.specs.{renumbered_index}
+use Rattle.dexinsn.proofs.Common.{renumbered_index}
 use Rattle.dexinsn.proofs.Steps.{AreChanged}
 use Rattle.dexinsn.proofs.symbol_indices.renumber_indices.Given as goal
 

@@ -1,5 +1,4 @@
-use Rattle.dexinsn.proofs.Common.{◌∷◌, [], take, FoldsTo, flat_map}
-use Rattle.dexinsn.specs.{use_at}
+use Rattle.dexinsn.proofs.Common.{◌∷◌, [], take, FoldsTo, flat_map, use_at}
 use Rattle.dexinsn.proofs.symbol_indices.visit_indices.Given as goal
 
 abbrev pub invariant-loop-index : goal.invariant-loop-index

@@ -1,6 +1,4 @@
-use Rattle.dexinsn.proofs.Common.{◌≡◌, ℤ, pos, Bool, true, List, get_or, to_z, of_z, w32, sym, ◌∙◌, subst, arith, rules, ◌↔◌, SFits, to_z-of_z, take_all}
-use Rattle.dexinsn.specs.internal.{AllInGroup, AreGrouped}
-use Rattle.dexinsn.specs.declared.target_group.TargetGroup.{TargetGroup}
+use Rattle.dexinsn.proofs.Common.{◌≡◌, ℤ, pos, Bool, true, List, get_or, to_z, of_z, w32, sym, ◌∙◌, subst, arith, rules, ◌↔◌, SFits, to_z-of_z, take_all, AllInGroup, AreGrouped, TargetGroup}
 use Rattle.dexinsn.proofs.TargetGroups.{AreGroupedTo, first_grouped, next_near, next_far, all_grouped}
 use Rattle.dexinsn.proofs.target_groups.group_targets.Goals as goal
 use Rattle.dexinsn.proofs.target_groups.group_targets.Goals.{in-Some, in-None+in_ok-push-in-None}
@@ -9,8 +7,7 @@ pub loop-i-init : goal.loop-i-init
 loop-i-init c =
     let t : ℤ = get_or c.args.targets.now 0 (pos 0) in
     let fits : SFits w32 t = search rules in
-    let same : to_z w32 (of_z w32 t) ≡ t = to_z-of_z w32 t fits in
-    let one = subst (λ (z : ℤ). (test : ℤ → Bool) → AllInGroup test c.of-group.result ↔ (test z ≡ true)) same c.of-group.ensures in
+    let one = subst (λ (z : ℤ). (test : ℤ → Bool) → AllInGroup test c.of-group.result ↔ (test z ≡ true)) (to_z-of_z w32 t fits) c.of-group.ensures in
     subst (λ (groups : List TargetGroup). AreGroupedTo c.args.targets.now 1 groups c.of-group.result) (sym c.new-groups.ensures.items)
     (first_grouped c.args.targets.now c.of-group.result t c.requires (search rules) one)
 

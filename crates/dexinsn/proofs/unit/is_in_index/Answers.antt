@@ -3,8 +3,7 @@ use Rattle.dexinsn.proofs.unit.is_in_index.Goals as goal
 
 pub returns-then-unit-first : goal.returns-then-unit-first
 returns-then-unit-first c =
-    let wide = is_wide_index (drop c.args.first c.args.units.now) in
-    sym (ap (λ (b : Bool). b || ((c.args.unit == c.args.first + 2) && wide)) (eq-eqb c.args.unit (c.args.first + 1) c.if-unit-first.true))
+    sym (ap (λ (b : Bool). b || ((c.args.unit == c.args.first + 2) && (is_wide_index (drop c.args.first c.args.units.now)))) (eq-eqb c.args.unit (c.args.first + 1) c.if-unit-first.true))
 
 pub returns-then-unit-first-2 : goal.returns-then-unit-first-2
 returns-then-unit-first-2 c =

@@ -1,7 +1,6 @@
-use Rattle.dexinsn.proofs.Common.{◌≡◌, ℕ, ◌+◌, ◌-◌, ◌<◌, length, get_or, subst, ◌∙◌, arith}
-use Rattle.dexinsn.specs.declared.pieces.Index.{Index}
-use Rattle.dexinsn.specs.{IsCountBefore}
-use Rattle.dexinsn.proofs.BlankUnits.{any_default, last_covers, none_covers, stored_rise}
+use Rattle.dexinsn.proofs.Common.{◌≡◌, ℕ, ◌+◌, ◌-◌, ◌<◌, length, get_or, subst, ◌∙◌, arith, Index, IsCountBefore}
+use Rattle.dexinsn.proofs.StoredRead.{any_default}
+use Rattle.dexinsn.proofs.BlankUnits.{last_covers, none_covers, stored_rise}
 use Rattle.dexinsn.proofs.Lined.{indexed_at}
 use Rattle.dexinsn.proofs.unit.is_of_index.Goals as goal
 
@@ -19,8 +18,7 @@ is_in_index-requires-clause-first c =
     let d : Index = record { unit = 0; number = 0 } in
     let k : ℕ = c.count_before-count.result - 1 in
     let lt : k < length c.args.indices.now = omega (arith, c.count_before-count.ensures.within, c.if-count-eq0.false) in
-    let index = indexed_at c.args.units.now c.args.indices.now k (get_or c.args.indices.now k d) c.requires lt (any_default c.args.indices.now k d (get_or c.args.indices.now k d) lt) in
-    omega (arith, index.within)
+    omega (arith, (indexed_at c.args.units.now c.args.indices.now k (get_or c.args.indices.now k d) c.requires lt (any_default c.args.indices.now k d (get_or c.args.indices.now k d) lt)).within)
 
 pub returns : goal.returns
 returns c =

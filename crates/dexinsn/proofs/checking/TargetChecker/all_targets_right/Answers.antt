@@ -1,5 +1,4 @@
-use Rattle.dexinsn.proofs.Common.{inl, inr, arith, subst, Bool, cases_lt}
-use Rattle.dexinsn.specs.{HasTargetsAt}
+use Rattle.dexinsn.proofs.Common.{inl, inr, arith, subst, Bool, cases_lt, HasTargetsAt}
 use Rattle.dexinsn.proofs.NotedTargets.{all_right, one_wrong}
 use Rattle.dexinsn.proofs.checking.TargetChecker.all_targets_right.Goals as goal
 

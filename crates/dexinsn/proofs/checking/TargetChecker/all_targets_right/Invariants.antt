@@ -1,6 +1,4 @@
-use Rattle.dexinsn.proofs.Common.{ℕ, ◌<◌, ◌≤◌, ◌-◌, true, length}
-use Rattle.dexinsn.specs.internal.{HasBit}
-use Rattle.dexinsn.specs.{HasTargetsAt}
+use Rattle.dexinsn.proofs.Common.{ℕ, ◌<◌, ◌≤◌, ◌-◌, true, length, HasBit, HasTargetsAt}
 use Rattle.dexinsn.proofs.checking.TargetChecker.all_targets_right.Given as goal
 
 abbrev pub invariant-loop-at : goal.invariant-loop-at

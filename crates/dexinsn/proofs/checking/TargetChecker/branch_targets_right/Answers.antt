@@ -1,5 +1,4 @@
-use Rattle.dexinsn.proofs.Common.{refl, rules, arith, SFits, w32}
-use Rattle.dexinsn.specs.{format_of, ident_of, begins_instruction}
+use Rattle.dexinsn.proofs.Common.{refl, rules, arith, SFits, w32, format_of, ident_of, begins_instruction}
 use Rattle.dexinsn.proofs.RightTargets.{branches-payload, branches-other, place_is}
 use Rattle.dexinsn.proofs.Placed.{test_is, format_other, format_switch}
 use Rattle.dexinsn.proofs.checking.TargetChecker.branch_targets_right.Goals as goal

@@ -1,5 +1,4 @@
-use Rattle.dexinsn.proofs.Common.{◌+◌, ◌-◌, ◌*◌, true, false, rules, sym, ◌∙◌, arith, SFits, w32}
-use Rattle.dexinsn.specs.{begins_instruction}
+use Rattle.dexinsn.proofs.Common.{◌+◌, ◌-◌, ◌*◌, true, false, rules, sym, ◌∙◌, arith, SFits, w32, begins_instruction}
 use Rattle.dexinsn.proofs.RightTargets.{do_target-more, place_is}
 use Rattle.dexinsn.proofs.Placed.{test_is}
 use Rattle.dexinsn.proofs.checking.TargetChecker.listed_targets_right.Goals as goal

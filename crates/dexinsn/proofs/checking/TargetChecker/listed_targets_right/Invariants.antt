@@ -1,5 +1,4 @@
-use Rattle.dexinsn.proofs.Common.{◌≡◌, ◌+◌, ◌-◌, ◌*◌, List, Cut, ints_in}
-use Rattle.dexinsn.specs.{are_right_targets, AreBitsOf, begins_instruction}
+use Rattle.dexinsn.proofs.Common.{◌≡◌, ◌+◌, ◌-◌, ◌*◌, List, Cut, ints_in, are_right_targets, AreBitsOf, begins_instruction}
 use Rattle.dexinsn.proofs.checking.TargetChecker.listed_targets_right.Given as goal
 
 abbrev pub invariant-loop-i : goal.invariant-loop-i

@@ -1,5 +1,5 @@
-use Rattle.dexinsn.proofs.Common.{subst}
-use Rattle.dexinsn.specs.{IsGreatest, short_strings, units_in}
+use Rattle.dexinsn.proofs.Common.{subst, IsGreatest, short_strings}
+use Rattle.dexinsn.specs.{units_in}
 use Rattle.dexinsn.proofs.Fits.{greatest_for}
 use Rattle.dexinsn.proofs.Lined.{indexed_for}
 use Rattle.dexinsn.proofs.pieces.Pieces.greatest_short_string.Goals as goal

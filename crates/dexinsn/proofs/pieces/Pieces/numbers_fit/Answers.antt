@@ -1,5 +1,5 @@
-use Rattle.dexinsn.proofs.Common.{subst}
-use Rattle.dexinsn.specs.{FitPlaces, units_in}
+use Rattle.dexinsn.proofs.Common.{subst, FitPlaces}
+use Rattle.dexinsn.specs.{units_in}
 use Rattle.dexinsn.proofs.Fits.{stored_fit}
 use Rattle.dexinsn.proofs.pieces.Pieces.numbers_fit.Goals as goal
 

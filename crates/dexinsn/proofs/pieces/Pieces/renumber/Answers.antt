@@ -1,5 +1,5 @@
-use Rattle.dexinsn.proofs.Common.{List, sym, ◌∙◌, ap, subst, All}
-use Rattle.dexinsn.specs.{units_in, NumberedPiece, HasPlace, renumbered, HasPlaceAt, IsIndexed}
+use Rattle.dexinsn.proofs.Common.{List, sym, ◌∙◌, ap, subst, All, NumberedPiece, renumbered, HasPlaceAt, IsIndexed}
+use Rattle.dexinsn.specs.{units_in, HasPlace}
 use Rattle.dexinsn.proofs.Lined.{stored_indexed, stored_places, renumber_all}
 use Rattle.dexinsn.proofs.pieces.Pieces.renumber.Goals as goal
 

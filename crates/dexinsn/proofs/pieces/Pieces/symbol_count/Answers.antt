@@ -1,5 +1,5 @@
-use Rattle.dexinsn.proofs.Common.{◌≡◌, length, ap, sym, ◌∙◌, arith, common_steps}
-use Rattle.dexinsn.specs.{units_in, uses_of}
+use Rattle.dexinsn.proofs.Common.{◌≡◌, length, ap, sym, ◌∙◌, arith, common_steps, uses_of}
+use Rattle.dexinsn.specs.{units_in}
 use Rattle.dexinsn.proofs.Lined.{count_for}
 use Rattle.dexinsn.proofs.pieces.Pieces.symbol_count.Goals as goal
 

@@ -1,35 +1,28 @@
-use Rattle.dexinsn.proofs.Common.{◌≡◌, ◌*◌, ◌<◌, Bool, true, false, cond, length, slice_index, ap, sym, ◌∙◌, arith, flat_map, list_any}
-use Rattle.dexinsn.specs.{units_in, numbered_bytes, blank_units, covers}
+use Rattle.dexinsn.proofs.Common.{◌≡◌, ◌<◌, Bool, true, false, cond, length, slice_index, ap, sym, ◌∙◌, arith, flat_map, list_any, numbered_bytes, blank_units, covers}
+use Rattle.dexinsn.specs.{units_in}
 use Rattle.dexinsn.proofs.BlankUnits.{blank_unit}
 use Rattle.dexinsn.proofs.PutUnits.{stored_length}
 use Rattle.dexinsn.proofs.pieces.Pieces.unit.Goals as goal
 
 pub at-requires : goal.at-requires
 at-requires c =
-    let us = units_in c.self.inside.bytes.now in
-    let n : length (numbered_bytes c.args.self.now.pieces) ≡ 2 * length us = ap (λ v. length (numbered_bytes v.pieces)) (sym c.self.view_is) ∙ stored_length us c.self.inside.indices.items c.self.invariant in
-    let l : length c.of_bytes-units.result ≡ length us = ap length c.of_bytes-units.ensures in
-    omega (arith, n, l, c.requires)
+    omega (arith, ap (λ v. length (numbered_bytes v.pieces)) (sym c.self.view_is) ∙ stored_length (units_in c.self.inside.bytes.now) c.self.inside.indices.items c.self.invariant, ap length c.of_bytes-units.ensures, c.requires)
 
 pub returns-then-is_of_index : goal.returns-then-is_of_index
 returns-then-is_of_index c =
     let us = units_in c.self.inside.bytes.now in
     let is = c.self.inside.indices.items in
     let i = c.args.i in
-    let n : length (numbered_bytes c.args.self.now.pieces) ≡ 2 * length us = ap (λ v. length (numbered_bytes v.pieces)) (sym c.self.view_is) ∙ stored_length us is c.self.invariant in
-    let lt : i < length us = omega (arith, n, c.requires) in
+    let lt : i < length us = omega (arith, ap (λ v. length (numbered_bytes v.pieces)) (sym c.self.view_is) ∙ stored_length us is c.self.invariant, c.requires) in
     let said : c.is_of_index.result ≡ list_any (covers us i) is = rw (c.of_bytes-units.ensures, c.deref.ensures.value) at c.is_of_index.ensures in
-    let any : list_any (covers us i) is ≡ true = sym said ∙ c.if-is_of_index.true in
-    sym (ap (λ v. slice_index (flat_map blank_units v.pieces) i) (sym c.self.view_is) ∙ blank_unit us is i c.self.invariant lt ∙ ap (λ (b : Bool). cond b 0 (slice_index us i)) any)
+    sym (ap (λ v. slice_index (flat_map blank_units v.pieces) i) (sym c.self.view_is) ∙ blank_unit us is i c.self.invariant lt ∙ ap (λ (b : Bool). cond b 0 (slice_index us i)) (sym said ∙ c.if-is_of_index.true))
 
 pub returns-else-is_of_index : goal.returns-else-is_of_index
 returns-else-is_of_index c =
     let us = units_in c.self.inside.bytes.now in
     let is = c.self.inside.indices.items in
     let i = c.args.i in
-    let n : length (numbered_bytes c.args.self.now.pieces) ≡ 2 * length us = ap (λ v. length (numbered_bytes v.pieces)) (sym c.self.view_is) ∙ stored_length us is c.self.invariant in
-    let lt : i < length us = omega (arith, n, c.requires) in
+    let lt : i < length us = omega (arith, ap (λ v. length (numbered_bytes v.pieces)) (sym c.self.view_is) ∙ stored_length us is c.self.invariant, c.requires) in
     let said : c.is_of_index.result ≡ list_any (covers us i) is = rw (c.of_bytes-units.ensures, c.deref.ensures.value) at c.is_of_index.ensures in
-    let any : list_any (covers us i) is ≡ false = sym said ∙ c.if-is_of_index.false in
     rw c.of_bytes-units.ensures at c.at.ensures.is
-    ∙ sym (ap (λ v. slice_index (flat_map blank_units v.pieces) i) (sym c.self.view_is) ∙ blank_unit us is i c.self.invariant lt ∙ ap (λ (b : Bool). cond b 0 (slice_index us i)) any)
+    ∙ sym (ap (λ v. slice_index (flat_map blank_units v.pieces) i) (sym c.self.view_is) ∙ blank_unit us is i c.self.invariant lt ∙ ap (λ (b : Bool). cond b 0 (slice_index us i)) (sym said ∙ c.if-is_of_index.false))

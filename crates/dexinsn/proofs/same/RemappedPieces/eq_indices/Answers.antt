@@ -1,5 +1,4 @@
-use Rattle.dexinsn.proofs.Common.{get_or, below_more, refl, arith}
-use Rattle.dexinsn.specs.internal.{AreEqualMapped}
+use Rattle.dexinsn.proofs.Common.{get_or, below_more, refl, arith, AreEqualMapped}
 use Rattle.dexinsn.proofs.SameSteps.{zip_from}
 use Rattle.dexinsn.proofs.same.RemappedPieces.eq_indices.Goals as goal
 

@@ -1,5 +1,4 @@
-use Rattle.dexinsn.proofs.Common.{ℕ, ◌<◌, get_or}
-use Rattle.dexinsn.specs.internal.{AreEqualMapped}
+use Rattle.dexinsn.proofs.Common.{ℕ, ◌<◌, get_or, AreEqualMapped}
 use Rattle.dexinsn.proofs.same.RemappedPieces.eq_indices.Given as goal
 
 abbrev pub invariant-loop-i : goal.invariant-loop-i

@@ -1,6 +1,5 @@
-use Rattle.dexinsn.proofs.Common.{◌≡◌, length, subst, sym, ap, ◌∙◌, refl, AllZip}
+use Rattle.dexinsn.proofs.Common.{◌≡◌, length, subst, sym, ap, ◌∙◌, refl, AllZip, AreEquivalent, AreEqualMapped}
 use Rattle.dexinsn.specs.{units_in}
-use Rattle.dexinsn.specs.internal.{AreEquivalent, AreEqualMapped}
 use Rattle.dexinsn.proofs.SamePieces.{same_from_equivalent, equivalent_from_same}
 use Rattle.dexinsn.proofs.PutUnits.{stored_follow}
 use Rattle.dexinsn.proofs.Lined.{indexed_for}

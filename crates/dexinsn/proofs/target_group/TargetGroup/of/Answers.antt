@@ -1,5 +1,4 @@
-use Rattle.dexinsn.proofs.Common.{◌≡◌, ℤ, true, w32, sym, subst, ◌↔◌, to_z-of_z}
-use Rattle.dexinsn.specs.internal.{AllFrom}
+use Rattle.dexinsn.proofs.Common.{◌≡◌, ℤ, true, w32, sym, subst, ◌↔◌, to_z-of_z, AllFrom}
 use Rattle.dexinsn.proofs.TargetGroups.{one_target}
 use Rattle.dexinsn.proofs.target_group.TargetGroup.of.Goals as goal
 

@@ -1,7 +1,5 @@
 -- The five pools together.
-use Rattle.dexpool.proofs.Common.{◌≡◌, ℕ, List, get_or, sym, ◌∙◌, subst, arith, map, length-map, get_or-map, Text, IsFrame, FieldRow, MethodRow}
-use Rattle.dexpool.specs.declared.rows.ProtoEntry.{ProtoEntry}
-use Rattle.dexpool.specs.{text_of, proto_of, field_of, method_of, ReadTo, AreTexts, AreTypes, AreNames, AreProtos, AreFields, AreMethods, symbols_of, AreAll, ArePools}
+use Rattle.dexpool.proofs.Common.{◌≡◌, ℕ, List, get_or, sym, ◌∙◌, subst, arith, map, length-map, get_or-map, Text, IsFrame, FieldRow, MethodRow, ProtoEntry, text_of, proto_of, field_of, method_of, ReadTo, AreTexts, AreTypes, AreNames, AreProtos, AreFields, AreMethods, symbols_of, AreAll, ArePools}
 
 -- what rows of numbers denote, one by one
 mapped : {X Y : Type 0} (Row : List ℕ → ℕ → X → Type 0) (Symbol : List ℕ → ℕ → Y → Type 0) (Holds : List ℕ → ℕ → Type 0) (f : X → Y) (x : X) (b : List ℕ) (xs : List X) (n : ℕ)

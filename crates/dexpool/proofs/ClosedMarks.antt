@@ -1,7 +1,5 @@
 -- What marks that are closed downwards keep: the marked symbols, and what these mention.
-use Rattle.dexpool.proofs.Common.{◌≡◌, ℕ, ◌<◌, Bool, List, [], ◌∷◌, ◌++◌, length, get_or, map, refl, sym, ap, ◌∙◌, subst, arith, inl, inr, Ordering, All, Contains, flat_map, IsTotalOrder, IsAntisymmetric, map-append, All-head, All-tail, Contains-append_left, Contains-append_right, Contains-append_cases, in_order, Text, text_cmp, shorty, Proto, Field, Method, Symbol, TextSymbol, TypeSymbol, ProtoSymbol, FieldSymbol, MethodSymbol, proto_cmp, field_cmp, method_cmp, closed, texts_in, types_in, protos_in, fields_in, methods_in, proto_types, AreAmong, Contains-nil, Contains-first, Contains-later, Contains-cons_cases, Contains-flat_map, Contains-flat_map_source, Contains-map, Contains-map_source, Rises, Rises-same, Rises-in_order, in_order-has, in_order-only, text_total, text_exact, proto_total, proto_exact, field_total, field_exact, method_total, method_exact}
-use Rattle.dexpool.specs.{kept}
-use Rattle.dexpool.specs.internal.Closing.{mark_all}
+use Rattle.dexpool.proofs.Common.{◌≡◌, ℕ, ◌<◌, Bool, List, [], ◌∷◌, ◌++◌, length, get_or, map, refl, sym, ap, ◌∙◌, subst, arith, inl, inr, Ordering, All, Contains, flat_map, IsTotalOrder, IsAntisymmetric, map-append, All-head, All-tail, Contains-append_left, Contains-append_right, Contains-append_cases, in_order, Text, text_cmp, shorty, Proto, Field, Method, Symbol, TextSymbol, TypeSymbol, ProtoSymbol, FieldSymbol, MethodSymbol, proto_cmp, field_cmp, method_cmp, closed, texts_in, types_in, protos_in, fields_in, methods_in, proto_types, AreAmong, Contains-nil, Contains-first, Contains-later, Contains-cons_cases, Contains-flat_map, Contains-flat_map_source, Contains-map, Contains-map_source, Rises, Rises-same, Rises-in_order, in_order-has, in_order-only, text_total, text_exact, proto_total, proto_exact, field_total, field_exact, method_total, method_exact, kept, mark_all}
 use Rattle.dexpool.proofs.KeptRows.{kept_from, kept_has, mark_stays, mark_comes, mark_from}
 use Rattle.dexpool.proofs.Pairs.{map_both}
 
@@ -41,9 +39,7 @@ named f at of part rows h = map_both f at (λ r. part (of r)) rows h ∙ sym (ma
 pub named_flat : {R X Y : Type 0} (f : R → List ℕ) (at : ℕ → Y) (of : R → X) (parts : X → List Y) (rows : List R) → All (λ r. map at (f r) ≡ parts (of r)) rows → map at (flat_map f rows) ≡ flat_map parts (map of rows)
 named_flat f at of parts [] h = refl
 named_flat f at of parts (r ∷ rows) h =
-    let here = All-head (λ x. map at (f x) ≡ parts (of x)) r rows h in
-    let later = named_flat f at of parts rows (All-tail (λ x. map at (f x) ≡ parts (of x)) r rows h) in
-    map-append at (f r) (flat_map f rows) ∙ (λ i. here i ++ later i)
+    map-append at (f r) (flat_map f rows) ∙ (λ i. (All-head (λ x. map at (f x) ≡ parts (of x)) r rows h) i ++ (named_flat f at of parts rows (All-tail (λ x. map at (f x) ≡ parts (of x)) r rows h)) i)
 
 -- a rising list is its members in their order
 pub in_order_is : {K : Type 0} (R : K → K → Ordering) → IsTotalOrder R → IsAntisymmetric R → (xs ys : List K) → Rises R xs → Same xs ys → xs ≡ in_order R ys
@@ -72,16 +68,12 @@ types_among_texts (MethodSymbol m) t c = elim (Contains-cons_cases m.class t (pr
 shorty_among_texts : (s : Symbol) (p : Proto) → Contains (protos_in s) p → Contains (texts_in s) (shorty p.return_type p.parameters)
 shorty_among_texts (ProtoSymbol q) p c = (0, omega arith, ap (λ (r : Proto). shorty r.return_type r.parameters) (only q p c))
 shorty_among_texts (MethodSymbol m) p c = (2, omega arith, ap (λ (r : Proto). shorty r.return_type r.parameters) (only m.proto p c))
-shorty_among_texts (TextSymbol s) p c = absurd (Contains-nil p c)
-shorty_among_texts (TypeSymbol s) p c = absurd (Contains-nil p c)
-shorty_among_texts (FieldSymbol f) p c = absurd (Contains-nil p c)
+shorty_among_texts _ p c = absurd (Contains-nil p c)
 
 proto_types_among : (s : Symbol) (p : Proto) → Contains (protos_in s) p → AreAmong (proto_types p) (types_in s)
 proto_types_among (ProtoSymbol q) p c t d = subst (λ (r : Proto). Contains (proto_types r) t) (sym (only q p c)) d
 proto_types_among (MethodSymbol m) p c t d = Contains-later m.class t (proto_types m.proto) (subst (λ (r : Proto). Contains (proto_types r) t) (sym (only m.proto p c)) d)
-proto_types_among (TextSymbol s) p c t d = absurd (Contains-nil p c)
-proto_types_among (TypeSymbol s) p c t d = absurd (Contains-nil p c)
-proto_types_among (FieldSymbol f) p c t d = absurd (Contains-nil p c)
+proto_types_among _ p c t d = absurd (Contains-nil p c)
 
 -- ---- the marked symbols
 

@@ -1,6 +1,5 @@
 -- What is kept of a table, and where.
-use Rattle.dexpool.proofs.Common.{◌≡◌, ℕ, ◌+◌, ◌<◌, ◌≤◌, Bool, true, false, List, [], ◌∷◌, ◌++◌, length, get_or, set, take, drop, refl, sym, ap, ◌∙◌, arith, append_assoc, add-one, inl, inr, Option, Some, None, swap, cases_eq, drop_more, set-set, take_more_set, take-set-le, drop-set-lt, swap_is, length-swap}
-use Rattle.dexpool.specs.{kept, places}
+use Rattle.dexpool.proofs.Common.{◌≡◌, ℕ, ◌+◌, ◌<◌, ◌≤◌, Bool, true, false, List, [], ◌∷◌, ◌++◌, length, get_or, set, take, drop, refl, sym, ap, ◌∙◌, arith, append_assoc, add-one, inl, inr, Option, Some, None, swap, cases_eq, drop_more, set-set, take_more_set, take-set-le, drop-set-lt, swap_is, length-swap, kept, places}
 use Rattle.dexpool.proofs.InPlace.{same_at, rest_more}
 use Rattle.dexpool.proofs.KeptRows.{kept_first, kept_next}
 
@@ -67,12 +66,7 @@ module _ {R : Type 0} (old : List R) (marks : List Bool) (i count : ℕ) (rows :
       }
 
   pub cut_past : get_or marks i false ≡ false → IsCutTo old marks (i + 1) count rows
-  cut_past unmarked = record {
-    so_far = leaves marks old i any lt sized (take count rows) unmarked h.so_far;
-    rest = rest_more old rows i h.rest;
-    size = h.size;
-    within = omega (arith, h.within);
-  }
+  cut_past unmarked = record { so_far = leaves marks old i any lt sized (take count rows) unmarked h.so_far; rest = rest_more old rows i h.rest; size = h.size; within = omega (arith, h.within) }
 
 -- ---- places
 

@@ -1,8 +1,7 @@
 -- Rows of fields.
-use Rattle.dexpool.proofs.Common.{◌≡◌, ℕ, List, [], ◌∷◌, subst, Text, IsClass, IsMemberName, IsValueType, Field, IsField, row_at, StringRow, TypeRow, HasField, field_row_key, one_string, one_type, FieldRow, Condition}
+use Rattle.dexpool.proofs.Common.{◌≡◌, ℕ, List, [], ◌∷◌, subst, Text, IsClass, IsMemberName, IsValueType, Field, IsField, StringRow, TypeRow, field_row_key, one_string, one_type, FieldRow, Condition, field_of, field_key, FieldRowAt, HasFieldNumbers, DecidesNext}
 use Rattle.dexspec.specs.Rows as rows
-use Rattle.dexpool.specs.{field_of, field_key, field_cmp, FieldRowAt, HasFieldNumbers}
-use Rattle.dexpool.specs.internal.ReadRows.{DecidesNext}
+use Rattle.dexpool.specs.{field_cmp}
 use Rattle.dexpool.proofs.Steps.{decided}
 
 pub field_key_is : (texts : List Text) (types : List ℕ) (b : List ℕ) (k : ℕ) (f : FieldRow) → FieldRowAt texts types b k f → field_row_key b k ≡ field_key f

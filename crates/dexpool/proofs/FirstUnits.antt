@@ -72,10 +72,6 @@ own_letter : (t : Text) → first_of t ≢ 0x5b → shorty_letter t ≡ first_of
 own_letter [] other = refl
 own_letter (u ∷ s) other = rw (ne_eqb u 0x5b other) refl
 
-letter_cases : (b : Bool) (u : ℕ) → (u == 0x5b) ≡ b → (if b then 0x4c else u) ≡ 0x4c → (u ≡ 0x4c) ⊎ (u ≡ 0x5b)
-letter_cases true u e h = inr (eqb-true u 0x5b e)
-letter_cases false u e h = inl h
-
 void_unit : (b : Bool) (u : ℕ) → (if b then 0x4c else u) ≡ 0x56 → u ≡ 0x56
 void_unit true u h = absurd (omega (arith, h))
 void_unit false u h = h
@@ -96,22 +92,15 @@ letter_void t d h = value_if t d (λ e. h (letter_of_void t e))
 pub void_letter : (t : Text) → IsValueType t → shorty_letter t ≡ 0x56 → ⊥
 void_letter t v h = value_not t v (first_of_void t h)
 
-pub letter_first : (t : Text) → shorty_letter t ≡ 0x4c → (first_of t ≡ 0x4c) ⊎ (first_of t ≡ 0x5b)
-letter_first [] h = absurd (omega (arith, h))
-letter_first (u ∷ s) h = letter_cases (u == 0x5b) u refl h
-
 pub reference_letter : (t : Text) → IsReferenceType t → shorty_letter t ≡ 0x4c
 reference_letter t (inl h) = class_letter t (class_first t h)
 reference_letter t (inr h) = array_letter t (array_first t h)
 
 pub reference_if : (t : Text) → IsDescriptor t → shorty_letter t ≡ 0x4c → IsReferenceType t
-reference_if t d h = elim (letter_first t h) [ inl c ↦ inl (class_if t d c) | inr a ↦ inr (array_if t d a) ]
-  where
-    array_if : (t : Text) → IsDescriptor t → first_of t ≡ 0x5b → IsArray t
-    array_if t (VoidType, h) e = absurd (omega (arith, void_first t h, e))
-    array_if t (PrimitiveType, h) e = absurd ((primitive_first t h).array e)
-    array_if t (ClassType, h) e = absurd (omega (arith, class_first t h, e))
-    array_if t (ArrayType, h) e = h
+reference_if t (VoidType, h) e = absurd (omega (arith, letter_of_void t (void_first t h), e))
+reference_if t (PrimitiveType, h) e = let other = primitive_first t h in absurd (other.class (sym (own_letter t other.array) ∙ e))
+reference_if t (ClassType, h) e = inl h
+reference_if t (ArrayType, h) e = inr h
 
 -- the letter is of ASCII
 pub letter_ascii : (t : Text) → IsDescriptor t → IsAscii (shorty_letter t)

@@ -1,12 +1,9 @@
 -- The rows of all parts, renumbered and joined, one kind of symbol after the other.
-use Rattle.dexpool.proofs.Common.{◌≡◌, ℕ, ◌<◌, true, List, [], ◌∷◌, length, map, refl, sym, ap, ◌∙◌, subst, All, AllZip, flat_map, ordering_then, nat_cmp, IsTotalOrder, slice_cmp, IsAntisymmetric, Ordering, map-id, All-map, rises, Text, text_cmp, Mentions, rises-in_order, text_total, text_exact, proto_total, proto_exact, field_total, field_exact, method_total, method_exact, row_cmp, IsJoin, ProtoNumbers, FieldRow, MethodRow}
+use Rattle.dexpool.proofs.Common.{◌≡◌, ℕ, ◌<◌, true, List, [], ◌∷◌, length, map, refl, sym, ap, ◌∙◌, subst, All, AllZip, flat_map, ordering_then, nat_cmp, IsTotalOrder, slice_cmp, IsAntisymmetric, Ordering, map-id, All-map, rises, Text, text_cmp, Mentions, rises-in_order, text_total, text_exact, proto_total, proto_exact, field_total, field_exact, method_total, method_exact, row_cmp, IsJoin, ProtoNumbers, FieldRow, MethodRow, ProtoEntry, text_of, type_of, proto_of, field_of, method_of, type_cmp, field_key, method_key, IsNumbering, numbers_of, numbers_in, HasSpans, IsFieldWithin, IsMethodWithin, IsUnion, Denote, AreJoinedTexts, AreJoinedTypes, AreJoinedProtos, AreJoinedFields, AreJoinedMethods, proto_of_row, IsRowOf}
 use Rattle.dexspec.specs.Symbols as symbols
 use Rattle.dexrows.specs.declared.types.TypeRow.{TypeRow}
-use Rattle.dexpool.specs.declared.rows.ProtoEntry.{ProtoEntry}
 use Rattle.dexpool.specs.declared.protos.Protos.{Protos}
-use Rattle.dexpool.specs.{text_of, type_of, proto_of, field_of, method_of, type_cmp, proto_cmp, field_key, method_key, IsNumbering}
-use Rattle.dexpool.specs.internal.Renumbering.{numbers_of, numbers_in, HasSpans, IsFieldWithin, IsMethodWithin}
-use Rattle.dexpool.specs.internal.Joining.{IsUnion, Denote, AreJoinedTexts, AreJoinedTypes, AreJoinedProtos, AreJoinedFields, AreJoinedMethods, proto_of_row, IsRowOf}
+use Rattle.dexpool.specs.{proto_cmp}
 use Rattle.dexpool.proofs.Moved.{entries_of}
 use Rattle.dexpool.proofs.NumberOrder as order
 use Rattle.dexpool.proofs.NumberOrder.{slices-map}
@@ -65,10 +62,9 @@ module _ (parts : List Mentions) (numberings : All IsNumbering parts) where
 
       rows_agree : (x y : ProtoNumbers) → IsRowOf texts types x → IsRowOf texts types y → row_cmp (λ (row : ProtoNumbers). row.return_type ∷ row.parameters) x y ≡ symbols.proto_cmp (proto_of_row texts types x) (proto_of_row texts types y)
       rows_agree x y p q =
-          let e : nat_cmp x.return_type y.return_type ≡ text_cmp (type_of texts types x.return_type) (type_of texts types y.return_type) = types_agree x.return_type y.return_type p.return_in q.return_in in
           let r : slice_cmp nat_cmp x.parameters y.parameters ≡ slice_cmp text_cmp (map (type_of texts types) x.parameters) (map (type_of texts types) y.parameters) =
           slices-map nat_cmp text_cmp (type_of texts types) (λ n. n < length types) types_agree x.parameters y.parameters p.parameters_in q.parameters_in in
-          λ i. ordering_then (e i) (r i)
+          λ i. ordering_then ((types_agree x.return_type y.return_type p.return_in q.return_in) i) (r i)
 
       module _ (rows : List (List ProtoNumbers)) (are_encoded : AllZip (λ (part : Mentions) xs. Denote (proto_of_row texts types) (IsRowOf texts types) part.protos xs) parts rows) where
         pub protos_joined : (joined : List ProtoNumbers) (images : List (List ℕ)) (table : Protos) → IsJoin (λ (row : ProtoNumbers). row.return_type ∷ row.parameters) rows joined images → HasSpans table → numbers_in table ≡ joined

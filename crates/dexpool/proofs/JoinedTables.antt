@@ -1,11 +1,8 @@
 -- The five joined tables are tables of a numbering, the union of the parts, and their images are maps.
-use Rattle.dexpool.proofs.Common.{◌≡◌, ℕ, ◌+◌, ◌<◌, true, List, [], ◌∷◌, ◌++◌, length, get_or, take, map, Option, Some, sym, ap, ◌∙◌, subst, arith, All, AllZip, IsTotalOrder, IsAntisymmetric, Ordering, get_or-map, length-map, map-append, map_more, All-weaker, All-get_or, rises, text_cmp, IsDescriptor, IsProto, IsField, IsMethod, Mentions, text_total, text_exact, proto_total, proto_exact, field_total, field_exact, method_total, method_exact}
+use Rattle.dexpool.proofs.Common.{◌≡◌, ℕ, ◌+◌, ◌<◌, true, List, [], ◌∷◌, ◌++◌, length, get_or, take, map, Option, Some, sym, ap, ◌∙◌, subst, arith, All, AllZip, IsTotalOrder, IsAntisymmetric, Ordering, get_or-map, length-map, map-append, map_more, All-weaker, All-get_or, rises, text_cmp, IsDescriptor, IsProto, IsField, IsMethod, Mentions, text_total, text_exact, proto_total, proto_exact, field_total, field_exact, method_total, method_exact, Tables, text_of, proto_of, field_of, method_of, IsNumbering, Maps, MapsTo, AllMapTo, union_of, KeepsOrder, symbols_in, AreTables, numberings_of, lists_in, Moves, IsUnion, AreJoinedTexts, AreJoinedTypes, AreJoinedProtos, AreJoinedFields, AreJoinedMethods, AreMapsOf}
 use Rattle.std.specs.Borrow.{Bor}
 use Rattle.std.specs.Global.{Vec}
 use Rattle.dexspec.specs.Symbols as symbols
-use Rattle.dexpool.specs.declared.tables.Tables.{Tables}
-use Rattle.dexpool.specs.{text_of, proto_of, field_of, method_of, IsNumbering, Maps, MapsTo, AllMapTo, union_of, KeepsOrder, symbols_in, AreTables}
-use Rattle.dexpool.specs.internal.Joining.{numberings_of, lists_in, Moves, IsUnion, AreJoinedTexts, AreJoinedTypes, AreJoinedProtos, AreJoinedFields, AreJoinedMethods, AreMapsOf}
 use Rattle.dexpool.proofs.Pairs.{zip_length, zip_at, zip_from, zip_seen}
 use Rattle.dexpool.proofs.TablesAreAt.{tables_made}
 use Rattle.dexpool.proofs.Unions.{some, all_union}
@@ -29,9 +26,8 @@ one_mapped : {X : Type 0} (of : Mentions → List X) (R : X → X → Ordering) 
     → (seen : Maps → List (Option ℕ)) (maps : List Maps) → map seen maps ≡ map (map Some) images → (i : ℕ) (d : Mentions) (e : Maps) → i < length parts → MapsTo (of (get_or parts i d)) to (seen (get_or maps i e))
 one_mapped of R o exact parts to images u rise seen maps is i d e lt =
     let n : length images ≡ length parts = sym (zip_length (λ m image. Moves (of m) to image) parts images u.moves) in
-    let k : length maps ≡ length images = sym (length-map maps seen) ∙ ap (λ (l : List (List (Option ℕ))). length l) is ∙ length-map images (map Some) in
     let same : seen (get_or maps i e) ≡ map Some (get_or images i []) =
-    sym (get_or-map seen maps i e (seen e) (omega (arith, lt, n, k))) ∙ ap (λ (l : List (List (Option ℕ))). get_or l i (seen e)) is ∙ get_or-map (map Some) images i [] (seen e) (omega (arith, lt, n)) in
+    sym (get_or-map seen maps i e (seen e) (omega (arith, lt, n, sym (length-map maps seen) ∙ ap (λ (l : List (List (Option ℕ))). length l) is ∙ length-map images (map Some)))) ∙ ap (λ (l : List (List (Option ℕ))). get_or l i (seen e)) is ∙ get_or-map (map Some) images i [] (seen e) (omega (arith, lt, n)) in
     subst (MapsTo (of (get_or parts i d)) to) (sym same)
     (maps_to R o (of (get_or parts i d)) to (All-get_or (λ m. rises R (of m) ≡ true) parts i d lt rise) (union_rises of R o exact parts to images u) (get_or images i [])
     (zip_at (λ m image. Moves (of m) to image) parts images i d [] u.moves lt))
@@ -40,11 +36,9 @@ one_mapped of R o exact parts to images u rise seen maps is i d e lt =
 pub images_keep : {X Z : Type 0} (of : Mentions → List X) (R : X → X → Ordering) (o : IsTotalOrder R) (exact : IsAntisymmetric R) (parts : List Mentions) (to : List X) (items : Z → List ℕ) (images : List Z)
     → IsUnion of R parts to (map items images) → All (λ m. rises R (of m) ≡ true) parts → All (λ image. KeepsOrder (map Some (items image))) images
 images_keep of R o exact parts to items images u rise i d lt =
-    let n : length images ≡ length parts = sym (zip_length (λ m image. Moves (of m) to image) parts (map items images) u.moves ∙ length-map images items) in
-    let less : i < length parts = omega (arith, lt, n) in
+    let less : i < length parts = omega (arith, lt, sym (zip_length (λ m image. Moves (of m) to image) parts (map items images) u.moves ∙ length-map images items)) in
     let part = some parts i less in
-    let same : get_or (map items images) i [] ≡ items (get_or images i d) = get_or-map items images i d [] lt in
-    let moves : Moves (of (get_or parts i part)) to (items (get_or images i d)) = subst (Moves (of (get_or parts i part)) to) same (zip_at (λ m image. Moves (of m) to image) parts (map items images) i part [] u.moves less) in
+    let moves : Moves (of (get_or parts i part)) to (items (get_or images i d)) = subst (Moves (of (get_or parts i part)) to) (get_or-map items images i d [] lt) (zip_at (λ m image. Moves (of m) to image) parts (map items images) i part [] u.moves less) in
     (maps_to R o (of (get_or parts i part)) to (All-get_or (λ m. rises R (of m) ≡ true) parts i part less rise) (union_rises of R o exact parts to (map items images) u) (items (get_or images i d)) moves).rising
 
 -- the map of one part more

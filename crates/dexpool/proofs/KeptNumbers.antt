@@ -1,14 +1,8 @@
 -- The images of the numbers of marked symbols: each has one, which is not greater, and is a number of the other
 -- numbering.
-use Rattle.dexpool.proofs.Common.{◌≡◌, ℕ, zero, suc, ◌+◌, ◌≤◌, ◌&&◌, ◌==◌, Bool, true, false, List, [], ◌∷◌, get_or, map, refl, sym, ◌∙◌, subst, arith, eq-eqb, Option, Some, None, IsSome, All, Contains, flat_map, or_left, or_right, All-weaker, Contains-get_or, list_any-member, Mentions, FieldRow, MethodRow}
-use Rattle.dexpool.specs.{kept, places, Maps, AllMapTo, image, MapsDown, MapsWithin, Use, AreMarkedToo, IsMarkedUse, IsMappedUse, MapsMarked, marks_of, same_kind, occurs}
-use Rattle.dexpool.specs.declared.rows.ProtoEntry.{ProtoEntry}
+use Rattle.dexpool.proofs.Common.{◌≡◌, ℕ, zero, suc, ◌+◌, ◌≤◌, ◌&&◌, ◌==◌, Bool, true, false, List, [], ◌∷◌, get_or, map, refl, sym, ◌∙◌, subst, arith, eq-eqb, Option, Some, None, IsSome, All, Contains, flat_map, or_left, or_right, All-weaker, Contains-get_or, list_any-member, Mentions, FieldRow, MethodRow, kept, places, Maps, AllMapTo, image, MapsDown, MapsWithin, Use, AreMarkedToo, IsMarkedUse, IsMappedUse, MapsMarked, marks_of, same_kind, occurs, ProtoEntry, Tables, Marks, SymbolKind, IsMarked, AreClosure, kept_places, mark_all, field_types, entry_types}
 use Rattle.dexpool.proofs.KeptPlaces.{marked_has}
-use Rattle.dexpool.specs.declared.tables.Tables.{Tables}
-use Rattle.dexpool.specs.declared.marks.Marks.{Marks}
-use Rattle.dexpool.specs.declared.symbols.SymbolKind.{SymbolKind}
 use Rattle.dexpool.specs.declared.symbols.SymbolKind.TheVariants as kinds
-use Rattle.dexpool.specs.internal.Closing.{IsMarked, AreClosure, kept_places, mark_all, field_types, entry_types}
 use Rattle.dexpool.proofs.KeptRows.{mark_within, mark_stays}
 
 -- ---- to none greater
@@ -17,11 +11,10 @@ some_same : (m n : ℕ) → Some m ≡ Some n → m ≡ n
 some_same m n e = cc
 
 places_down : (marks : List Bool) (n i j : ℕ) → image (places n marks) i ≡ Some j → j ≤ n + i
-places_down [] n i j e = absurd cc
 places_down (true ∷ marks) n zero j e = omega (arith, some_same n j e)
 places_down (true ∷ marks) n (suc i) j e = omega (arith, places_down marks (suc n) i j e)
-places_down (false ∷ marks) n zero j e = absurd cc
 places_down (false ∷ marks) n (suc i) j e = omega (arith, places_down marks n i j e)
+places_down _ n _ j e = absurd cc
 
 -- a cut has no greater images
 pub kept_down : (marks : Marks) → MapsDown (kept_places marks)
@@ -33,11 +26,8 @@ kept_down marks kinds.Method i j e = omega (arith, places_down marks.methods.ite
 
 -- ---- somewhere
 
-is_some : (o : Option ℕ) (j : ℕ) → o ≡ Some j → IsSome o
-is_some o j e = subst IsSome (sym e) refl
-
 has_image : (marks : List Bool) (i : ℕ) → IsMarked marks i → IsSome (image (places 0 marks) i)
-has_image marks i e = let place = marked_has marks i 0 false None (mark_within marks i e) e in is_some (image (places 0 marks) i) place.0 place.1
+has_image marks i e = let place = marked_has marks i 0 false None (mark_within marks i e) e in subst IsSome (sym place.1) refl
 
 -- more marks leave what was marked
 stays : (marks closed : List Bool) (ns : List ℕ) → closed ≡ mark_all marks ns → (i : ℕ) → IsMarked marks i → IsMarked closed i
@@ -51,14 +41,10 @@ pub kept_marked : (t : Tables) (marks closed : Marks) → AreClosure t marks clo
 kept_marked t marks closed is kinds.Text i e =
     let methods = map (λ (m : MethodRow). m.name) (kept marks.methods.items t.methods.items) in
     let fields = map (λ (f : FieldRow). f.name) (kept marks.fields.items t.fields.items) in
-    let protos = map (λ (p : ProtoEntry). p.shorty) (kept closed.protos.items t.protos.items) in
-    let types = kept closed.types.items t.types.items in
-    has_image closed.strings.items i (stays_too (mark_all marks.strings.items methods) closed.strings.items fields protos types is.strings_are i (mark_stays marks.strings.items methods i e))
+    has_image closed.strings.items i (stays_too (mark_all marks.strings.items methods) closed.strings.items fields (map (λ (p : ProtoEntry). p.shorty) (kept closed.protos.items t.protos.items)) (kept closed.types.items t.types.items) is.strings_are i (mark_stays marks.strings.items methods i e))
 kept_marked t marks closed is kinds.Typ i e =
-    let methods = map (λ (m : MethodRow). m.class) (kept marks.methods.items t.methods.items) in
-    let fields = flat_map field_types (kept marks.fields.items t.fields.items) in
     let protos = flat_map (entry_types t.parameters) (kept closed.protos.items t.protos.items) in
-    has_image closed.types.items i (stays_too marks.types.items closed.types.items methods fields protos is.types_are i e)
+    has_image closed.types.items i (stays_too marks.types.items closed.types.items (map (λ (m : MethodRow). m.class) (kept marks.methods.items t.methods.items)) (flat_map field_types (kept marks.fields.items t.fields.items)) protos is.types_are i e)
 kept_marked t marks closed is kinds.Proto i e =
     has_image closed.protos.items i (stays marks.protos.items closed.protos.items (map (λ (m : MethodRow). m.proto) (kept marks.methods.items t.methods.items)) is.protos_are i e)
 kept_marked t marks closed is kinds.Field i e = has_image closed.fields.items i (subst (λ ms. IsMarked ms i) (sym is.fields_are) e)
@@ -77,21 +63,15 @@ maps_within m n r l kinds.Method i j e = (l.methods_mapped.same i j (record { cl
 
 same_kind-refl : (kind : SymbolKind) → same_kind kind kind ≡ true
 same_kind-refl kinds.Text = refl
-same_kind-refl kinds.Typ = refl
-same_kind-refl kinds.Proto = refl
-same_kind-refl kinds.Field = refl
-same_kind-refl kinds.Method = refl
+same_kind-refl _ = refl
 
 uses_itself : (u : Use) → (same_kind u.kind u.kind && u.number == u.number) ≡ true
 uses_itself u = rw (same_kind-refl u.kind) (eq-eqb u.number u.number refl)
 
-member_occurs : (us : List Use) (u : Use) → Contains us u → occurs us u.kind u.number ≡ true
-member_occurs us u c = list_any-member (λ v. same_kind v.kind u.kind && v.number == u.number) us u c (uses_itself u)
-
 pub are_marked : (us : List Use) (old new : Marks) → AreMarkedToo us old new → All (IsMarkedUse new) us
 are_marked us old new is k d lt =
     let u = get_or us k d in
-    is.each u.kind u.number ∙ or_right (get_or (marks_of u.kind old) u.number false) (occurs us u.kind u.number) (member_occurs us u (Contains-get_or us k d lt))
+    is.each u.kind u.number ∙ or_right (get_or (marks_of u.kind old) u.number false) (occurs us u.kind u.number) (list_any-member (λ v. same_kind v.kind u.kind && v.number == u.number) us u (Contains-get_or us k d lt) (uses_itself u))
 
 pub stay_marked : (us : List Use) (old new : Marks) → AreMarkedToo us old new → (vs : List Use) → All (IsMarkedUse old) vs → All (IsMarkedUse new) vs
 stay_marked us old new is vs h = All-weaker (IsMarkedUse old) (IsMarkedUse new) (λ u e. is.each u.kind u.number ∙ or_left (get_or (marks_of u.kind old) u.number false) (occurs us u.kind u.number) e) vs h

@@ -1,9 +1,7 @@
 -- Marked members of a list: which they are, where they are, and what more marks keep.
-use Rattle.dexpool.proofs.Common.{◌≡◌, ◌≢◌, ◌⊎◌, ℕ, zero, suc, ◌+◌, ◌<◌, Bool, true, false, List, [], ◌∷◌, ◌++◌, length, get_or, map, set, drop, replicate, refl, sym, ap, ◌∙◌, arith, inl, inr, Ordering, Option, Some, None, slice_index, slice_index_or, All, Contains, flat_map, IsTotalOrder, cases_eq, cases_order, length-set, length-map, get_or-map, get_or-set_same, get_or-set_other, get_or_default, drop_more, Contains-nil, Contains-first, Contains-later, Contains-cons_cases, All-among, Rises, AreDistinct-from_Rises}
-use Rattle.dexpool.specs.{kept, places, MapsTo, image, KeepsOrder}
+use Rattle.dexpool.proofs.Common.{◌≡◌, ◌≢◌, ◌⊎◌, ℕ, zero, suc, ◌+◌, ◌<◌, Bool, true, false, List, [], ◌∷◌, ◌++◌, length, get_or, map, set, drop, replicate, refl, sym, ap, ◌∙◌, arith, inl, inr, Ordering, Option, Some, None, slice_index, slice_index_or, All, Contains, flat_map, IsTotalOrder, cases_eq, cases_order, length-set, length-map, get_or-map, get_or-set_same, get_or-set_other, get_or_default, drop_more, Contains-nil, Contains-first, Contains-later, Contains-cons_cases, All-among, Rises, AreDistinct-from_Rises, kept, places, MapsTo, image, KeepsOrder, IsMarked, mark_all, number_or_none, new_numbers}
 use Rattle.dexpool.proofs.KeptPlaces.{kept_among, length_places, marked_has, is_at, places_rise}
 use Rattle.dexpool.proofs.Moved.{Keeps}
-use Rattle.dexpool.specs.internal.Closing.{IsMarked, mark_all, number_or_none, new_numbers}
 
 -- a marked number is one of the marks
 pub mark_within : (marks : List Bool) (n : ℕ) → IsMarked marks n → n < length marks
@@ -25,22 +23,20 @@ later_from mark marks y xs x k = record { at = suc k.at; marked = k.marked; with
 
 -- each member that is kept is at a marked place
 pub kept_from : {X : Type 0} (marks : List Bool) (xs : List X) (x : X) → Contains (kept marks xs) x → KeptFrom marks xs x
-kept_from [] xs x c = absurd (Contains-nil x c)
-kept_from (mark ∷ marks) [] x c = absurd (Contains-nil x c)
 kept_from (true ∷ marks) (y ∷ xs) x c = elim (Contains-cons_cases y x (kept marks xs) c) [
   | inl e ↦ record { at = 0; marked = refl; within = omega arith; is = λ d. e }
   | inr l ↦ later_from true marks y xs x (kept_from marks xs x l)
 ]
 kept_from (false ∷ marks) (y ∷ xs) x c = later_from false marks y xs x (kept_from marks xs x c)
+kept_from _ _ x c = absurd (Contains-nil x c)
 
 -- and each member at a marked place is kept
 pub kept_has : {X : Type 0} (marks : List Bool) (xs : List X) (n : ℕ) (d : X) → IsMarked marks n → n < length xs → Contains (kept marks xs) (get_or xs n d)
-kept_has [] xs n d e lt = absurd cc
 kept_has (mark ∷ marks) [] n d e lt = absurd (omega arith)
 kept_has (true ∷ marks) (y ∷ xs) zero d e lt = Contains-first y (kept marks xs)
 kept_has (true ∷ marks) (y ∷ xs) (suc n) d e lt = Contains-later y (get_or xs n d) (kept marks xs) (kept_has marks xs n d e (omega arith))
-kept_has (false ∷ marks) (y ∷ xs) zero d e lt = absurd cc
 kept_has (false ∷ marks) (y ∷ xs) (suc n) d e lt = kept_has marks xs n d e (omega arith)
+kept_has _ _ _ d e lt = absurd cc
 
 -- what holds of all holds of those kept
 pub kept_all : {X : Type 0} (P : X → Type 0) (marks : List Bool) (xs : List X) → All P xs → All P (kept marks xs)
@@ -48,17 +44,15 @@ kept_all P marks xs h = All-among P (kept marks xs) xs (kept_among marks xs) h
 
 -- a cut of mapped members is the mapped cut
 pub kept-map : {X Y : Type 0} (f : X → Y) (marks : List Bool) (xs : List X) → kept marks (map f xs) ≡ map f (kept marks xs)
-kept-map f [] xs = refl
-kept-map f (mark ∷ marks) [] = refl
 kept-map f (true ∷ marks) (x ∷ xs) = λ i. f x ∷ kept-map f marks xs i
 kept-map f (false ∷ marks) (x ∷ xs) = kept-map f marks xs
+kept-map f _ _ = refl
 
 -- what is kept of a rising list rises
 pub kept_rises : {X : Type 0} (R : X → X → Ordering) (marks : List Bool) (xs : List X) → Rises R xs → Rises R (kept marks xs)
-kept_rises R [] xs h = tt
-kept_rises R (mark ∷ marks) [] h = tt
 kept_rises R (true ∷ marks) (x ∷ xs) h = (λ y c. h.0 y (kept_among marks xs y c), kept_rises R marks xs h.1)
 kept_rises R (false ∷ marks) (x ∷ xs) h = kept_rises R marks xs h.1
+kept_rises _ _ _ h = tt
 
 -- ---- the new numbers
 
@@ -82,10 +76,7 @@ kept_keeps marks xs count = record {
       let place = marked_has marks n 0 false None lt marked in
       let at = is_at marks xs n 0 place.0 None count lt place.1 in
       let is : slice_index (new_numbers marks) n ≡ at.among = new_number marks n place.0 marked place.1 ∙ omega (arith, at.place_is) in
-      record {
-        within = omega (arith, is, at.within);
-        is = λ e. ap (λ k. get_or (kept marks xs) k e) is ∙ at.same e ∙ get_or_default xs n e d (omega (arith, lt, count));
-      };
+      record { within = omega (arith, is, at.within); is = λ e. ap (λ k. get_or (kept marks xs) k e) is ∙ at.same e ∙ get_or_default xs n e d (omega (arith, lt, count)) };
 }
 
 -- ---- the images of numbers
@@ -118,16 +109,12 @@ kept_maps R o marks xs count rising = record {
       let lt = image_within marks i j e in
       let at = is_at marks xs i 0 j None count lt e in
       let is : j ≡ at.among = omega (arith, at.place_is) in
-      record {
-        within = omega (arith, is, at.within);
-        is = λ z. ap (λ k. get_or (kept marks xs) k z) is ∙ at.same z ∙ get_or_default xs i z d (omega (arith, lt, count));
-      };
+      record { within = omega (arith, is, at.within); is = λ z. ap (λ k. get_or (kept marks xs) k z) is ∙ at.same z ∙ get_or_default xs i z d (omega (arith, lt, count)) };
   none = λ i d lt e c.
       let k = kept_from marks xs (get_or xs i d) c in
       elim (cases_eq k.at i) [
         | inl same ↦ let place = marked_has marks k.at 0 false None (mark_within marks k.at k.marked) k.marked in
-            let p : None ≡ Some place.0 = sym e ∙ ap (image (places 0 marks)) (sym same) ∙ place.1 in
-            absurd cc
+            let p : None ≡ Some place.0 = sym e ∙ ap (image (places 0 marks)) (sym same) ∙ place.1 in absurd cc
         | inr other ↦ absurd (two_places R o xs rising k.at i d k.within lt other (k.is d))
       ];
   rising = places_keep marks;
@@ -209,6 +196,5 @@ pub kept_none : {X : Type 0} (n : ℕ) (marks : List Bool) (xs : List X) → mar
 kept_none n marks xs e = ap (λ bs. kept bs xs) e ∙ none n xs
   where
     none : {X : Type 0} (n : ℕ) (xs : List X) → kept (replicate n false) xs ≡ []
-    none zero xs = refl
-    none (suc n) [] = refl
     none (suc n) (x ∷ xs) = none n xs
+    none _ _ = refl

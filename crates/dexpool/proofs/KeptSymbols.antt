@@ -1,11 +1,6 @@
 -- The closed marks of tables: they are closed, and keep what the marked symbols mention.
-use Rattle.dexpool.proofs.Common.{◌≡◌, ℕ, ◌<◌, List, [], ◌∷◌, ◌++◌, length, get_or, map, refl, sym, ap, ◌∙◌, subst, arith, inl, inr, All, Contains, flat_map, length-map, get_or-map, map-append, All-weaker, All-contains, All-head, All-tail, Contains-get_or, Contains-append_left, Contains-append_right, Contains-append_cases, Text, text_cmp, IsValueType, shorty, Proto, Field, Method, proto_cmp, field_cmp, method_cmp, proto_types, Contains-first, Contains-later, Contains-cons_cases, Contains-flat_map, Contains-flat_map_source, Contains-map, Contains-map_source, Rises-from_rises, text_total, proto_total, field_total, method_total, FieldRow, MethodRow}
+use Rattle.dexpool.proofs.Common.{◌≡◌, ℕ, ◌<◌, List, [], ◌∷◌, ◌++◌, length, get_or, map, refl, sym, ap, ◌∙◌, subst, arith, inl, inr, All, Contains, flat_map, length-map, get_or-map, map-append, All-weaker, All-contains, All-head, All-tail, Contains-get_or, Contains-append_left, Contains-append_right, Contains-append_cases, Text, text_cmp, IsValueType, shorty, Proto, Field, Method, proto_cmp, field_cmp, method_cmp, proto_types, Contains-first, Contains-later, Contains-cons_cases, Contains-flat_map, Contains-flat_map_source, Contains-map, Contains-map_source, Rises-from_rises, text_total, proto_total, field_total, method_total, FieldRow, MethodRow, kept, text_of, type_of, span_of, proto_of, field_of, method_of, AreMarksOf, AllMapTo, marked, symbols_in, IsTypeNumber, IsTypeOf, IsProtoEntry, IsFieldRow, IsMethodRow, AreTables, ProtoEntry, Tables, Marks, IsMarked, mark_all, field_types, entry_types, AreClosure, AreClosed, HasMarkedEntry, HasMarkedField, HasMarkedMethod, kept_symbols, kept_places}
 use Rattle.dexspec.specs.Mentions as mentions
-use Rattle.dexpool.specs.{kept, text_of, type_of, span_of, proto_of, field_of, method_of, AreMarksOf, AllMapTo, marked, symbols_in, IsTypeNumber, IsTypeOf, IsProtoEntry, IsFieldRow, IsMethodRow, AreTables}
-use Rattle.dexpool.specs.declared.rows.ProtoEntry.{ProtoEntry}
-use Rattle.dexpool.specs.declared.tables.Tables.{Tables}
-use Rattle.dexpool.specs.declared.marks.Marks.{Marks}
-use Rattle.dexpool.specs.internal.Closing.{IsMarked, mark_all, field_types, entry_types, AreClosure, AreClosed, HasMarkedEntry, HasMarkedField, HasMarkedMethod, kept_symbols, kept_places}
 use Rattle.dexpool.proofs.KeptRows.{kept_all, kept-map, kept_rises, kept_maps, length-mark_all, mark_comes, mark_all-append}
 use Rattle.dexpool.proofs.ClosedMarks.{Same, kept_grown, named, named_flat, mentioned}
 use Rattle.dexpool.proofs.TablesAreAt.{are_rising}
@@ -19,10 +14,7 @@ all_of P xs h = λ k d lt. h (get_or xs k d) (Contains-get_or xs k d lt)
 -- functions that agree on the members
 map_agree : {X Y : Type 0} (f g : X → Y) (xs : List X) → All (λ x. f x ≡ g x) xs → map f xs ≡ map g xs
 map_agree f g [] h = refl
-map_agree f g (x ∷ xs) h =
-    let here = All-head (λ x. f x ≡ g x) x xs h in
-    let later = map_agree f g xs (All-tail (λ x. f x ≡ g x) x xs h) in
-    λ i. here i ∷ later i
+map_agree f g (x ∷ xs) h = λ i. (All-head (λ x. f x ≡ g x) x xs h) i ∷ (map_agree f g xs (All-tail (λ x. f x ≡ g x) x xs h)) i
 
 module _ (t : Tables) (ok : AreTables t) (marks : Marks) (count : AreMarksOf (symbols_in t) marks) (c : Marks) (is : AreClosure t marks c) where
   -- ---- the rows that are marked
@@ -68,10 +60,9 @@ module _ (t : Tables) (ok : AreTables t) (marks : Marks) (count : AreMarksOf (sy
   protos_grown =
       let none : Proto = record { return_type = []; parameters = [] } in
       let of_row = method_of t.strings.items t.types.items t.parameters t.protos.items in
-      let of_entry = proto_of t.strings.items t.types.items t.parameters in
       kept_grown c.protos.items marks.protos.items proto_numbers (symbols_in t).protos (map (λ (x : Method). x.proto) (kept marks.methods.items (symbols_in t).methods)) none count.protos_count proto_within is.protos_are
       (named (λ (m : MethodRow). m.proto) (λ n. get_or (symbols_in t).protos n none) of_row (λ (x : Method). x.proto) methods
-      (All-weaker (IsMethodRow t) (λ (m : MethodRow). get_or (symbols_in t).protos m.proto none ≡ (of_row m).proto) (λ m k. get_or-map of_entry t.protos.items m.proto _ none k.proto_in) methods are_methods)
+      (All-weaker (IsMethodRow t) (λ (m : MethodRow). get_or (symbols_in t).protos m.proto none ≡ (of_row m).proto) (λ m k. get_or-map (proto_of t.strings.items t.types.items t.parameters) t.protos.items m.proto _ none k.proto_in) methods are_methods)
       ∙ ap (map (λ (x : Method). x.proto)) (sym (kept-map of_row marks.methods.items t.methods.items)))
 
   -- ---- types
@@ -137,8 +128,7 @@ module _ (t : Tables) (ok : AreTables t) (marks : Marks) (count : AreMarksOf (sy
       named_flat (entry_types t.parameters) at of_entry proto_types protos
       (All-weaker (IsProtoEntry t) (λ (p : ProtoEntry). map at (entry_types t.parameters p) ≡ proto_types (of_entry p))
       (λ p k. let span = span_of t.parameters p.parameters in
-      let parameters = map_agree at (type_of t.strings.items t.types.items) span (All-weaker (IsTypeOf IsValueType t) (λ n. at n ≡ type_of t.strings.items t.types.items n) (λ n j. type_is n j.type_in) span k.parameters_in) in
-      λ i. type_is p.return_type k.return_in i ∷ parameters i) protos are_entries)
+      λ i. type_is p.return_type k.return_in i ∷ (map_agree at (type_of t.strings.items t.types.items) span (All-weaker (IsTypeOf IsValueType t) (λ n. at n ≡ type_of t.strings.items t.types.items n) (λ n j. type_is n j.type_in) span k.parameters_in)) i) protos are_entries)
       ∙ ap (flat_map proto_types) (sym (kept-map of_entry c.protos.items t.protos.items)) in
       map-append at (class_numbers ++ field_numbers) entry_numbers ∙ ap (λ l. l ++ map at entry_numbers) (map-append at class_numbers field_numbers) ∙ (λ i. (classes i ++ members i) ++ entries i)
 
@@ -198,9 +188,8 @@ module _ (t : Tables) (ok : AreTables t) (marks : Marks) (count : AreMarksOf (sy
       named (λ (p : ProtoEntry). p.shorty) at of_entry (λ (p : Proto). shorty p.return_type p.parameters) protos
       (All-weaker (IsProtoEntry t) (λ (p : ProtoEntry). at p.shorty ≡ shorty (of_entry p).return_type (of_entry p).parameters) (λ p k. k.shorty_is) protos are_entries)
       ∙ ap (map (λ (p : Proto). shorty p.return_type p.parameters)) (sym (kept-map of_entry c.protos.items t.protos.items)) in
-      let of_types : map at types ≡ kept c.types.items (symbols_in t).types = sym (kept-map at c.types.items t.types.items) in
       map-append at (name_numbers ++ shorty_numbers) types ∙ ap (λ l. l ++ map at types) (map-append at name_numbers shorty_numbers ∙ ap (λ l. l ++ map at shorty_numbers) (map-append at a b))
-      ∙ (λ i. ((of_methods i ++ of_fields i) ++ shorties i) ++ of_types i)
+      ∙ (λ i. ((of_methods i ++ of_fields i) ++ shorties i) ++ (sym (kept-map at c.types.items t.types.items)) i)
 
   texts_grown : Same (kept c.strings.items t.strings.items) (kept marks.strings.items t.strings.items ++ named_texts)
   texts_grown = kept_grown c.strings.items marks.strings.items text_numbers t.strings.items named_texts [] count.strings_count text_within texts_marked texts_named

@@ -1,10 +1,5 @@
 -- Where every symbol is marked, a numbering is kept whole, and only there.
-use Rattle.dexpool.proofs.Common.{◌≡◌, ◌↔◌, ◌≤◌, Bool, true, false, IsTrue, List, [], ◌∷◌, length, refl, sym, ap, ◌∙◌, arith, All, false≢true, All-nil, All-cons, All-head, All-tail, Mentions, closed}
-use Rattle.dexpool.specs.{kept, AreMarksOf, marked, symbols_in, AreTables}
-use Rattle.dexpool.specs.declared.tables.Tables.{Tables}
-use Rattle.dexpool.specs.declared.marks.Marks.{Marks}
-use Rattle.dexpool.specs.internal.Closing.{AreClosure, kept_symbols}
-use Rattle.dexpool.specs.internal.Marking.{HaveAllMarks}
+use Rattle.dexpool.proofs.Common.{◌≡◌, ◌↔◌, ◌≤◌, Bool, true, false, IsTrue, List, [], ◌∷◌, length, refl, sym, ap, ◌∙◌, arith, All, false≢true, All-nil, All-cons, All-head, All-tail, Mentions, closed, kept, AreMarksOf, marked, symbols_in, AreTables, Tables, Marks, AreClosure, kept_symbols, HaveAllMarks}
 use Rattle.dexpool.proofs.KeptSymbols.{closed_count, kept_mentioned}
 
 -- ---- one list
@@ -14,17 +9,14 @@ list_kept : {X : Type 0} (marks : List Bool) (xs : List X) → length marks ≡ 
 list_kept [] [] count all = refl
 list_kept [] (x ∷ xs) count all = absurd (omega (arith, count))
 list_kept (mark ∷ marks) [] count all = refl
-list_kept (true ∷ marks) (x ∷ xs) count all =
-    let rest = list_kept marks xs (omega (arith, count)) (All-tail IsTrue true marks all) in
-    λ i. x ∷ rest i
+list_kept (true ∷ marks) (x ∷ xs) count all = λ i. x ∷ (list_kept marks xs (omega (arith, count)) (All-tail IsTrue true marks all)) i
 list_kept (false ∷ marks) (x ∷ xs) count all = absurd (false≢true (All-head IsTrue false marks all))
 
 -- a cut is no longer than the list
 length-kept : {X : Type 0} (marks : List Bool) (xs : List X) → length (kept marks xs) ≤ length xs
-length-kept [] xs = omega arith
-length-kept (mark ∷ marks) [] = omega arith
 length-kept (true ∷ marks) (x ∷ xs) = omega (arith, length-kept marks xs)
 length-kept (false ∷ marks) (x ∷ xs) = omega (arith, length-kept marks xs)
+length-kept _ _ = omega arith
 
 -- where it is as long, each member is marked
 all_marked : {X : Type 0} (marks : List Bool) (xs : List X) → length marks ≡ length xs → length (kept marks xs) ≡ length xs → All IsTrue marks
@@ -38,12 +30,9 @@ all_marked (false ∷ marks) (x ∷ xs) count long = absurd (omega (arith, long,
 module _ (m : Mentions) (marks : Marks) (count : AreMarksOf m marks) where
   numbering_kept : HaveAllMarks marks → kept_symbols marks m ≡ m
   numbering_kept all =
-      let ss = list_kept marks.strings.items m.texts count.strings_count all.strings_marked in
-      let ts = list_kept marks.types.items m.types count.types_count all.types_marked in
-      let ps = list_kept marks.protos.items m.protos count.protos_count all.protos_marked in
       let fs = list_kept marks.fields.items m.fields count.fields_count all.fields_marked in
       let xs = list_kept marks.methods.items m.methods count.methods_count all.methods_marked in
-      λ i. record { texts = ss i; types = ts i; protos = ps i; fields = fs i; methods = xs i }
+      λ i. record { texts = (list_kept marks.strings.items m.texts count.strings_count all.strings_marked) i; types = (list_kept marks.types.items m.types count.types_count all.types_marked) i; protos = (list_kept marks.protos.items m.protos count.protos_count all.protos_marked) i; fields = fs i; methods = xs i }
 
   have_all_marks : kept_symbols marks m ≡ m → HaveAllMarks marks
   have_all_marks e = record {
@@ -59,5 +48,4 @@ pub whole_if_marked : (t : Tables) → AreTables t → (marks : Marks) → AreMa
 whole_if_marked t ok marks count c is =
     let m = symbols_in t in
     let are_closed = closed_count t ok marks count c is in
-    let mentioned = kept_mentioned t ok marks count c is in
-    (λ all. sym mentioned ∙ numbering_kept m c are_closed all, λ whole. have_all_marks m c are_closed (mentioned ∙ whole))
+    let mentioned = kept_mentioned t ok marks count c is in (λ all. sym mentioned ∙ numbering_kept m c are_closed all, λ whole. have_all_marks m c are_closed (mentioned ∙ whole))

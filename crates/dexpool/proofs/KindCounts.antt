@@ -1,9 +1,6 @@
 -- A number that counts for a kind of symbol is a row of its table.
-use Rattle.dexpool.proofs.Common.{◌≡◌, ◌<◌, ℕ, length, sym, subst, length-map, Mentions}
-use Rattle.dexpool.specs.declared.symbols.SymbolKind.{SymbolKind}
+use Rattle.dexpool.proofs.Common.{◌≡◌, ◌<◌, ℕ, length, sym, subst, length-map, Mentions, SymbolKind, Tables, count_of, symbols_in}
 use Rattle.dexpool.specs.declared.symbols.SymbolKind.TheVariants.{Text, Typ, Proto, Field, Method}
-use Rattle.dexpool.specs.declared.tables.Tables.{Tables}
-use Rattle.dexpool.specs.{count_of, symbols_in}
 
 module _ (t : Tables) (m : Mentions) (is : symbols_in t ≡ m) (k : SymbolKind) (i : ℕ) (lt : i < count_of k m) where
   counted : (l : SymbolKind) → k ≡ l → i < count_of l (symbols_in t)

@@ -1,7 +1,5 @@
 -- Images of each number are a map of numbers.
-use Rattle.dexpool.proofs.Common.{◌≡◌, ℕ, ◌<◌, true, List, length, get_or, map, Option, Some, None, sym, ap, ◌∙◌, subst, arith, inl, inr, slice_index, IsTotalOrder, Ordering, Less, cases_lt, cases_order, get_or-map, get_or_past, length-map, rises, Rises-from_rises, Rises-places, irreflexive, asymmetric}
-use Rattle.dexpool.specs.{IsAt, MapsTo, image}
-use Rattle.dexpool.specs.internal.Joining.{Moves}
+use Rattle.dexpool.proofs.Common.{◌≡◌, ℕ, ◌<◌, true, List, length, get_or, map, Option, Some, None, sym, ap, ◌∙◌, subst, arith, inl, inr, slice_index, IsTotalOrder, Ordering, Less, cases_lt, cases_order, get_or-map, get_or_past, length-map, rises, Rises-from_rises, Rises-places, irreflexive, asymmetric, IsAt, MapsTo, image, Moves}
 use Rattle.dexpool.proofs.Unions.{some}
 
 one_value : (x y : ℕ) → Some x ≡ Some y → x ≡ y
@@ -46,9 +44,4 @@ module _ {X : Type 0} (R : X → X → Ordering) (o : IsTotalOrder R) (from to :
       ]
 
   pub maps_to : MapsTo from to (map Some images)
-  maps_to = record {
-    count = length-map images (λ (k : ℕ). Some k) ∙ m.count;
-    same = encodes;
-    none = λ i d lt e c. total i lt e;
-    rising = in_order;
-  }
+  maps_to = record { count = length-map images (λ (k : ℕ). Some k) ∙ m.count; same = encodes; none = λ i d lt e c. total i lt e; rising = in_order }

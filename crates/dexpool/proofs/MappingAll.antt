@@ -1,8 +1,6 @@
 -- In a union each number of a part has an image; and where each number has one, the symbols that occur have.
-use Rattle.dexpool.proofs.Common.{◌≡◌, ℕ, ◌<◌, List, [], ◌∷◌, length, get_or, Option, Some, None, IsSome, refl, subst, All, AllZip, Contains, flat_map, IsTotalOrder, IsAntisymmetric, Ordering, All-nil, All-cons, Contains-get_or, in_order, text_cmp, Symbol, TextSymbol, TypeSymbol, ProtoSymbol, FieldSymbol, MethodSymbol, proto_cmp, field_cmp, method_cmp, Mentions, Contains-first, Contains-later, Contains-flat_map, text_total, text_exact, proto_total, proto_exact, field_total, field_exact, method_total, method_exact, in_order-has}
-use Rattle.dexpool.specs.declared.symbols.SymbolKind.{SymbolKind}
+use Rattle.dexpool.proofs.Common.{◌≡◌, ℕ, ◌<◌, List, [], ◌∷◌, length, get_or, Option, Some, None, IsSome, refl, subst, All, AllZip, Contains, flat_map, IsTotalOrder, IsAntisymmetric, Ordering, All-nil, All-cons, Contains-get_or, in_order, text_cmp, Symbol, TextSymbol, TypeSymbol, ProtoSymbol, FieldSymbol, MethodSymbol, proto_cmp, field_cmp, method_cmp, Mentions, Contains-first, Contains-later, Contains-flat_map, text_total, text_exact, proto_total, proto_exact, field_total, field_exact, method_total, method_exact, in_order-has, SymbolKind, Maps, image, MapsTo, AllMapTo, IsNumbered, IsOfKind, union_of, count_of, Use, IsUseOf, IsMappedUse, MapsAll}
 use Rattle.dexpool.specs.declared.symbols.SymbolKind.TheVariants as kinds
-use Rattle.dexpool.specs.{Maps, image, MapsTo, AllMapTo, IsNumbered, IsOfKind, union_of, count_of, Use, IsUseOf, IsMappedUse, MapsAll}
 use Rattle.dexpool.proofs.Unions.{some}
 
 -- there is a value, or there is none
@@ -27,9 +25,8 @@ maps_all ms m r c l kinds.Method i lt = maps_somewhere method_cmp method_total m
 -- what holds of the members that belong together
 zip_members : {A B : Type 0} (R S : A → B → Type 0) (xs : List A) (ys : List B) → ((x : A) (y : B) → Contains xs x → R x y → S x y) → AllZip R xs ys → AllZip S xs ys
 zip_members R S [] [] f h = tt
-zip_members R S [] (y ∷ ys) f h = absurd h
-zip_members R S (x ∷ xs) [] f h = absurd h
 zip_members R S (x ∷ xs) (y ∷ ys) f h = (f x y (Contains-first x xs) h.0, zip_members R S xs ys (λ z w c. f z w (Contains-later x z xs c)) h.1)
+zip_members _ _ _ _ f h = absurd h
 
 pub all_map_to_all : (ms : List Mentions) (all : Mentions) (rs : List Maps) → all ≡ union_of ms → AllZip (λ m r. AllMapTo m all r) ms rs → AllZip MapsAll ms rs
 all_map_to_all ms all rs e h = zip_members (λ m r. AllMapTo m all r) MapsAll ms rs (λ m r c l. maps_all ms m r c (subst (λ n. AllMapTo m n r) e l)) h

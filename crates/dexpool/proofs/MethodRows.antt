@@ -1,9 +1,7 @@
 -- Rows of methods.
-use Rattle.dexpool.proofs.Common.{◌≡◌, ℕ, ◌<◌, ◌≤◌, List, [], ◌∷◌, length, sym, subst, arith, Text, IsReferenceType, IsMemberName, Method, MethodIds, table_size, StringRow, TypeRow, HasMethod, method_row_key, one_string, one_type, MethodRow, Condition}
+use Rattle.dexpool.proofs.Common.{◌≡◌, ℕ, ◌<◌, ◌≤◌, List, [], ◌∷◌, length, sym, subst, arith, Text, IsReferenceType, IsMemberName, Method, MethodIds, table_size, StringRow, TypeRow, method_row_key, one_string, one_type, MethodRow, Condition, ProtoEntry, method_of, method_key, IsText, IsType, AreProtos, MethodRowAt, HasMethodNumbers, AreMethodNames, DecidesNext}
 use Rattle.dexspec.specs.Rows as rows
-use Rattle.dexpool.specs.declared.rows.ProtoEntry.{ProtoEntry}
-use Rattle.dexpool.specs.{method_of, method_key, method_cmp, IsText, IsType, AreProtos, MethodRowAt, HasMethodNumbers, AreMethodNames}
-use Rattle.dexpool.specs.internal.ReadRows.{DecidesNext}
+use Rattle.dexpool.specs.{method_cmp}
 use Rattle.dexpool.proofs.Steps.{decided}
 
 module _ (texts : List Text) (types ps : List ℕ) (protos : List ProtoEntry) (b : List ℕ) where

@@ -1,11 +1,6 @@
 -- Rows whose numbers are replaced denote the same symbols as before, in joins and in cuts.
-use Rattle.dexpool.proofs.Common.{◌≡◌, ℕ, ◌<◌, Bool, true, List, [], length, get_or, map, sym, ◌∙◌, arith, slice_index, slice_index_or, nat_lt, lt-ltb, ltb-true, All, get_or-map, length-map, All-map, All-weaker, Text, shorty, Among, ProtoNumbers, FieldRow, MethodRow, all_seen}
+use Rattle.dexpool.proofs.Common.{◌≡◌, ℕ, ◌<◌, Bool, true, List, [], length, get_or, map, sym, ◌∙◌, arith, slice_index, slice_index_or, nat_lt, lt-ltb, ltb-true, All, get_or-map, length-map, All-map, All-weaker, Text, shorty, Among, ProtoNumbers, FieldRow, MethodRow, all_seen, ProtoEntry, Tables, text_of, type_of, span_of, proto_of, field_of, method_of, IsAt, HasSpan, symbols_in, AreTables, stored_proto, stored_field, stored_method, numbers_of, moved_type, moved_proto, moved_field, moved_method, IsEntryWithin, IsFieldWithin, IsMethodWithin, Moves, Denote, HasShorty, proto_of_row, IsRowOf}
 use Rattle.dexrows.specs.declared.types.TypeRow.{TypeRow}
-use Rattle.dexpool.specs.declared.rows.ProtoEntry.{ProtoEntry}
-use Rattle.dexpool.specs.declared.tables.Tables.{Tables}
-use Rattle.dexpool.specs.{text_of, type_of, span_of, proto_of, field_of, method_of, IsAt, HasSpan, symbols_in, AreTables, stored_proto, stored_field, stored_method}
-use Rattle.dexpool.specs.internal.Renumbering.{numbers_of, moved_type, moved_proto, moved_field, moved_method, IsEntryWithin, IsFieldWithin, IsMethodWithin}
-use Rattle.dexpool.specs.internal.Joining.{Moves, Denote, HasShorty, proto_of_row, IsRowOf}
 use Rattle.dexpool.proofs.Pairs.{map_both}
 use Rattle.dexpool.proofs.TablesAreAt.{types_in, protos_in, fields_in, methods_in}
 
@@ -26,9 +21,8 @@ row_kept : {Q R X : Type 0} (among : ℕ → Bool) (old : R → X) (new : Q → 
     → (n : ℕ) (d : R) (e : Q) → among n ≡ true → (new (get_or to (slice_index image n) e) ≡ old (get_or from n d)) × (slice_index image n < length to)
 row_kept among old new from to image k n d e m =
     let at = k.same n (old d) m in
-    let lt : n < length from = omega (arith, k.there n m, length-map from old) in
     let less : slice_index image n < length to = omega (arith, at.within, length-map to new) in
-    (sym (get_or-map new to (slice_index image n) e (old d) less) ∙ at.is (old d) ∙ get_or-map old from n d (old d) lt, less)
+    (sym (get_or-map new to (slice_index image n) e (old d) less) ∙ at.is (old d) ∙ get_or-map old from n d (old d) (omega (arith, k.there n m, length-map from old)), less)
 
 -- an entry's numbers are among these, and its shorty is the text of its shorty
 pub record IsEntryAmong (t : Tables) (among : Among) (p : ProtoEntry) : Type 0 where
@@ -55,10 +49,9 @@ module _ (t : Tables) (among : Among) (texts : List Text) (strings : List ℕ) (
 
     pub protos_denote : (protos : List ProtoEntry) → All (IsEntryAmong t among) protos → Denote (proto_of_row texts types) (IsRowOf texts types) (map (stored_proto t) protos) (map (moved_proto strings images t.parameters) protos)
     protos_denote = denote (IsEntryAmong t among) (moved_proto strings images t.parameters) (stored_proto t) (proto_of_row texts types) (IsRowOf texts types) (λ p m.
-        let ns = span_of t.parameters p.parameters in
         let s = text_kept p.shorty m.shorty_among in
         let r = type_kept p.return_type m.return_among in
-        let ps = denote (λ n. among.types n ≡ true) (slice_index images) (type_of t.strings.items t.types.items) (type_of texts types) (λ n. n < length types) type_kept ns m.parameters_among in (
+        let ps = denote (λ n. among.types n ≡ true) (slice_index images) (type_of t.strings.items t.types.items) (type_of texts types) (λ n. n < length types) type_kept (span_of t.parameters p.parameters) m.parameters_among in (
           λ i. record { return_type = r.0 i; parameters = ps.same i },
           record { shorty_in = s.1; return_in = r.1; parameters_in = ps.within; shorty_is = s.0 ∙ m.shorty_is ∙ sym (λ i. shorty (r.0 i) (ps.same i)) },
         ))

@@ -1,9 +1,7 @@
 -- Numbers of rows are in the order of the symbols that the rows denote.
-use Rattle.dexpool.proofs.Common.{◌≡◌, ℕ, ◌<◌, ◌&&◌, true, List, [], ◌∷◌, length, get_or, refl, sym, ap, ◌∙◌, inl, inr, map, All, is_lt, nat_cmp, ordering_then, ordering_reverse, IsTotalOrder, nat_cmp_is, slice_cmp, Ordering, Less, Equal, Greater, cases_order, tied_itself, on_total, nat_list_cmp_total, get_or_default, All-head, All-tail, rises, Text, text_cmp, Rises-from_rises, Rises-places, text_total, FieldRow, MethodRow}
+use Rattle.dexpool.proofs.Common.{◌≡◌, ℕ, ◌<◌, ◌&&◌, true, List, [], ◌∷◌, length, get_or, refl, sym, ap, ◌∙◌, inl, inr, map, All, is_lt, nat_cmp, ordering_then, ordering_reverse, IsTotalOrder, nat_cmp_is, slice_cmp, Ordering, Less, Equal, Greater, cases_order, tied_itself, on_total, nat_list_cmp_total, get_or_default, All-head, All-tail, rises, Text, text_cmp, Rises-from_rises, Rises-places, text_total, FieldRow, MethodRow, ProtoEntry, IsEntryWithin, IsFieldWithin, IsMethodWithin, text_of, type_of, span_of, proto_of, field_of, proto_at, method_of, field_key, method_key, type_cmp}
 use Rattle.dexspec.specs.Symbols as symbols
-use Rattle.dexpool.specs.declared.rows.ProtoEntry.{ProtoEntry}
-use Rattle.dexpool.specs.internal.Renumbering.{IsEntryWithin, IsFieldWithin, IsMethodWithin}
-use Rattle.dexpool.specs.{text_of, type_of, span_of, proto_of, field_of, proto_at, method_of, proto_key, field_key, method_key, type_cmp, proto_cmp, field_cmp, method_cmp}
+use Rattle.dexpool.specs.{proto_key, proto_cmp, field_cmp, method_cmp}
 
 -- ---- any list
 
@@ -25,34 +23,24 @@ module _ {X Y : Type 0} (R : X → X → Ordering) (S : Y → Y → Ordering) (f
   pub rises-map : (xs : List X) → All P xs → rises R xs ≡ rises S (map f xs)
   rises-map [] h = refl
   rises-map (x ∷ []) h = refl
-  rises-map (x ∷ y ∷ ys) h =
-      let t = All-tail P x (y ∷ ys) h in
-      let e : R x y ≡ S (f x) (f y) = same x y (All-head P x (y ∷ ys) h) (All-head P y ys t) in
-      let r : rises R (y ∷ ys) ≡ rises S (map f (y ∷ ys)) = rises-map (y ∷ ys) t in
-      λ i. is_lt (e i) && r i
+  rises-map (x ∷ y ∷ ys) h = let t = All-tail P x (y ∷ ys) h in λ i. is_lt ((same x y (All-head P x (y ∷ ys) h) (All-head P y ys t)) i) && (rises-map (y ∷ ys) t) i
 
   -- and are in the same order
   pub slices-map : (xs ys : List X) → All P xs → All P ys → slice_cmp R xs ys ≡ slice_cmp S (map f xs) (map f ys)
   slices-map [] [] h k = refl
   slices-map [] (y ∷ ys) h k = refl
   slices-map (x ∷ xs) [] h k = refl
-  slices-map (x ∷ xs) (y ∷ ys) h k =
-      let e : R x y ≡ S (f x) (f y) = same x y (All-head P x xs h) (All-head P y ys k) in
-      let r : slice_cmp R xs ys ≡ slice_cmp S (map f xs) (map f ys) = slices-map xs ys (All-tail P x xs h) (All-tail P y ys k) in
-      λ i. ordering_then (e i) (r i)
+  slices-map (x ∷ xs) (y ∷ ys) h k = λ i. ordering_then ((same x y (All-head P x xs h) (All-head P y ys k)) i) ((slices-map xs ys (All-tail P x xs h) (All-tail P y ys k)) i)
 
 -- ---- the numbers of a row
 
 then_equal : (o : Ordering) → ordering_then o Equal ≡ o
 then_equal Less = refl
-then_equal Equal = refl
-then_equal Greater = refl
+then_equal _ = refl
 
 -- three numbers decide one after the other
 three_keys : {o o' p p' q q' : Ordering} → o ≡ o' → p ≡ p' → q ≡ q' → ordering_then o (ordering_then p (ordering_then q Equal)) ≡ ordering_then o' (ordering_then p' q')
-three_keys {o} {o'} {p} {p'} {q} {q'} e f g =
-    let h : ordering_then q Equal ≡ q' = then_equal q ∙ g in
-    λ i. ordering_then (e i) (ordering_then (f i) (h i))
+three_keys {o} {o'} {p} {p'} {q} {q'} e f g = λ i. ordering_then (e i) (ordering_then (f i) ((then_equal q ∙ g) i))
 
 -- the orders of rows are total
 pub type_total : IsTotalOrder type_cmp
@@ -89,10 +77,9 @@ module _ (texts : List Text) (texts_rise : rises text_cmp texts ≡ true) where
     pub proto_rows_agree : (ps : List ℕ) (p q : ProtoEntry) → IsEntryWithin (length texts) (length types) ps p → IsEntryWithin (length texts) (length types) ps q
         → proto_cmp ps p q ≡ symbols.proto_cmp (proto_of texts types ps p) (proto_of texts types ps q)
     proto_rows_agree ps p q h k =
-        let e : nat_cmp p.return_type q.return_type ≡ text_cmp (type_of texts types p.return_type) (type_of texts types q.return_type) = types_agree p.return_type q.return_type h.return_in k.return_in in
         let r : slice_cmp nat_cmp (span_of ps p.parameters) (span_of ps q.parameters) ≡ slice_cmp text_cmp (map (type_of texts types) (span_of ps p.parameters)) (map (type_of texts types) (span_of ps q.parameters)) =
         slices-map nat_cmp text_cmp (type_of texts types) (λ n. n < length types) types_agree (span_of ps p.parameters) (span_of ps q.parameters) h.parameters_in k.parameters_in in
-        λ i. ordering_then (e i) (r i)
+        λ i. ordering_then ((types_agree p.return_type q.return_type h.return_in k.return_in) i) (r i)
 
     -- a table of protos rises by numbers as by texts
     pub protos_rise_equally : (ps : List ℕ) (protos : List ProtoEntry) → All (IsEntryWithin (length texts) (length types) ps) protos → rises (proto_cmp ps) protos ≡ rises symbols.proto_cmp (map (proto_of texts types ps) protos)

@@ -1,9 +1,7 @@
 -- Rows of protos.
-use Rattle.dexpool.proofs.Common.{◌≡◌, ℕ, zero, suc, ◌<◌, List, [], ◌∷◌, length, get_or, sym, ap, ◌∙◌, subst, arith, inl, inr, map, All, AllZip, Text, IsValueType, shorty, shorty_letter, OrNone, Proto, ProtoIds, table_size, row_at, StringRow, TypeRow, TypeListAt, type_indices, HasProto, proto_row_key, one_string, one_type, Condition}
+use Rattle.dexpool.proofs.Common.{◌≡◌, ℕ, zero, suc, ◌<◌, List, [], ◌∷◌, length, get_or, sym, ap, ◌∙◌, subst, arith, inl, inr, map, All, AllZip, Text, IsValueType, shorty, shorty_letter, OrNone, Proto, ProtoIds, table_size, StringRow, TypeRow, TypeListAt, proto_row_key, one_string, one_type, Condition, ProtoEntry, type_of, span_of, proto_of, IsText, IsType, HasIndices, ProtoRowAt, IsListed, AllTypes, listed, file_numbers, DecidesNext}
 use Rattle.dexspec.specs.Rows as rows
-use Rattle.dexpool.specs.declared.rows.ProtoEntry.{ProtoEntry}
-use Rattle.dexpool.specs.{type_of, span_of, proto_of, proto_key, proto_cmp, IsText, IsType, HasIndices, ProtoRowAt, IsListed, AllTypes, listed, file_numbers}
-use Rattle.dexpool.specs.internal.ReadRows.{DecidesNext}
+use Rattle.dexpool.specs.{proto_key, proto_cmp}
 use Rattle.dexpool.proofs.Steps.{decided}
 use Rattle.dexpool.proofs.TypeLists.{listed_is}
 
@@ -24,9 +22,7 @@ all_types b texts types o (inr some) k d lt = zip_map_at (TypeRow b) (type_of te
 pub shorty_same : (b : List ℕ) (i n m off l : ℕ) (p : Proto) (s t : Text) → HasIndices b i n m off → rows.ProtoRow b i p → StringRow b n s → TypeRow b m t → l ≡ shorty_letter t → s ≡ l ∷ map shorty_letter p.parameters
 shorty_same b i n m off l p s t at h sr tr letter =
     let return_type : p.return_type ≡ t = one_type b m _ _ (subst (λ k. TypeRow b k p.return_type) at.return_is h.return_type) tr in
-    let text : s ≡ shorty p.return_type p.parameters = one_string b n _ _ sr (subst (λ k. StringRow b k (shorty p.return_type p.parameters)) at.shorty_is h.shorty) in
-    let first : shorty_letter p.return_type ≡ l = ap shorty_letter return_type ∙ sym letter in
-    text ∙ ap (λ (k : ℕ). k ∷ map shorty_letter p.parameters) first
+    (one_string b n _ _ sr (subst (λ k. StringRow b k (shorty p.return_type p.parameters)) at.shorty_is h.shorty)) ∙ ap (λ (k : ℕ). k ∷ map shorty_letter p.parameters) (ap shorty_letter return_type ∙ sym letter)
 
 -- a row that is read
 pub is_at_there : (b : List ℕ) (texts : List Text) (types : List ℕ) (i off : ℕ) (p : ProtoEntry) (s t : Text) → i < table_size b ProtoIds → HasIndices b i p.shorty p.return_type off
@@ -35,12 +31,7 @@ is_at_there b texts types i off p s t lt at sr tr ps is =
     let list : map (type_of texts types) (listed b off) ≡ map (type_of texts types) (span_of (file_numbers b) p.parameters) = ap (map (type_of texts types)) (sym ps.is) in
     let text : s ≡ shorty (type_of texts types p.return_type) (map (type_of texts types) (span_of (file_numbers b) p.parameters)) = is ∙ ap (λ (r : Text). shorty r (map (type_of texts types) (span_of (file_numbers b) p.parameters))) tr.is in
     record {
-      numbers = record {
-        shorty = at.shorty_is;
-        return_type = at.return_is;
-        parameters_are = ap (listed b) at.off_is ∙ sym ps.is;
-        span = ps.span;
-      };
+      numbers = record { shorty = at.shorty_is; return_type = at.return_is; parameters_are = ap (listed b) at.off_is ∙ sym ps.is; span = ps.span };
       is = record {
         row = lt;
         shorty = subst (λ k. StringRow b k (shorty (type_of texts types p.return_type) (map (type_of texts types) (span_of (file_numbers b) p.parameters)))) (sym at.shorty_is) (subst (StringRow b p.shorty) text sr.row);

@@ -1,8 +1,6 @@
 -- A rank found by halving: of numbers that pass a test and come first, the count is the rank.
-use Rattle.dexpool.proofs.Common.{◌≡◌, ℕ, zero, suc, ◌+◌, ◌<◌, ◌≤◌, true, false, List, [], ◌∷◌, length, get_or, map, drop, min, add-one, refl, sym, ap, ◌∙◌, subst, arith, inl, inr, Ordering, Less, Equal, Greater, is_lt, nat_cmp, ordering_then, slice_cmp, IsTotalOrder, nat_cmp_is, cases_order, All, AllZip, All-nil, All-cons, rises, rank, less_is, rank-cons, Rises-from_rises, Rises-places}
+use Rattle.dexpool.proofs.Common.{◌≡◌, ℕ, zero, suc, ◌+◌, ◌<◌, ◌≤◌, true, false, List, [], ◌∷◌, length, get_or, map, drop, min, add-one, refl, sym, ap, ◌∙◌, subst, arith, inl, inr, Ordering, Less, Equal, Greater, is_lt, nat_cmp, ordering_then, slice_cmp, IsTotalOrder, nat_cmp_is, cases_order, All, AllZip, All-nil, All-cons, rises, rank, less_is, rank-cons, Rises-from_rises, Rises-places, ComeFirst, PassBelow, IsAt}
 use Rattle.std.proofs.Math.Seq.{drop-cons}
-use Rattle.dexpool.specs.internal.Ranking.{ComeFirst, PassBelow}
-use Rattle.dexpool.specs.{IsAt}
 
 -- ---- the rank
 
@@ -33,9 +31,8 @@ after_tie a b e = ap (λ c. ordering_then c b) e
 
 -- what is no tie decides
 pub decided : (a b : Ordering) → (a ≡ Equal → ⊥) → ordering_then a b ≡ a
-decided Less b h = refl
 decided Equal b h = absurd (h refl)
-decided Greater b h = refl
+decided _ b h = refl
 
 -- the first order decides
 pub by_first : (r a b : Ordering) → r ≡ a → (r ≡ Equal → ⊥) → r ≡ ordering_then a b
@@ -75,13 +72,11 @@ module _ {X : Type 0} (R : X → X → Ordering) (f : ℕ → X) where
 -- what numbers denote is the members at these numbers
 pub listed_at : {X : Type 0} (xs : List X) (d : X) (ns : List ℕ) (ts : List X) → AllZip (IsAt xs) ns ts → map (λ n. get_or xs n d) ns ≡ ts
 listed_at xs d [] [] h = refl
-listed_at xs d [] (t ∷ ts) h = absurd h
-listed_at xs d (n ∷ ns) [] h = absurd h
 listed_at xs d (n ∷ ns) (t ∷ ts) h = λ i. h.0.is d i ∷ listed_at xs d ns ts h.1 i
+listed_at xs d _ _ h = absurd h
 
 -- they are numbers of the list
 pub listed_within : {X : Type 0} (xs : List X) (ns : List ℕ) (ts : List X) → AllZip (IsAt xs) ns ts → All (λ n. n < length xs) ns
 listed_within xs [] [] h = All-nil (λ n. n < length xs)
-listed_within xs [] (t ∷ ts) h = absurd h
-listed_within xs (n ∷ ns) [] h = absurd h
 listed_within xs (n ∷ ns) (t ∷ ts) h = All-cons (λ n. n < length xs) n ns h.0.within (listed_within xs ns ts h.1)
+listed_within xs _ _ h = absurd h

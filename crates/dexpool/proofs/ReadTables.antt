@@ -1,8 +1,6 @@
 -- Tables that are read rise, and their rows are in range.
-use Rattle.dexpool.proofs.Common.{◌≡◌, ℕ, suc, ◌+◌, ◌<◌, true, List, [], ◌∷◌, length, get_or, refl, sym, ap, ◌∙◌, subst, arith, map, All, is_lt, Ordering, Less, get_or-map, length-map, rises, OrNone, Text, text_cmp, IsValueType, uint_at, ProtoIds, key_cmp, row_at, Follows, TypeListAt, type_row_key, proto_row_key, field_row_key, method_row_key, HasType, HasProto, HasField, HasMethod, and_both, one_string, FieldRow, MethodRow}
-use Rattle.dexpool.specs.declared.rows.ProtoEntry.{ProtoEntry}
-use Rattle.dexpool.specs.declared.tables.Tables.{Tables}
-use Rattle.dexpool.specs.{type_of, span_of, proto_key, field_key, method_key, ReadTo, AreTexts, AreNames, AreProtos, TypeRowAt, ProtoRowAt, FieldRowAt, MethodRowAt, listed, IsTypeNumber, IsTypeOf, IsProtoEntry, IsFieldRow, IsMethodRow, AreTables}
+use Rattle.dexpool.proofs.Common.{◌≡◌, ℕ, suc, ◌+◌, ◌<◌, true, List, [], ◌∷◌, length, get_or, refl, sym, ap, ◌∙◌, subst, arith, map, All, is_lt, Ordering, Less, get_or-map, length-map, rises, OrNone, Text, text_cmp, IsValueType, uint_at, ProtoIds, key_cmp, row_at, Follows, TypeListAt, type_row_key, proto_row_key, field_row_key, method_row_key, HasType, HasProto, HasField, HasMethod, and_both, one_string, FieldRow, MethodRow, ProtoEntry, Tables, type_of, field_key, method_key, ReadTo, AreTexts, AreNames, AreProtos, TypeRowAt, ProtoRowAt, FieldRowAt, MethodRowAt, listed, IsTypeNumber, IsTypeOf, IsProtoEntry, IsFieldRow, IsMethodRow, AreTables}
+use Rattle.dexpool.specs.{proto_key}
 use Rattle.dexpool.proofs.AllPools.{AreRead}
 use Rattle.dexpool.proofs.Steps.{text_row, type_key_is}
 use Rattle.dexpool.proofs.ProtoRows.{all_types, proto_key_is}
@@ -13,25 +11,22 @@ use Rattle.dexpool.proofs.MethodRows.{method_key_is}
 
 -- a list rises where each member is less than the next
 pub rises-next : {X : Type 0} (R : X → X → Ordering) (xs : List X) (d : X) → ((j : ℕ) → suc j < length xs → R (get_or xs j d) (get_or xs (suc j) d) ≡ Less) → rises R xs ≡ true
-rises-next R [] d h = refl
-rises-next R (x ∷ []) d h = refl
 rises-next R (x ∷ y ∷ ys) d h = and_both (is_lt (R x y)) (rises R (y ∷ ys)) (ap is_lt (h 0 (omega arith))) (rises-next R (y ∷ ys) d (λ j lt. h (suc j) (omega arith)))
+rises-next _ _ d h = refl
 
 -- texts of rows that follow one another
 texts_rise : (b : List ℕ) (texts : List Text) → AreTexts b texts → rises text_cmp texts ≡ true
 texts_rise b texts h = rises-next text_cmp texts [] (λ j lt.
     let holds = h.held (suc j) (omega (arith, lt, h.count)) in
-    let same : holds.text ≡ get_or texts (suc j) [] = one_string b (suc j) _ _ holds.is (h.each (suc j) [] (omega (arith, lt, h.count))) in
-    subst (λ s. text_cmp (get_or texts j []) s ≡ Less) same (holds.follows j (get_or texts j []) (omega arith) (h.each j [] (omega (arith, lt, h.count)))))
+    subst (λ s. text_cmp (get_or texts j []) s ≡ Less) (one_string b (suc j) _ _ holds.is (h.each (suc j) [] (omega (arith, lt, h.count)))) (holds.follows j (get_or texts j []) (omega arith) (h.each j [] (omega (arith, lt, h.count)))))
 
 -- rows whose keys follow one another
 module _ {X : Type 0} (Row : List ℕ → ℕ → X → Type 0) (Holds : List ℕ → ℕ → Type 0) (b : List ℕ) (key : List ℕ → ℕ → List ℕ) (key_of : X → List ℕ) (same : (k : ℕ) (x : X) → Row b k x → key b k ≡ key_of x)
     (follows : (k : ℕ) → Holds b k → Follows key b k) where
   rows_rise : (xs : List X) (n : ℕ) (d : X) → ReadTo Row Holds b xs n → rises (λ x y. key_cmp (key_of x) (key_of y)) xs ≡ true
   rows_rise xs n d h = rises-next (λ x y. key_cmp (key_of x) (key_of y)) xs d (λ j lt.
-      let less = follows (suc j) (h.held (suc j) (omega (arith, lt, h.count))) j (omega arith) in
       ap (λ (k : List ℕ). key_cmp k (key_of (get_or xs (suc j) d))) (sym (same j (get_or xs j d) (h.each j d (omega (arith, lt, h.count)))))
-      ∙ ap (key_cmp (key b j)) (sym (same (suc j) (get_or xs (suc j) d) (h.each (suc j) d (omega (arith, lt, h.count))))) ∙ less)
+      ∙ ap (key_cmp (key b j)) (sym (same (suc j) (get_or xs (suc j) d) (h.each (suc j) d (omega (arith, lt, h.count))))) ∙ (follows (suc j) (h.held (suc j) (omega (arith, lt, h.count))) j (omega arith)))
 
 -- ---- rows are in range
 
@@ -50,18 +45,14 @@ module _ (b : List ℕ) (t : Tables) (names : AreNames b t.strings.items t.types
   proto_entry : (k : ℕ) (p : ProtoEntry) → ProtoRowAt t.strings.items t.types.items t.parameters b k p → IsProtoEntry t p
   proto_entry k p s =
       let type = type_of t.strings.items t.types.items in
-      let ns = span_of t.parameters p.parameters in
       let o = uint_at b (row_at b ProtoIds k + 8) in
-      let list : OrNone TypeListAt [] b o (map type ns) = s.is.parameters in
-      let listed_types = all_types b t.strings.items t.types.items o (subst (λ (l : List ℕ). OrNone TypeListAt [] b o (map type l)) (sym s.numbers.parameters_are) list) in
-      let values : All IsValueType (map type (listed b o)) = subst (λ (l : List ℕ). All IsValueType (map type l)) (sym s.numbers.parameters_are) s.is.values in
       let shorty_in : p.shorty < length t.strings.items = omega (arith, s.is.shorty.row, s.numbers.shorty, names.texts_are.count) in
       record {
         span = s.numbers.span;
         return_in = omega (arith, s.is.return_type.row, s.numbers.return_type, names.types_are.count);
         parameters_in = subst (All (IsTypeOf IsValueType t)) s.numbers.parameters_are (λ i d lt. record {
-          type_in = omega (arith, (listed_types i d lt).row, names.types_are.count);
-          is = subst IsValueType (get_or-map type (listed b o) i d (type d) lt) (values i (type d) (omega (arith, lt, length-map (listed b o) type)));
+          type_in = omega (arith, ((all_types b t.strings.items t.types.items o (subst (λ (l : List ℕ). OrNone TypeListAt [] b o (map type l)) (sym s.numbers.parameters_are) s.is.parameters)) i d lt).row, names.types_are.count);
+          is = subst IsValueType (get_or-map type (listed b o) i d (type d) lt) ((subst (λ (l : List ℕ). All IsValueType (map type l)) (sym s.numbers.parameters_are) s.is.values) i (type d) (omega (arith, lt, length-map (listed b o) type)));
         });
         shorty_in = shorty_in;
         shorty_is = one_string b _ _ _ (text_row b t.strings.items p.shorty _ names.texts_are shorty_in s.numbers.shorty) s.is.shorty;

@@ -1,7 +1,5 @@
 -- Which condition fails first.
-use Rattle.dexpool.proofs.Common.{◌≡◌, ℕ, ◌+◌, ◌-◌, ◌<◌, List, [], ◌∷◌, get_or, refl, sym, ap, ◌∙◌, subst, arith, inl, inr, rules, cases_lt, Condition, number, rows_checked, Holds, HoldsThroughout, HoldBelow}
-use Rattle.dexpool.specs.{IsPoolRefusal}
-use Rattle.dexpool.specs.internal.ReadRows.{IsOfPools}
+use Rattle.dexpool.proofs.Common.{◌≡◌, ℕ, ◌+◌, ◌-◌, ◌<◌, List, [], ◌∷◌, get_or, refl, sym, ap, ◌∙◌, subst, arith, inl, inr, rules, cases_lt, Condition, number, rows_checked, Holds, HoldsThroughout, HoldBelow, IsPoolRefusal, IsOfPools}
 
 -- the conditions in the order of their numbers
 abbrev conditions : List Condition

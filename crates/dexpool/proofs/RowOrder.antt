@@ -1,16 +1,11 @@
 -- Rows whose numbers are replaced in their order stay sorted: what the law of rows says of each kind, in joins and in
 -- cuts.
-use Rattle.dexpool.proofs.Common.{◌≡◌, ℕ, Bool, true, false, List, [], ◌∷◌, length, get_or, map, Option, Some, None, refl, sym, ap, ◌∙◌, subst, arith, ltb-true, slice_index, All, IsTotalOrder, Ordering, get_or-map, All-map, All-weaker, rises, Text, text_cmp, text_total, proto_total, row_cmp, AreSorted, Among, Lower, RisesOn, RiseAmong, ProtoNumbers, FieldRow, MethodRow}
+use Rattle.dexpool.proofs.Common.{◌≡◌, ℕ, Bool, true, false, List, [], ◌∷◌, length, get_or, map, Option, Some, None, refl, sym, ap, ◌∙◌, subst, arith, ltb-true, slice_index, All, IsTotalOrder, Ordering, get_or-map, All-map, All-weaker, rises, Text, text_cmp, text_total, proto_total, row_cmp, AreSorted, Among, Lower, RisesOn, RiseAmong, ProtoNumbers, FieldRow, MethodRow, ProtoEntry, Tables, Marks, text_of, proto_of, span_of, type_cmp, field_key, method_key, symbols_in, AreTables, StaySorted, numbers_of, moved_type, moved_proto, moved_field, moved_method, Moves, new_numbers}
 use Rattle.dexspec.specs.Symbols as symbols
 use Rattle.dexrows.specs.declared.types.TypeRow.{TypeRow}
 use Rattle.dexpool.proofs.KeptPlaces.{marked_has}
-use Rattle.dexpool.specs.declared.rows.ProtoEntry.{ProtoEntry}
-use Rattle.dexpool.specs.declared.tables.Tables.{Tables}
-use Rattle.dexpool.specs.declared.marks.Marks.{Marks}
-use Rattle.dexpool.specs.{text_of, proto_of, span_of, type_cmp, proto_cmp, field_key, method_key, symbols_in, AreTables}
-use Rattle.dexpool.specs.internal.Renumbering.{StaySorted, numbers_of, moved_type, moved_proto, moved_field, moved_method}
-use Rattle.dexpool.specs.internal.Joining.{Moves, proto_key}
-use Rattle.dexpool.specs.internal.Closing.{new_numbers}
+use Rattle.dexpool.specs.{proto_cmp}
+use Rattle.dexpool.specs.internal.Joining.{proto_key}
 use Rattle.dexpool.proofs.KeptRows.{is_marked, mark_within, new_number, places_keep}
 use Rattle.dexpool.proofs.Mapping.{maps_to}
 use Rattle.dexpool.proofs.Moved.{IsEntryAmong, has_image, have_images, types_among, types_count, protos_among, fields_among, protos_count, methods_among}

@@ -1,18 +1,12 @@
 -- The numbers of a row are those of its symbol's parts.
-use Rattle.dexpool.proofs.Common.{◌≡◌, ℕ, ◌<◌, List, [], ◌∷◌, length, get_or, sym, ap, ◌∙◌, subst, arith, map, All, AllZip, get_or-map, get_or_default, length-map, All-head, All-tail, IsValueType, Proto, ProtoNumbers}
-use Rattle.dexpool.specs.declared.rows.ProtoEntry.{ProtoEntry}
-use Rattle.dexpool.specs.declared.tables.Tables.{Tables}
-use Rattle.dexpool.specs.{text_of, type_of, span_of, proto_of, symbols_in, IsTypeOf, IsProtoEntry, AreTables, IsAt, DenotesProto}
+use Rattle.dexpool.proofs.Common.{◌≡◌, ℕ, ◌<◌, List, [], ◌∷◌, length, get_or, sym, ap, ◌∙◌, subst, arith, map, All, AllZip, get_or-map, get_or_default, length-map, All-head, All-tail, IsValueType, Proto, ProtoNumbers, ProtoEntry, Tables, text_of, type_of, span_of, proto_of, symbols_in, IsTypeOf, IsProtoEntry, AreTables, IsAt, DenotesProto}
 
 module _ (t : Tables) (h : AreTables t) where
   pub text_at : (n : ℕ) → n < length t.strings.items → IsAt t.strings.items n (text_of t.strings.items n)
   text_at n lt = record { within = lt; is = λ d. get_or_default t.strings.items n d [] lt }
 
   pub type_at : (n : ℕ) → n < length t.types.items → IsAt (symbols_in t).types n (type_of t.strings.items t.types.items n)
-  type_at n lt = record {
-    within = omega (arith, lt, length-map t.types.items (text_of t.strings.items));
-    is = λ d. get_or-map (text_of t.strings.items) t.types.items n 0 d lt;
-  }
+  type_at n lt = record { within = omega (arith, lt, length-map t.types.items (text_of t.strings.items)); is = λ d. get_or-map (text_of t.strings.items) t.types.items n 0 d lt }
 
   pub types_at : (ns : List ℕ) → All (IsTypeOf IsValueType t) ns → AllZip (IsAt (symbols_in t).types) ns (map (type_of t.strings.items t.types.items) ns)
   types_at [] k = tt
@@ -31,6 +25,5 @@ module _ (t : Tables) (h : AreTables t) where
       → DenotesProto (symbols_in t) r (get_or (symbols_in t).protos i d)
   row_encoded i p r d small at is =
       let lt : i < length t.protos.items = omega (arith, small, length-map t.protos.items (proto_of t.strings.items t.types.items t.parameters)) in
-      let entry = subst (IsProtoEntry t) (sym at) (h.protos_at_ranks i p lt) in
       let proto : proto_of t.strings.items t.types.items t.parameters p ≡ get_or (symbols_in t).protos i d = ap (proto_of t.strings.items t.types.items t.parameters) at ∙ sym (get_or-map (proto_of t.strings.items t.types.items t.parameters) t.protos.items i p d lt) in
-      subst (λ (x : Proto). DenotesProto (symbols_in t) r x) proto (subst (λ (x : ProtoNumbers). DenotesProto (symbols_in t) x (proto_of t.strings.items t.types.items t.parameters p)) (sym is) (entry_encoded p entry))
+      subst (λ (x : Proto). DenotesProto (symbols_in t) r x) proto (subst (λ (x : ProtoNumbers). DenotesProto (symbols_in t) x (proto_of t.strings.items t.types.items t.parameters p)) (sym is) (entry_encoded p (subst (IsProtoEntry t) (sym at) (h.protos_at_ranks i p lt))))

@@ -1,7 +1,5 @@
 -- Tables of the same rows denote the same.
-use Rattle.dexpool.proofs.Common.{◌≡◌, subst, All, IsDescriptor, IsProto, IsField, IsMethod, Mentions}
-use Rattle.dexpool.specs.declared.tables.Tables.{Tables}
-use Rattle.dexpool.specs.{symbols_of, symbols_in, AreTables}
+use Rattle.dexpool.proofs.Common.{◌≡◌, subst, All, IsDescriptor, IsProto, IsField, IsMethod, Mentions, Tables, symbols_of, symbols_in, AreTables}
 use Rattle.dexpool.proofs.TablesAreAt.{types_in, protos_in, fields_in, methods_in, are_numbering, tables_made}
 
 -- the tables have the same rows

@@ -1,25 +1,16 @@
 -- Parts of lists of parameters that have the numbers of other parts, and their images.
-use Rattle.dexpool.proofs.Common.{◌≡◌, ℕ, ◌+◌, ◌-◌, ◌<◌, List, [], ◌∷◌, ◌++◌, length, get_or, map, take, drop, sym, ap, ◌∙◌, subst, arith, slice_index, All, length-map, length-take, length-drop, take-map, drop-map, drop-drop, drop-take, take-take, map_more, map-append, All-weaker, All-push, All-more}
-use Rattle.dexpool.specs.declared.rows.Span.{Span}
-use Rattle.dexpool.specs.declared.rows.ProtoEntry.{ProtoEntry}
-use Rattle.dexpool.specs.{span_of, HasSpan}
-use Rattle.dexpool.specs.internal.Renumbering.{numbers_of, moved_proto}
-use Rattle.dexpool.specs.internal.SharedLists.{Covers, IsPlaceWithin}
+use Rattle.dexpool.proofs.Common.{◌≡◌, ℕ, ◌+◌, ◌-◌, ◌<◌, List, [], ◌∷◌, ◌++◌, length, get_or, map, take, drop, sym, ap, ◌∙◌, subst, arith, slice_index, All, length-map, length-take, length-drop, take-map, drop-map, drop-drop, drop-take, take-take, map_more, map-append, All-weaker, All-push, All-more, Span, ProtoEntry, span_of, HasSpan, numbers_of, moved_proto, Covers, IsPlaceWithin}
 
 -- ---- what covers a part
 
 pub covers_through : (a b c : Span) → Covers a b → Covers b c → Covers a c
-covers_through a b c f g lt =
-    let inner = g lt in
-    let outer = f (omega (arith, inner.0, inner.1, lt)) in
-    (omega (arith, outer.0, inner.0), omega (arith, outer.1, inner.1))
+covers_through a b c f g lt = let inner = g lt in let outer = f (omega (arith, inner.0, inner.1, lt)) in (omega (arith, outer.0, inner.0), omega (arith, outer.1, inner.1))
 
 -- one row more
 pub covers_more : (old new : Span) (ps : List ProtoEntry) (i : ℕ) (d : ProtoEntry) → i < length ps → Covers new old → Covers new (get_or ps i d).parameters → All (λ q. Covers old q.parameters) (take i ps) → All (λ q. Covers new q.parameters) (take (i + 1) ps)
 covers_more old new ps i d lt f g h =
     let Old : ProtoEntry → Type 0 = λ q. Covers old q.parameters in
-    let New : ProtoEntry → Type 0 = λ q. Covers new q.parameters in
-    All-more New ps i d lt (All-weaker Old New (λ q. covers_through new old q.parameters f) (take i ps) h) g
+    let New : ProtoEntry → Type 0 = λ q. Covers new q.parameters in All-more New ps i d lt (All-weaker Old New (λ q. covers_through new old q.parameters f) (take i ps) h) g
 
 -- ---- places in a part
 
@@ -59,8 +50,7 @@ module _ (strings types ps moved : List ℕ) (range : Span) (in_range : HasSpan 
 
     row_moved : numbers_of moved row ≡ moved_proto strings types ps (get_or protos i d)
     row_moved =
-        let p = get_or protos i d in
-        let own : span_of moved row.parameters ≡ map (slice_index types) (span_of ps p.parameters) =
+        let own : span_of moved row.parameters ≡ map (slice_index types) (span_of ps (get_or protos i d).parameters) =
         ap (λ (l : List ℕ). span_of l row.parameters) images ∙ span_of-map (slice_index types) (span_of ps range) row.parameters ∙ ap (map (slice_index types)) (place.same ps in_range h) in
         λ i. record { shorty = shorty i; return_type = back i; parameters = own i }
 

@@ -1,19 +1,14 @@
 -- Lists of types whose letters a text spells.
-use Rattle.dexpool.proofs.Common.{◌≡◌, ◌≢◌, ℕ, ◌<◌, List, [], ◌∷◌, length, get_or, refl, sym, ap, ◌∙◌, subst, arith, inl, inr, map, All, AllZip, cases_lt, cases_eq, get_or-map, get_or_past, length-map, All-nil, All-cons, All-head, All-tail, Text, IsValueType, shorty_letter, OrNone, TypeRow, TypeListAt, one_type, IsAscii}
-use Rattle.dexpool.specs.declared.rows.Span.{Span}
-use Rattle.dexpool.specs.declared.checked_lists.CheckedList.{CheckedList}
-use Rattle.dexpool.specs.{text_of, type_of, span_of, AreNames, IsParameter, IsPlaced, file_numbers, listed, letters_of}
-use Rattle.dexpool.specs.internal.CheckedLists.{AreLetters, letter_in, letters_in, NoVoid, IsSpelled, IsChecked, NotListedAs}
+use Rattle.dexpool.proofs.Common.{◌≡◌, ◌≢◌, ℕ, ◌<◌, List, [], ◌∷◌, length, get_or, refl, sym, ap, ◌∙◌, subst, arith, inl, inr, map, All, AllZip, cases_lt, cases_eq, get_or-map, get_or_past, length-map, All-nil, All-cons, All-head, All-tail, Text, IsValueType, shorty_letter, OrNone, TypeRow, TypeListAt, one_type, IsAscii, Span, CheckedList, text_of, type_of, span_of, AreNames, IsParameter, IsPlaced, file_numbers, listed, letters_of, AreLetters, letter_in, letters_in, NoVoid, IsSpelled, IsChecked, NotListedAs}
 use Rattle.dexpool.proofs.FirstUnits.{letter_void, void_letter, letters_ascii}
 use Rattle.dexpool.proofs.TypeLists.{listed_is}
 
 -- a list that was checked, whose shorty is the same
 pub known_checked : (b : List ℕ) (texts : List Text) (types : List ℕ) (o : ℕ) (known j : CheckedList) → IsChecked b texts types o known → IsPlaced b o j.span → known.shorty ≡ j.shorty → known.letter ≡ j.letter → IsChecked b texts types o j
 known_checked b texts types o known j h placed number letter =
-    let same : span_of (file_numbers b) known.span ≡ span_of (file_numbers b) j.span = h.listed.is ∙ sym placed.is in
     record {
       listed = record { parameters = h.listed.parameters; span = placed.span; is = placed.is };
-      shorty = ap (text_of texts) (sym number) ∙ h.shorty ∙ (λ i. letter i ∷ letters_of texts types (same i));
+      shorty = ap (text_of texts) (sym number) ∙ h.shorty ∙ (λ i. letter i ∷ letters_of texts types ((h.listed.is ∙ sym placed.is) i));
     }
 
 listed_zip : (b : List ℕ) (o : ℕ) (ts : List Text) → OrNone TypeListAt [] b o ts → AllZip (TypeRow b) (listed b o) ts
@@ -50,9 +45,7 @@ module _ (b : List ℕ) (texts : List Text) (types letters : List ℕ) (names : 
   spelled_letters : (ns : List ℕ) → NoVoid letters ns → letters_in letters ns ≡ letters_of texts types ns
   spelled_letters [] h = refl
   spelled_letters (n ∷ ns) h =
-      let first = letter_is n (names_type n (All-head (λ m. letter_in letters m ≢ 0x56) n ns h)) in
-      let rest = spelled_letters ns (All-tail (λ m. letter_in letters m ≢ 0x56) n ns h) in
-      λ i. first i ∷ rest i
+      λ i. (letter_is n (names_type n (All-head (λ m. letter_in letters m ≢ 0x56) n ns h))) i ∷ (spelled_letters ns (All-tail (λ m. letter_in letters m ≢ 0x56) n ns h)) i
 
   list_encoded : (o : ℕ) (s : Span) → IsPlaced b o s → NoVoid letters (listed b o) → OrNone TypeListAt [] b o (map (type_of texts types) (listed b o))
   list_encoded o s placed h = elim (cases_eq o 0) [
@@ -72,11 +65,7 @@ module _ (b : List ℕ) (texts : List Text) (types letters : List ℕ) (names : 
   spelled_checked o j text ns placed is part h =
       let no_void : NoVoid letters (listed b o) = subst (NoVoid letters) (part ∙ placed.is) h.no_void in
       record {
-        listed = record {
-          parameters = record { list = list_encoded o j.span placed no_void; values = spelled_values (listed b o) no_void };
-          span = placed.span;
-          is = placed.is;
-        };
+        listed = record { parameters = record { list = list_encoded o j.span placed no_void; values = spelled_values (listed b o) no_void }; span = placed.span; is = placed.is };
         shorty = sym is ∙ h.text_is ∙ ap (λ (l : List ℕ). j.letter ∷ l) (spelled_letters ns h.no_void ∙ ap (letters_of texts types) part);
       }
 
@@ -85,9 +74,8 @@ module _ (b : List ℕ) (texts : List Text) (types letters : List ℕ) (names : 
 
   rows_spelled : (ns : List ℕ) (ts : List Text) → AllZip (TypeRow b) ns ts → letters_in letters ns ≡ map shorty_letter ts
   rows_spelled [] [] h = refl
-  rows_spelled [] (t ∷ ts) h = absurd h
-  rows_spelled (n ∷ ns) [] h = absurd h
   rows_spelled (n ∷ ns) (t ∷ ts) h = let first = row_letter n t h.0 in let rest = rows_spelled ns ts h.1 in λ i. first i ∷ rest i
+  rows_spelled _ _ h = absurd h
 
   rows_no_void : (ns : List ℕ) (ts : List Text) → AllZip (TypeRow b) ns ts → All IsValueType ts → NoVoid letters ns
   rows_no_void [] ts h v = All-nil (λ m. letter_in letters m ≢ 0x56)

@@ -1,8 +1,5 @@
 -- Units that are the letters of numbers, one number after the other.
-use Rattle.dexpool.proofs.Common.{◌≡◌, ◌≢◌, ◌↔◌, ℕ, ◌+◌, ◌<◌, Bool, true, false, List, ◌∷◌, ◌-◌, ◌≤◌, not, length, get_or, take, drop, slice_index, ap, refl, subst, sym, ◌∙◌, arith, IsTrue, All, false≢true, drop_more, drop_all, take-map, drop-map, length-map, All-nil, All-cons, All-head, All-tail, All-map, all_seen}
-use Rattle.dexpool.specs.declared.rows.Span.{Span}
-use Rattle.dexpool.specs.{span_of, HasSpan}
-use Rattle.dexpool.specs.internal.CheckedLists.{letter_in, letters_in, IsNotVoid, IsLetter, SpellNumbers, IsSpelled, IsShorty}
+use Rattle.dexpool.proofs.Common.{◌≡◌, ◌≢◌, ◌↔◌, ℕ, ◌+◌, ◌<◌, Bool, true, false, List, ◌∷◌, ◌-◌, ◌≤◌, not, length, get_or, take, drop, slice_index, ap, refl, subst, sym, ◌∙◌, arith, IsTrue, All, false≢true, drop_more, drop_all, take-map, drop-map, length-map, All-nil, All-cons, All-head, All-tail, All-map, all_seen, Span, span_of, HasSpan, letter_in, letters_in, IsNotVoid, IsLetter, SpellNumbers, IsSpelled, IsShorty}
 
 module _ (letters : List ℕ) where
   spell_first : (u n : ℕ) (us ns : List ℕ) → SpellNumbers letters (u ∷ us) (n ∷ ns) → IsLetter letters n u
@@ -26,8 +23,7 @@ module _ (letters : List ℕ) where
     -- after a unit that is its number's letter, the rest decides
     pub spell_more : (r : Bool) → (IsTrue r ↔ IsLetter letters n (get_or units i 0)) → r ≡ true → (SpellNumbers letters units ns ↔ SpellNumbers letters (drop i units) (drop i ns))
         → (SpellNumbers letters units ns ↔ SpellNumbers letters (drop (i + 1) units) (drop (i + 1) ns))
-    spell_more r reported e all =
-        (λ s. spell_rest _ n _ _ (into (all.0 s)), λ s. all.1 (back (spell_both _ n _ _ (reported.0 e) s)))
+    spell_more r reported e all = (λ s. spell_rest _ n _ _ (into (all.0 s)), λ s. all.1 (back (spell_both _ n _ _ (reported.0 e) s)))
 
     -- at one that is not, nothing is spelled
     pub spell_not : (r : Bool) → (IsTrue r ↔ IsLetter letters n (get_or units i 0)) → r ≡ false → (SpellNumbers letters units ns ↔ SpellNumbers letters (drop i units) (drop i ns))

@@ -1,26 +1,21 @@
 -- One row more.
-use Rattle.dexpool.proofs.Common.{◌≡◌, ℕ, zero, suc, ◌+◌, ◌-◌, ◌<◌, Bool, true, false, List, [], ◌∷◌, ◌++◌, length, get_or, refl, sym, ap, ◌∙◌, subst, arith, inl, inr, Some, slice_get, is_lt, Ordering, Less, cases_lt, length_push, get_or_append_left, get_or_push, get_or_default, less_is, one_string, Text, text_cmp, uint_at, IsDescriptor, TypeIds, table_size, key_cmp, row_at, type_row_key, HasRow, StringRow, TypeRow, Condition}
-use Rattle.dexpool.specs.{text_of, type_cmp, ReadTo, is_above_last, AreTexts, TypeRowAt}
-use Rattle.dexpool.specs.internal.ReadRows.{DecidesNext}
+use Rattle.dexpool.proofs.Common.{◌≡◌, ℕ, zero, suc, ◌+◌, ◌-◌, ◌<◌, Bool, true, false, List, [], ◌∷◌, ◌++◌, length, get_or, refl, sym, ap, ◌∙◌, subst, arith, inl, inr, Some, slice_get, is_lt, Ordering, Less, cases_lt, length_push, get_or_append_left, get_or_push, get_or_default, less_is, one_string, Text, text_cmp, uint_at, IsDescriptor, TypeIds, table_size, key_cmp, row_at, type_row_key, HasRow, StringRow, TypeRow, Condition, text_of, type_cmp, ReadTo, is_above_last, AreTexts, TypeRowAt, DecidesNext}
 
 -- ---- the last row
 
 module _ {X : Type 0} (R : X → X → Ordering) where
   -- the last row decides
   pub is_above_last-at : (xs : List X) (i : ℕ) (x d : X) → i + 1 ≡ length xs → is_above_last R x xs ≡ is_lt (R (get_or xs i d) x)
-  is_above_last-at [] i x d e = absurd (omega arith)
   is_above_last-at (y ∷ []) zero x d e = refl
-  is_above_last-at (y ∷ []) (suc i) x d e = absurd (omega arith)
-  is_above_last-at (y ∷ z ∷ ys) zero x d e = absurd (omega arith)
   is_above_last-at (y ∷ z ∷ ys) (suc i) x d e = is_above_last-at (z ∷ ys) i x d (omega arith)
+  is_above_last-at _ _ x d e = absurd (omega arith)
 
   -- as the code returns it for the last row
   pub above_is : (xs : List X) (j : ℕ) (x y : X) (r : Bool) → Some y ≡ slice_get xs j → j ≡ length xs - 1 → r ≡ is_lt (R y x) → r ≡ is_above_last R x xs
   above_is [] j x y r e at answer = absurd cc
   above_is (z ∷ []) zero x y r e at answer = answer ∙ ap (λ t. is_lt (R t x)) (let same : y ≡ z = cc in same)
-  above_is (z ∷ []) (suc j) x y r e at answer = absurd (omega arith)
-  above_is (z ∷ w ∷ ws) zero x y r e at answer = absurd (omega arith)
   above_is (z ∷ w ∷ ws) (suc j) x y r e at answer = above_is (w ∷ ws) j x y r e (omega arith) answer
+  above_is _ _ x y r e at answer = absurd (omega arith)
 
   -- where one is not above, there is a last row
   pub last_is : (xs : List X) (x : X) → is_above_last R x xs ≡ false → (j : ℕ) × (j + 1 ≡ length xs)
@@ -31,9 +26,7 @@ module _ {X : Type 0} (R : X → X → Ordering) where
   last_less xs j x d e above = less_is _ (sym (is_above_last-at xs j x d e) ∙ above)
 
   pub last_not : (xs : List X) (j : ℕ) (x d : X) → j + 1 ≡ length xs → is_above_last R x xs ≡ false → R (get_or xs j d) x ≡ Less → ⊥
-  last_not xs j x d e above less =
-      let a : is_above_last R x xs ≡ true = is_above_last-at xs j x d e ∙ ap is_lt less in
-      cc
+  last_not xs j x d e above less = let a : is_above_last R x xs ≡ true = is_above_last-at xs j x d e ∙ ap is_lt less in cc
 
 -- ---- one row more
 
@@ -62,15 +55,13 @@ decided {X} {Y} Row b Item key key_of same item xs i x h is =
         item = (item i x is).0;
         is = (item i x is).1;
         follows = λ j next.
-            let less = last_less R xs j x x (omega (arith, h.count)) above in
-            ap (λ (l : List ℕ). key_cmp l (key b i)) (same j (get_or xs j x) (h.each j x (omega arith))) ∙ ap (key_cmp (key_of (get_or xs j x))) (same i x is) ∙ less;
+            ap (λ (l : List ℕ). key_cmp l (key b i)) (same j (get_or xs j x) (h.each j x (omega arith))) ∙ ap (key_cmp (key_of (get_or xs j x))) (same i x is) ∙ (last_less R xs j x x (omega (arith, h.count)) above);
       },
       λ above holds.
           let last = last_is R xs x above in
           let j = last.0 in
-          let less = holds.follows j (omega (arith, last.1, h.count)) in
           last_not R xs j x x last.1 above
-          (ap (λ (l : List ℕ). key_cmp l (key_of x)) (sym (same j (get_or xs j x) (h.each j x (omega (arith, last.1, h.count))))) ∙ ap (key_cmp (key b j)) (sym (same i x is)) ∙ less),
+          (ap (λ (l : List ℕ). key_cmp l (key_of x)) (sym (same j (get_or xs j x) (h.each j x (omega (arith, last.1, h.count))))) ∙ ap (key_cmp (key b j)) (sym (same i x is)) ∙ (holds.follows j (omega (arith, last.1, h.count)))),
     )
 
 -- ---- texts
@@ -81,13 +72,11 @@ string_decided b xs i s h is = (
     text = s;
     is = is;
     follows = λ j before next row.
-        let same : get_or xs j s ≡ before = one_string b j _ _ (h.each j s (omega arith)) row in
-        subst (λ t. text_cmp t s ≡ Less) same (last_less text_cmp xs j s s (omega (arith, h.count)) above);
+        subst (λ t. text_cmp t s ≡ Less) (one_string b j _ _ (h.each j s (omega arith)) row) (last_less text_cmp xs j s s (omega (arith, h.count)) above);
   },
   λ above holds.
       let last = last_is text_cmp xs s above in
-      let less = holds.follows last.0 (get_or xs last.0 s) (omega (arith, last.1, h.count)) (h.each last.0 s (omega (arith, last.1, h.count))) in
-      last_not text_cmp xs last.0 s s last.1 above (subst (λ t. text_cmp (get_or xs last.0 s) t ≡ Less) (one_string b i _ _ holds.is is) less),
+      last_not text_cmp xs last.0 s s last.1 above (subst (λ t. text_cmp (get_or xs last.0 s) t ≡ Less) (one_string b i _ _ holds.is is) (holds.follows last.0 (get_or xs last.0 s) (omega (arith, last.1, h.count)) (h.each last.0 s (omega (arith, last.1, h.count))))),
 )
 
 -- ---- types

@@ -1,7 +1,5 @@
 -- Images as they are stored.
-use Rattle.dexpool.proofs.Common.{◌≡◌, ◌≢◌, ℕ, List, [], ◌∷◌, map, refl, ap, arith, inl, inr, Some, cases_order, ne_eqb}
-use Rattle.dexpool.specs.{image_in}
-use Rattle.dexpool.specs.internal.Closing.{number_or_none}
+use Rattle.dexpool.proofs.Common.{◌≡◌, ◌≢◌, ℕ, List, [], ◌∷◌, map, refl, ap, arith, inl, inr, Some, cases_order, ne_eqb, image_in, number_or_none}
 
 -- a number that is not the greatest of 32 bits is its own image
 pub image_is : (n : ℕ) → n ≢ 0xffffffff → image_in n ≡ Some n

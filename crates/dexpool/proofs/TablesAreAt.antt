@@ -1,12 +1,8 @@
 -- What tables whose rows are in range denote: the symbols of a numbering.
-use Rattle.dexpool.proofs.Common.{◌≡◌, ℕ, ◌<◌, true, [], length, get_or, sym, ◌∙◌, subst, inl, inr, map, All, Contains, nat_cmp, All-weaker, All-map, All-contains, Contains-get_or, rises, text_cmp, IsDescriptor, IsValueType, IsProto, IsField, IsMethod, Contains-cons_cases, Contains-map, Contains-map_source, FieldRow, MethodRow, all_seen}
+use Rattle.dexpool.proofs.Common.{◌≡◌, ℕ, ◌<◌, true, [], length, get_or, sym, ◌∙◌, subst, inl, inr, map, All, Contains, nat_cmp, All-weaker, All-map, All-contains, Contains-get_or, rises, text_cmp, IsDescriptor, IsValueType, IsProto, IsField, IsMethod, Contains-cons_cases, Contains-map, Contains-map_source, FieldRow, MethodRow, all_seen, ProtoEntry, Tables, text_of, type_of, span_of, proto_of, field_of, proto_at, method_of, type_cmp, symbols_in, stored_type, stored_proto, stored_field, stored_method, IsTypeNumber, IsTypeOf, IsProtoEntry, IsFieldRow, IsMethodRow, AreTables, HasProtoParts, HasFieldParts, HasMethodParts, AreRising, IsNumbering, HasShorty, IsEntryWithin, IsFieldWithin, IsMethodWithin}
 use Rattle.dexspec.specs.Symbols as symbols
-use Rattle.dexpool.specs.declared.rows.ProtoEntry.{ProtoEntry}
-use Rattle.dexpool.specs.declared.tables.Tables.{Tables}
-use Rattle.dexpool.specs.{text_of, type_of, span_of, proto_of, field_of, proto_at, method_of, type_cmp, proto_cmp, field_cmp, method_cmp, symbols_in, stored_type, stored_proto, stored_field, stored_method, IsTypeNumber, IsTypeOf, IsProtoEntry, IsFieldRow, IsMethodRow, AreTables, HasProtoParts, HasFieldParts, HasMethodParts, AreRising, IsNumbering}
-use Rattle.dexpool.specs.internal.Joining.{HasShorty}
+use Rattle.dexpool.specs.{proto_cmp, field_cmp, method_cmp}
 use Rattle.dexpool.proofs.NumberOrder as order
-use Rattle.dexpool.specs.internal.Renumbering.{IsEntryWithin, IsFieldWithin, IsMethodWithin}
 
 module _ (t : Tables) where
   -- ---- the numbers of rows in range
@@ -171,13 +167,12 @@ tables_made t texts_rise types_rise protos_rise fields_rise methods_rise types_i
   types_at_ranks = λ k d lt. record { text_in = types_in k d lt; descriptor = all_seen (text_of t.strings.items) IsDescriptor t.types.items descriptors k d lt };
   protos_at_ranks = λ k d lt.
       let w = protos_in k d lt in
-      let formed = all_seen (stored_proto t) IsProto t.protos.items protos_formed k d lt in
       record {
         span = w.span;
         return_in = w.return_in;
         parameters_in = λ j e less. record {
           type_in = w.parameters_in j e less;
-          is = all_seen (stored_type t) IsValueType (span_of t.parameters (get_or t.protos.items k d).parameters) formed.parameters j e less;
+          is = all_seen (stored_type t) IsValueType (span_of t.parameters (get_or t.protos.items k d).parameters) (all_seen (stored_proto t) IsProto t.protos.items protos_formed k d lt).parameters j e less;
         };
         shorty_in = w.shorty_in;
         shorty_is = shorties k d lt;

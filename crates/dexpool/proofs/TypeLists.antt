@@ -1,6 +1,5 @@
 -- Lists of types at an offset.
-use Rattle.dexpool.proofs.Common.{◌≡◌, ◌≢◌, ℕ, zero, suc, ◌+◌, ◌*◌, List, [], ◌∷◌, ◌++◌, refl, sym, ap, ◌∙◌, arith, append_assoc, add-one, Ok, Err, IfOk, Result, ne_eqb, ushort_at, ushorts_at, type_indices}
-use Rattle.dexpool.specs.{listed}
+use Rattle.dexpool.proofs.Common.{◌≡◌, ◌≢◌, ℕ, zero, suc, ◌+◌, ◌*◌, List, [], ◌∷◌, ◌++◌, refl, sym, ap, ◌∙◌, arith, append_assoc, add-one, Ok, Err, IfOk, Result, ne_eqb, ushort_at, ushorts_at, type_indices, listed}
 
 ushorts_more : (b : List ℕ) (o k : ℕ) → ushorts_at b o (suc k) ≡ ushorts_at b o k ++ ushort_at b (o + 2 * k) ∷ []
 ushorts_more b o zero = let e : o ≡ o + 2 * 0 = omega arith in ap (λ (m : ℕ). ushort_at b m ∷ []) e

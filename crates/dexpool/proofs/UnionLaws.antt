@@ -1,12 +1,10 @@
 -- Ranks and counts in a union, numbers as ranks, and the union of what several lists of definitions mention.
-use Rattle.dexpool.proofs.Common.{◌≡◌, ◌≤◌, true, List, length, map, sym, subst, arith, sum_by, Ordering, Contains, flat_map, IsTotalOrder, IsAntisymmetric, rises, in_order, text_cmp, Symbol, proto_cmp, field_cmp, method_cmp, Mentions, mentions, texts_in, types_in, protos_in, fields_in, methods_in, Contains-flat_map, Contains-flat_map_source, length-among, Contains-map, Contains-map_source, text_total, text_exact, proto_total, proto_exact, field_total, field_exact, method_total, method_exact, Rises, Rises-from_rises, Rises-in_order, Rises-same, AreDistinct-from_Rises, in_order-has, in_order-only, rank-among, rank-get_or}
+use Rattle.dexpool.proofs.Common.{◌≡◌, ◌≤◌, true, List, length, map, sym, subst, arith, sum_by, Ordering, Contains, flat_map, IsTotalOrder, IsAntisymmetric, rises, in_order, text_cmp, Symbol, proto_cmp, field_cmp, method_cmp, Mentions, mentions, texts_in, types_in, protos_in, fields_in, methods_in, Contains-flat_map, Contains-flat_map_source, length-among, Contains-map, Contains-map_source, text_total, text_exact, proto_total, proto_exact, field_total, field_exact, method_total, method_exact, Rises, Rises-from_rises, Rises-in_order, Rises-same, AreDistinct-from_Rises, in_order-has, in_order-only, rank-among, rank-get_or, SymbolKind, count_of, AreRising, union_of, RanksGrow, AllRanksGrow, RanksArePlaces, RanksAreNumbers}
 use Rattle.std.proofs.lemmas.List.Concat.{length-flat_map}
 use Rattle.dexspec.specs.Classes.{Definition}
 use Rattle.dexspec.proofs.merge.Growth.{mentions-rising}
 use Rattle.dexspec.proofs.merge.MentionMembers.{Occurs, texts-listed, texts-source, types-listed, types-source, protos-listed, protos-source, fields-listed, fields-source, methods-listed, methods-source}
-use Rattle.dexpool.specs.declared.symbols.SymbolKind.{SymbolKind}
 use Rattle.dexpool.specs.declared.symbols.SymbolKind.TheVariants as kinds
-use Rattle.dexpool.specs.{count_of, AreRising, union_of, RanksGrow, AllRanksGrow, RanksArePlaces, RanksAreNumbers}
 
 module _ {K : Type 0} (R : K → K → Ordering) (o : IsTotalOrder R) where
   -- ---- numbers
@@ -22,8 +20,7 @@ module _ {K : Type 0} (R : K → K → Ordering) (o : IsTotalOrder R) where
 
     fewer : (ms : List Mentions) → length (in_order R (flat_map of ms)) ≤ sum_by (λ m. length (of m)) ms
     fewer ms =
-        let distinct = AreDistinct-from_Rises R o (in_order R (flat_map of ms)) (Rises-in_order R o exact (flat_map of ms)) in
-        omega (arith, length-among (in_order R (flat_map of ms)) (flat_map of ms) distinct (in_order-only R o exact (flat_map of ms)), length-flat_map of ms)
+        omega (arith, length-among (in_order R (flat_map of ms)) (flat_map of ms) (AreDistinct-from_Rises R o (in_order R (flat_map of ms)) (Rises-in_order R o exact (flat_map of ms))) (in_order-only R o exact (flat_map of ms)), length-flat_map of ms)
 
     -- ---- definitions of several lists
 
@@ -35,8 +32,7 @@ module _ {K : Type 0} (R : K → K → Ordering) (o : IsTotalOrder R) where
       down x c =
           let w = source (flat_map (λ D. D) Ds) x c in
           let s = Contains-flat_map_source (λ (D : List Definition). D) Ds w.definition w.member in
-          let here : Contains (of (mentions s.0)) x = listed s.0 x (record { definition = w.definition; symbol = w.symbol; member = s.2; occurs = w.occurs; part = w.part }) in
-          Contains-flat_map of (map mentions Ds) (mentions s.0) x (Contains-map mentions Ds s.0 s.1) here
+          Contains-flat_map of (map mentions Ds) (mentions s.0) x (Contains-map mentions Ds s.0 s.1) (listed s.0 x (record { definition = w.definition; symbol = w.symbol; member = s.2; occurs = w.occurs; part = w.part }))
 
       -- a symbol of a part occurs in the whole
       up : (x : K) → Contains (flat_map of (map mentions Ds)) x → Contains (of (mentions (flat_map (λ D. D) Ds))) x

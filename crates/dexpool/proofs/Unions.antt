@@ -1,6 +1,5 @@
 -- Sorted rows joined: what they denote is the union of what the parts' rows denote.
-use Rattle.dexpool.proofs.Common.{◌≡◌, ℕ, ◌<◌, List, [], ◌∷◌, length, get_or, map, sym, ap, ◌∙◌, subst, arith, slice_index, All, AllZip, Contains, flat_map, IsTotalOrder, IsAntisymmetric, Ordering, tied_itself, get_or-map, length-map, All-weaker, All-contains, All-contains_itself, Contains-get_or, in_order, key_cmp, Rises-from_rises, Rises-same, Rises-in_order, in_order-has, in_order-only, AreAmong, Contains-flat_map, Contains-flat_map_source, Contains-map_source, Contains-map, text_total, row_cmp, IsImage, IsOfParts, IsJoin}
-use Rattle.dexpool.specs.internal.Joining.{Moves, IsUnion, Denote}
+use Rattle.dexpool.proofs.Common.{◌≡◌, ℕ, ◌<◌, List, [], ◌∷◌, length, get_or, map, sym, ap, ◌∙◌, subst, arith, slice_index, All, AllZip, Contains, flat_map, IsTotalOrder, IsAntisymmetric, Ordering, tied_itself, get_or-map, length-map, All-weaker, All-contains, All-contains_itself, Contains-get_or, in_order, key_cmp, Rises-from_rises, Rises-same, Rises-in_order, in_order-has, in_order-only, AreAmong, Contains-flat_map, Contains-flat_map_source, Contains-map_source, Contains-map, text_total, row_cmp, IsImage, IsOfParts, IsJoin, Moves, IsUnion, Denote}
 use Rattle.dexpool.proofs.NumberOrder.{rises-map}
 use Rattle.dexpool.proofs.Pairs.{zip_source, zip_target, zip_along}
 
@@ -24,8 +23,7 @@ module _ {P R X : Type 0} (key : R → List ℕ) (symbol : R → X) (Within : R 
       pub joined_within : All Within joined
       joined_within =
           All-weaker (IsOfParts rows) Within (λ row w.
-          let s = zip_source (λ p ys. Denote symbol Within (of p) ys) parts rows w.part are_encoded w.is_part in
-          All-contains Within w.part row s.2.within w.has) joined j.rows_of
+          All-contains Within w.part row (zip_source (λ p ys. Denote symbol Within (of p) ys) parts rows w.part are_encoded w.is_part).2.within w.has) joined j.rows_of
 
       -- rows of one key have one symbol
       one_symbol : (x y : R) → Within x → Within y → key x ≡ key y → symbol x ≡ symbol y
@@ -41,10 +39,9 @@ module _ {P R X : Type 0} (key : R → List ℕ) (symbol : R → X) (Within : R 
                 let r = some xs n less in
                 let k = slice_index image n in
                 let there : k < length joined = i.within n less in
-                let e : symbol (get_or joined k r) ≡ symbol (get_or xs n r) = one_symbol (get_or joined k r) (get_or xs n r) (joined_within k r there) (s.within n r less) (i.same n r less) in
                 record {
                   within = omega (arith, there, length-map joined symbol);
-                  is = λ x. get_or-map symbol joined k r x there ∙ e ∙ sym (get_or-map symbol xs n r d less) ∙ ap (λ ys. get_or ys n d) s.same;
+                  is = λ x. get_or-map symbol joined k r x there ∙ (one_symbol (get_or joined k r) (get_or xs n r) (joined_within k r there) (s.within n r less) (i.same n r less)) ∙ sym (get_or-map symbol xs n r d less) ∙ ap (λ ys. get_or ys n d) s.same;
                 };
           }
 
@@ -62,8 +59,7 @@ module _ {P R X : Type 0} (key : R → List ℕ) (symbol : R → X) (Within : R 
       every x c =
           let s = Contains-flat_map_source of parts x c in
           let z = zip_target (λ p image. Moves (of p) (map symbol joined) image) parts images s.0 moves s.1 in
-          let at = z.2.same s.2.0 x s.2.1 in
-          subst (Contains (map symbol joined)) (at.is x ∙ s.2.2) (Contains-get_or (map symbol joined) (slice_index z.0 s.2.0) x at.within)
+          let at = z.2.same s.2.0 x s.2.1 in subst (Contains (map symbol joined)) (at.is x ∙ s.2.2) (Contains-get_or (map symbol joined) (slice_index z.0 s.2.0) x at.within)
 
       -- the joined rows' symbols are those of all parts
       pub union : IsUnion of S parts (map symbol joined) images

@@ -1,10 +1,8 @@
 -- Visits, one after the other.
-use Rattle.dexpool.proofs.Common.{◌≡◌, ◌↔◌, ℕ, ◌+◌, ◌<◌, ◌≤◌, ◌==◌, IsTrue, Bool, true, false, ◌||◌, ◌&&◌, List, [], ◌∷◌, ◌++◌, length, take, map, get_or, refl, ap, sym, ◌∙◌, subst, All, FoldsTo, flat_map, append-nil, take_all, take_more, All-nil, All-cons, All-head, All-tail}
+use Rattle.dexpool.proofs.Common.{◌≡◌, ◌↔◌, ℕ, ◌+◌, ◌<◌, ◌≤◌, ◌==◌, IsTrue, Bool, true, false, ◌||◌, ◌&&◌, List, [], ◌∷◌, ◌++◌, length, take, map, get_or, refl, ap, sym, ◌∙◌, subst, All, FoldsTo, flat_map, append-nil, take_all, take_more, All-nil, All-cons, All-head, All-tail, Marks, Use, HasMark, AreMarkedToo, marks_of, same_kind, occurs, IsMapped, MapsUse}
 use Rattle.std.proofs.lemmas.List.Folds.{list_any-append}
 use Rattle.std.proofs.lemmas.Grind.{flat_map-append}
-use Rattle.dexpool.specs.declared.marks.Marks.{Marks}
 use Rattle.dexpool.specs.declared.visiting.Fits.{Fits}
-use Rattle.dexpool.specs.{Use, HasMark, AreMarkedToo, marks_of, same_kind, occurs, IsMapped, MapsUse}
 use Rattle.dexpool.proofs.Parts.{all_of}
 
 -- ---- marks on one list of symbols after the other

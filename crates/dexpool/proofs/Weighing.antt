@@ -1,9 +1,6 @@
 -- What the symbols of tables weigh, by the numbers in the tables.
-use Rattle.dexpool.proofs.Common.{◌≡◌, ℕ, ◌+◌, ◌-◌, ◌*◌, List, [], ◌∷◌, length, map, drop, refl, ap, ◌∙◌, arith, sum_by, All, length-map, length-take, length-drop, All-head, All-tail, All-weaker, Text, text_weight, proto_weight, mentions_weight}
+use Rattle.dexpool.proofs.Common.{◌≡◌, ℕ, ◌+◌, ◌-◌, ◌*◌, List, [], ◌∷◌, length, map, drop, refl, ap, ◌∙◌, arith, sum_by, All, length-map, length-take, length-drop, All-head, All-tail, All-weaker, Text, text_weight, proto_weight, mentions_weight, ProtoEntry, Tables, text_of, type_of, span_of, proto_of, field_of, method_of, HasSpan, symbols_in, AreTables, IsProtoEntry}
 use Rattle.std.proofs.lemmas.List.Sums.{sum_by-cons}
-use Rattle.dexpool.specs.declared.rows.ProtoEntry.{ProtoEntry}
-use Rattle.dexpool.specs.declared.tables.Tables.{Tables}
-use Rattle.dexpool.specs.{text_of, type_of, span_of, proto_of, field_of, method_of, HasSpan, symbols_in, AreTables, IsProtoEntry}
 
 -- a sum over mapped members
 pub sum_by-mapped : {X Y : Type 0} (f : Y → ℕ) (g : X → Y) (h : X → ℕ) (xs : List X) → All (λ x. f (g x) ≡ h x) xs → sum_by f (map g xs) ≡ sum_by h xs
@@ -13,9 +10,7 @@ sum_by-mapped f g h (x ∷ xs) all =
 
 -- a part of a list is as long as its ends say
 pub length-span : (ns : List ℕ) (p : ProtoEntry) → HasSpan ns p.parameters → length (span_of ns p.parameters) ≡ p.parameters.end - p.parameters.start
-length-span ns p h =
-    let s = p.parameters.start in
-    omega (arith, length-take (p.parameters.end - s) (drop s ns), length-drop s ns, h.ordered, h.within)
+length-span ns p h = let s = p.parameters.start in omega (arith, length-take (p.parameters.end - s) (drop s ns), length-drop s ns, h.ordered, h.within)
 
 -- a row weighs what its proto does
 pub entry_weight : (texts : List Text) (types ns : List ℕ) (p : ProtoEntry) → HasSpan ns p.parameters → proto_weight (proto_of texts types ns p) ≡ 20 + 2 * (p.parameters.end - p.parameters.start)

@@ -1,5 +1,4 @@
-use Rattle.dexpool.proofs.Common.{arith, FieldRow}
-use Rattle.dexpool.specs.internal.Closing.{field_types}
+use Rattle.dexpool.proofs.Common.{arith, FieldRow, field_types}
 use Rattle.dexpool.proofs.KeptRows.{number_marked, number_left, numbers_marked, numbers_left}
 use Rattle.dexpool.proofs.closing.mark_by_fields.Goals as goal
 use Rattle.dexpool.proofs.closing.mark_by_fields.Goals.{then-marks-i, else-marks-i}

@@ -1,6 +1,4 @@
-use Rattle.dexpool.proofs.Common.{◌≡◌, map, drop, flat_map}
-use Rattle.dexpool.specs.{kept}
-use Rattle.dexpool.specs.internal.Closing.{mark_all, field_types}
+use Rattle.dexpool.proofs.Common.{◌≡◌, map, drop, flat_map, kept, mark_all, field_types}
 use Rattle.dexpool.proofs.closing.mark_by_fields.Given as goal
 
 abbrev pub invariant-loop-i : goal.invariant-loop-i

@@ -1,6 +1,4 @@
-use Rattle.dexpool.proofs.Common.{◌∙◌, ap, arith, get_or, set, true}
-use Rattle.dexpool.specs.declared.rows.ProtoEntry.{ProtoEntry}
-use Rattle.dexpool.specs.internal.Closing.{mark_all, entry_types}
+use Rattle.dexpool.proofs.Common.{◌∙◌, ap, arith, get_or, set, true, ProtoEntry, mark_all, entry_types}
 use Rattle.dexpool.proofs.KeptRows.{number_marked, number_left, numbers_marked, numbers_left}
 use Rattle.dexpool.proofs.closing.mark_by_protos.Goals as goal
 use Rattle.dexpool.proofs.closing.mark_by_protos.Goals.{then-marks-i, else-marks-i}

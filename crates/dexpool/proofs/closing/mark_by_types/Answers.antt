@@ -1,6 +1,4 @@
-use Rattle.dexpool.proofs.Common.{◌∙◌, ◌+◌, sym, ap, arith, drop}
-use Rattle.dexpool.specs.{kept}
-use Rattle.dexpool.specs.internal.Closing.{mark_all}
+use Rattle.dexpool.proofs.Common.{◌∙◌, ◌+◌, sym, ap, arith, drop, kept, mark_all}
 use Rattle.dexpool.proofs.KeptRows.{kept_first, kept_next}
 use Rattle.dexpool.proofs.closing.mark_by_types.Goals as goal
 use Rattle.dexpool.proofs.closing.mark_by_types.Goals.{then-marks-i, else-marks-i}

@@ -1,6 +1,4 @@
-use Rattle.dexpool.proofs.Common.{◌≡◌, drop}
-use Rattle.dexpool.specs.{kept}
-use Rattle.dexpool.specs.internal.Closing.{mark_all}
+use Rattle.dexpool.proofs.Common.{◌≡◌, drop, kept, mark_all}
 use Rattle.dexpool.proofs.closing.mark_by_types.Given as goal
 
 abbrev pub invariant-loop-i : goal.invariant-loop-i

@@ -1,5 +1,4 @@
-use Rattle.dexpool.proofs.Common.{◌≡◌, drop}
-use Rattle.dexpool.specs.internal.Closing.{mark_all}
+use Rattle.dexpool.proofs.Common.{◌≡◌, drop, mark_all}
 use Rattle.dexpool.proofs.closing.mark_numbers.Given as goal
 
 abbrev pub invariant-loop-i : goal.invariant-loop-i

@@ -1,7 +1,4 @@
-use Rattle.dexpool.proofs.Common.{length, map, ◌∙◌, subst, Mentions, AreSorted}
-use Rattle.dexpool.specs.{text_of, field_of, field_key}
-use Rattle.dexpool.specs.internal.Renumbering.{moved_field, IsFieldWithin}
-use Rattle.dexpool.specs.internal.Joining.{Moves, Denote}
+use Rattle.dexpool.proofs.Common.{length, map, ◌∙◌, subst, Mentions, AreSorted, text_of, field_of, field_key, moved_field, IsFieldWithin, Moves, Denote}
 use Rattle.dexpool.proofs.Pairs.{within_other, zip_more, zip_all, all_pushed}
 use Rattle.dexpool.proofs.TypeLists.{if_ok_map}
 use Rattle.dexpool.proofs.Moved.{types_count, fields_among, fields_at_ranks}

@@ -1,7 +1,4 @@
-use Rattle.dexpool.proofs.Common.{map, take, length, All, AllZip, AreSorted}
-use Rattle.dexpool.specs.{field_of, field_key}
-use Rattle.dexpool.specs.internal.Renumbering.{IsFieldWithin}
-use Rattle.dexpool.specs.internal.Joining.{Denote}
+use Rattle.dexpool.proofs.Common.{map, take, length, All, AllZip, AreSorted, field_of, field_key, IsFieldWithin, Denote}
 use Rattle.dexpool.proofs.joined_tables.join_fields.Given as goal
 
 abbrev pub invariant-loop-i : goal.invariant-loop-i

@@ -1,7 +1,4 @@
-use Rattle.dexpool.proofs.Common.{length, map, ◌∙◌, subst, Mentions, AreSorted}
-use Rattle.dexpool.specs.{text_of, proto_of, method_of, method_key}
-use Rattle.dexpool.specs.internal.Renumbering.{moved_method, IsMethodWithin}
-use Rattle.dexpool.specs.internal.Joining.{Moves, Denote}
+use Rattle.dexpool.proofs.Common.{length, map, ◌∙◌, subst, Mentions, AreSorted, text_of, proto_of, method_of, method_key, moved_method, IsMethodWithin, Moves, Denote}
 use Rattle.dexpool.proofs.Pairs.{within_other, zip_more, zip_all, all_pushed}
 use Rattle.dexpool.proofs.TypeLists.{if_ok_map}
 use Rattle.dexpool.proofs.Moved.{types_count, protos_count, methods_among, methods_at_ranks}

@@ -1,7 +1,4 @@
-use Rattle.dexpool.proofs.Common.{map, take, length, All, AllZip, AreSorted}
-use Rattle.dexpool.specs.{method_of, method_key}
-use Rattle.dexpool.specs.internal.Renumbering.{IsMethodWithin}
-use Rattle.dexpool.specs.internal.Joining.{Denote}
+use Rattle.dexpool.proofs.Common.{map, take, length, All, AllZip, AreSorted, method_of, method_key, IsMethodWithin, Denote}
 use Rattle.dexpool.proofs.joined_tables.join_methods.Given as goal
 
 abbrev pub invariant-loop-i : goal.invariant-loop-i

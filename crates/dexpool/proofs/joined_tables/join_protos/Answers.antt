@@ -1,5 +1,4 @@
-use Rattle.dexpool.proofs.Common.{ap, map, sym, ◌∙◌, subst, refl, Result, Ok, Err, IfOk, All, AreSorted, IsJoin}
-use Rattle.dexpool.specs.internal.Renumbering.{numbers_in, HasSpans}
+use Rattle.dexpool.proofs.Common.{ap, map, sym, ◌∙◌, subst, refl, Result, Ok, Err, IfOk, All, AreSorted, IsJoin, numbers_in, HasSpans}
 use Rattle.dexpool.specs.internal.Joining.{proto_key}
 use Rattle.dexpool.proofs.Pairs.{all_seen}
 use Rattle.dexpool.proofs.JoinedLevels.{protos_joined}

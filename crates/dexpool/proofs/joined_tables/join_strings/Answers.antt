@@ -1,5 +1,4 @@
-use Rattle.dexpool.proofs.Common.{refl, ap, map, sym, ◌∙◌, subst, take_all, All, All-weaker, Mentions, Text, AreSorted, IsJoin, all_seen as seen_all}
-use Rattle.dexpool.specs.{IsNumbering}
+use Rattle.dexpool.proofs.Common.{refl, ap, map, sym, ◌∙◌, subst, take_all, All, All-weaker, Mentions, Text, AreSorted, IsJoin, all_seen as seen_all, IsNumbering}
 use Rattle.dexpool.proofs.Pairs.{all_seen, seen_more, All_more, map_both}
 use Rattle.dexpool.proofs.TypeLists.{if_ok_map}
 use Rattle.dexpool.proofs.TablesAreAt.{are_numbering}
@@ -26,8 +25,7 @@ join-requires c =
 pub returns-clause-numberings : goal.returns-clause-numberings
 returns-clause-numberings c =
     let all = take_all c.loop-part.part-index c.args.parts.now c.loop-part-test.false in
-    let numberings = subst (λ parts. All IsNumbering (map (λ part. part.now) parts)) all c.loop-part.invariant.numberings in
-    if_ok_map _ _ c.join.result (λ joined _. numberings) c.join.ensures
+    if_ok_map _ _ c.join.result (λ joined _. (subst (λ parts. All IsNumbering (map (λ part. part.now) parts)) all c.loop-part.invariant.numberings)) c.join.ensures
 
 pub returns-clause-texts : goal.returns-clause-texts
 returns-clause-texts c =

@@ -1,5 +1,4 @@
-use Rattle.dexpool.proofs.Common.{◌≡◌, map, take, All}
-use Rattle.dexpool.specs.{IsNumbering}
+use Rattle.dexpool.proofs.Common.{◌≡◌, map, take, All, IsNumbering}
 use Rattle.dexpool.proofs.joined_tables.join_strings.Given as goal
 
 abbrev pub invariant-loop-part : goal.invariant-loop-part

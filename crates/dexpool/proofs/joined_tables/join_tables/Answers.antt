@@ -1,6 +1,4 @@
-use Rattle.dexpool.proofs.Common.{◌≡◌, ℕ, true, List, map, sym, subst, All-weaker, text_cmp, proto_cmp, field_cmp, method_cmp, rises, Mentions, text_total, text_exact, proto_total, proto_exact, field_total, field_exact, method_total, method_exact}
-use Rattle.dexpool.specs.{IsNumbering, text_of, proto_of, field_of, method_of}
-use Rattle.dexpool.specs.internal.Joining.{AreJoinedProtos, AreJoinedMethods}
+use Rattle.dexpool.proofs.Common.{◌≡◌, ℕ, true, List, map, sym, subst, All-weaker, text_cmp, proto_cmp, field_cmp, method_cmp, rises, Mentions, text_total, text_exact, proto_total, proto_exact, field_total, field_exact, method_total, method_exact, IsNumbering, text_of, proto_of, field_of, method_of, AreJoinedProtos, AreJoinedMethods}
 use Rattle.dexpool.proofs.JoinedTables.{images_count, are_tables, are_union, all_map_to, images_keep}
 use Rattle.dexpool.proofs.joined_tables.join_tables.Goals as goal
 

@@ -1,8 +1,5 @@
-use Rattle.dexpool.proofs.Common.{ap, length, map, ◌∙◌, subst, ◌<◌, [], ◌∷◌, Mentions, AreSorted}
+use Rattle.dexpool.proofs.Common.{ap, length, map, ◌∙◌, subst, ◌<◌, [], ◌∷◌, Mentions, AreSorted, text_of, moved_type, Moves, Denote}
 use Rattle.dexrows.specs.declared.types.TypeRow.{TypeRow}
-use Rattle.dexpool.specs.{text_of}
-use Rattle.dexpool.specs.internal.Renumbering.{moved_type}
-use Rattle.dexpool.specs.internal.Joining.{Moves, Denote}
 use Rattle.dexpool.proofs.Pairs.{within_other, zip_more, zip_all, all_pushed}
 use Rattle.dexpool.proofs.Moved.{types_movable, types_at_ranks}
 use Rattle.dexpool.proofs.RowOrder.{types_sorted}
@@ -24,11 +21,10 @@ loop-i-preserved c =
     let by_texts = part_moves (λ (m : Mentions). m.texts) texts c.args.parts.now c.args.strings.now.images.items c.loop-i.i c.index-parts-i.result c.index.result.now _ c.requires.strings.moves c.loop-i-test.true c.index-parts-i.is c.index.ensures c.tables.ensures.symbols in
     let rows = c.in_ok-renumbered_types.field-0.items in
     let is = c.in_ok-renumbered_types.ensures ∙ (λ i. map (moved_type (c.deref-in-loop-i.ensures.value i)) (c.deref.ensures.value i)) in
-    let are_encoded = types_at_ranks c.tables.result.now c.tables.ensures.tables texts c.index.result.now.items by_texts rows is in
     record {
       are_encoded = zip_more (λ (part : Mentions) xs. Denote (λ (row : TypeRow). text_of texts row.descriptor) (λ (row : TypeRow). row.descriptor < length texts) part.types xs) (λ part. part.now) (λ xs. xs.items)
           c.args.parts.now c.loop-i.rows.items c.push.new.self.items c.loop-i.i c.index-parts-i.result c.in_ok-renumbered_types.field-0 c.loop-i.invariant.are_encoded c.loop-i-test.true c.index-parts-i.is c.in_ok-push.ensures.items
-          (subst (λ (m : Mentions). Denote (λ (row : TypeRow). text_of texts row.descriptor) (λ (row : TypeRow). row.descriptor < length texts) m.types rows) c.tables.ensures.symbols are_encoded);
+          (subst (λ (m : Mentions). Denote (λ (row : TypeRow). text_of texts row.descriptor) (λ (row : TypeRow). row.descriptor < length texts) m.types rows) c.tables.ensures.symbols (types_at_ranks c.tables.result.now c.tables.ensures.tables texts c.index.result.now.items by_texts rows is));
       sorted = all_pushed (AreSorted (λ (row : TypeRow). row.descriptor ∷ [])) (λ rows. rows.items) c.loop-i.rows.items c.push.new.self.items c.in_ok-renumbered_types.field-0 c.in_ok-push.ensures.items c.loop-i.invariant.sorted
           (types_sorted c.tables.result.now c.tables.ensures.tables texts (texts_rise (map (λ part. part.now) c.args.parts.now) c.requires.numberings c.args.strings.now.rows.items (map (λ image. image.items) c.args.strings.now.images.items) c.requires.strings) c.index.result.now.items by_texts c.sorted_law.ensures rows is);
     }

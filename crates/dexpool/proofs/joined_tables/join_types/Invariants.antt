@@ -1,6 +1,4 @@
-use Rattle.dexpool.proofs.Common.{◌<◌, [], ◌∷◌, map, take, length, All, AllZip, AreSorted}
-use Rattle.dexpool.specs.{text_of}
-use Rattle.dexpool.specs.internal.Joining.{Denote}
+use Rattle.dexpool.proofs.Common.{◌<◌, [], ◌∷◌, map, take, length, All, AllZip, AreSorted, text_of, Denote}
 use Rattle.dexpool.proofs.joined_tables.join_types.Given as goal
 
 abbrev pub invariant-loop-i : goal.invariant-loop-i

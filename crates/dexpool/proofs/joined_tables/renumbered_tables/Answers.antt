@@ -1,7 +1,5 @@
-use Rattle.dexpool.proofs.Common.{map, sym, ◌∙◌, subst, refl, All, All-push, Mentions, AreSorted}
-use Rattle.dexpool.specs.{text_of}
-use Rattle.dexpool.specs.internal.Renumbering.{moved_proto, numbers_in, HasSpans}
-use Rattle.dexpool.specs.internal.Joining.{Moves, Denote, proto_of_row, proto_key, IsRowOf}
+use Rattle.dexpool.proofs.Common.{map, sym, ◌∙◌, subst, refl, All, All-push, Mentions, AreSorted, text_of, moved_proto, numbers_in, HasSpans, Moves, Denote, proto_of_row, IsRowOf}
+use Rattle.dexpool.specs.internal.Joining.{proto_key}
 use Rattle.dexpool.proofs.Pairs.{within_other, zip_more, zip_all, all_pushed}
 use Rattle.dexpool.proofs.Moved.{types_count, protos_movable, protos_at_ranks}
 use Rattle.dexpool.proofs.RowOrder.{protos_sorted}

@@ -1,6 +1,5 @@
-use Rattle.dexpool.proofs.Common.{map, take, All, AllZip, AreSorted}
-use Rattle.dexpool.specs.internal.Renumbering.{numbers_in, HasSpans}
-use Rattle.dexpool.specs.internal.Joining.{Denote, proto_of_row, proto_key, IsRowOf}
+use Rattle.dexpool.proofs.Common.{map, take, All, AllZip, AreSorted, numbers_in, HasSpans, Denote, proto_of_row, IsRowOf}
+use Rattle.dexpool.specs.internal.Joining.{proto_key}
 use Rattle.dexpool.proofs.joined_tables.renumbered_tables.Given as goal
 
 abbrev pub invariant-loop-i : goal.invariant-loop-i

@@ -1,5 +1,4 @@
-use Rattle.dexpool.proofs.Common.{map, ap, ◌∙◌, take_all}
-use Rattle.dexpool.specs.internal.Renumbering.{numbers_in}
+use Rattle.dexpool.proofs.Common.{map, ap, ◌∙◌, take_all, numbers_in}
 use Rattle.dexpool.proofs.Pairs.{seen_more}
 use Rattle.dexpool.proofs.joined_tables.rows_of_tables.Goals as goal
 

@@ -1,5 +1,4 @@
-use Rattle.dexpool.proofs.Common.{◌≡◌, map, take}
-use Rattle.dexpool.specs.internal.Renumbering.{numbers_in}
+use Rattle.dexpool.proofs.Common.{◌≡◌, map, take, numbers_in}
 use Rattle.dexpool.proofs.joined_tables.rows_of_tables.Given as goal
 
 abbrev pub invariant-loop-table : goal.invariant-loop-table

@@ -1,5 +1,4 @@
-use Rattle.dexpool.proofs.Common.{sym, ◌∙◌, ap, subst}
-use Rattle.dexpool.specs.{places, KeepsOrder}
+use Rattle.dexpool.proofs.Common.{sym, ◌∙◌, ap, subst, places, KeepsOrder}
 use Rattle.dexpool.proofs.KeptRows.{places_keep}
 use Rattle.dexpool.proofs.kept_tables.kept_remap.Goals as goal
 

@@ -1,5 +1,4 @@
-use Rattle.dexpool.proofs.Common.{◌∙◌}
-use Rattle.dexpool.specs.{kept}
+use Rattle.dexpool.proofs.Common.{◌∙◌, kept}
 use Rattle.dexpool.proofs.kept_tables.marked_copies.Goals as goal
 
 pub returns : goal.returns

@@ -1,5 +1,4 @@
-use Rattle.dexpool.proofs.Common.{◌≡◌, ◌++◌, drop}
-use Rattle.dexpool.specs.{kept}
+use Rattle.dexpool.proofs.Common.{◌≡◌, ◌++◌, drop, kept}
 use Rattle.dexpool.proofs.kept_tables.marked_copy.Given as goal
 
 abbrev pub invariant-loop-i : goal.invariant-loop-i

@@ -1,5 +1,4 @@
-use Rattle.dexpool.proofs.Common.{Bool, List, refl, ap, ◌∙◌}
-use Rattle.dexpool.specs.{kept}
+use Rattle.dexpool.proofs.Common.{Bool, List, refl, ap, ◌∙◌, kept}
 use Rattle.dexpool.proofs.kept_tables.marked_rows.Goals as goal
 
 pub returns : goal.returns

@@ -1,5 +1,4 @@
-use Rattle.dexpool.proofs.Common.{◌≡◌, ◌++◌, drop}
-use Rattle.dexpool.specs.{places}
+use Rattle.dexpool.proofs.Common.{◌≡◌, ◌++◌, drop, places}
 use Rattle.dexpool.proofs.kept_tables.places_of.Given as goal
 
 abbrev pub invariant-loop-is_marked : goal.invariant-loop-is_marked

@@ -1,8 +1,4 @@
-use Rattle.dexpool.proofs.Common.{ℕ, ◌<◌, List, [], length, sym, ◌∙◌, ap, map, subst, slice_index, All, length-map}
-use Rattle.dexpool.specs.declared.rows.ProtoEntry.{ProtoEntry}
-use Rattle.dexpool.specs.{Maps, HasSpan}
-use Rattle.dexpool.specs.internal.Renumbering.{numbers_of, moved_proto, moved_field, moved_method, IsEntryWithin}
-use Rattle.dexpool.specs.internal.Closing.{number_or_none}
+use Rattle.dexpool.proofs.Common.{ℕ, ◌<◌, List, [], length, sym, ◌∙◌, ap, map, subst, slice_index, All, length-map, ProtoEntry, Maps, HasSpan, numbers_of, moved_proto, moved_field, moved_method, IsEntryWithin, number_or_none}
 use Rattle.dexpool.proofs.KeptTables.{left_all, numbers_count}
 use Rattle.dexpool.proofs.Moved.{have_images, IsFieldAmong, IsMethodAmong, types_movable, protos_movable, fields_among, methods_among}
 use Rattle.dexpool.proofs.kept_tables.renumbered_tables.Goals as goal

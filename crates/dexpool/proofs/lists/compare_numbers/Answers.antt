@@ -1,5 +1,4 @@
-use Rattle.dexpool.proofs.Common.{◌≡◌, ◌∙◌, ◌+◌, ◌/◌, min, length, drop, get_or, sym, arith, nat_cmp, key_cmp, length-ushorts_at, key_at, key_differs, key_agrees, key_ended}
-use Rattle.dexpool.specs.{file_numbers}
+use Rattle.dexpool.proofs.Common.{◌≡◌, ◌∙◌, ◌+◌, ◌/◌, min, length, drop, get_or, sym, arith, nat_cmp, key_cmp, length-ushorts_at, key_at, key_differs, key_agrees, key_ended, file_numbers}
 use Rattle.dexpool.proofs.lists.compare_numbers.Goals as goal
 
 pub loop-i-preserved : goal.loop-i-preserved

@@ -1,5 +1,4 @@
-use Rattle.dexpool.proofs.Common.{◌≡◌, drop, key_cmp}
-use Rattle.dexpool.specs.{file_numbers}
+use Rattle.dexpool.proofs.Common.{◌≡◌, drop, key_cmp, file_numbers}
 use Rattle.dexpool.proofs.lists.compare_numbers.Given as goal
 
 abbrev pub invariant-loop-i : goal.invariant-loop-i

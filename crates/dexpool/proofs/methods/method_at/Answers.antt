@@ -1,5 +1,4 @@
-use Rattle.dexpool.proofs.Common.{subst, refl, arith, false≢true, StringRow, TypeRow}
-use Rattle.dexpool.specs.{file_numbers}
+use Rattle.dexpool.proofs.Common.{subst, refl, arith, false≢true, StringRow, TypeRow, file_numbers}
 use Rattle.dexpool.proofs.MethodRows.{method_names, no_proto_row, method_has_row}
 use Rattle.dexpool.proofs.methods.method_at.Goals as goal
 
@@ -14,10 +13,8 @@ returns-then-not-is_method c = λ holds. let m = holds.item in let h = holds.is 
 
 pub returns-then-protos-method : goal.returns-then-protos-method
 returns-then-protos-method c = λ holds.
-    let m = holds.item in
-    let h = holds.is in
-    no_proto_row c.args.names.now.frame.now c.args.names.now.strings.now c.args.names.now.types.now (file_numbers c.args.names.now.frame.now) c.args.protos.now c.args.i c.method_numbers-method.result m
-    c.requires.protos c.method_numbers-method.ensures (omega (arith, c.if-protos-method.true)) h
+    no_proto_row c.args.names.now.frame.now c.args.names.now.strings.now c.args.names.now.types.now (file_numbers c.args.names.now.frame.now) c.args.protos.now c.args.i c.method_numbers-method.result holds.item
+    c.requires.protos c.method_numbers-method.ensures (omega (arith, c.if-protos-method.true)) holds.is
 
 pub returns : goal.returns
 returns c =

@@ -8,14 +8,9 @@ count_is b rest off n e is = e ∙ uint_at_rest b rest off 0 off is (omega arith
 
 pub returns-then-not-is_in_data-2 : goal.returns-then-not-is_in_data-2
 returns-then-not-is_in_data-2 c = λ n h.
-    let count = count_is c.args.frame.now c.rest.result.now c.args.off _ c.u32_at-count.ensures c.rest.ensures in
-    false≢true (c.if-not-is_in_data-2.ensures.1 (subst (λ m. IsInData c.args.frame.now c.args.off (4 + 2 * m)) (sym (c.from.ensures ∙ count)) h.in_data))
+    false≢true (c.if-not-is_in_data-2.ensures.1 (subst (λ m. IsInData c.args.frame.now c.args.off (4 + 2 * m)) (sym (c.from.ensures ∙ (count_is c.args.frame.now c.rest.result.now c.args.off _ c.u32_at-count.ensures c.rest.ensures))) h.in_data))
 
 pub returns : goal.returns
 returns c =
     let count = count_is c.args.frame.now c.rest.result.now c.args.off _ c.u32_at-count.ensures c.rest.ensures in
-    record {
-      count = count;
-      in_data = subst (λ m. IsInData c.args.frame.now c.args.off (4 + 2 * m)) (c.from.ensures ∙ count) (c.if-not-is_in_data-2.ensures.0 refl);
-      aligned = omega arith;
-    }
+    record { count = count; in_data = subst (λ m. IsInData c.args.frame.now c.args.off (4 + 2 * m)) (c.from.ensures ∙ count) (c.if-not-is_in_data-2.ensures.0 refl); aligned = omega arith }

@@ -1,6 +1,4 @@
-use Rattle.dexpool.proofs.Common.{List, subst}
-use Rattle.dexpool.specs.declared.rows.ProtoEntry.{ProtoEntry}
-use Rattle.dexpool.specs.{AreMethods, file_numbers}
+use Rattle.dexpool.proofs.Common.{List, subst, ProtoEntry, AreMethods, file_numbers}
 use Rattle.dexpool.proofs.pools.read_rows.Goals as goal
 
 pub returns-clause-methods : goal.returns-clause-methods

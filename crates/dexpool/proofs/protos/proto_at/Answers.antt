@@ -1,5 +1,4 @@
-use Rattle.dexpool.proofs.Common.{◌∷◌, ℕ, [], refl, sym, subst, ◌∙◌, ap, OrNone, shorty, StringRow, TypeRow, TypeListAt, IsAscii}
-use Rattle.dexpool.specs.{span_of, letters_of, file_numbers}
+use Rattle.dexpool.proofs.Common.{◌∷◌, ℕ, [], refl, sym, subst, ◌∙◌, ap, OrNone, shorty, StringRow, TypeRow, TypeListAt, IsAscii, span_of, letters_of, file_numbers}
 use Rattle.dexpool.proofs.FirstUnits.{letter_ascii}
 use Rattle.dexpool.proofs.ProtoRows.{shorty_same, is_at_there}
 use Rattle.dexpool.proofs.protos.proto_at.Goals as goal

@@ -1,5 +1,4 @@
-use Rattle.dexpool.proofs.Common.{◌-◌, ◌≡◌, ◌<◌, ◌≤◌, ℕ, Bool, true, false, is_lt}
-use Rattle.dexpool.specs.internal.Ranking.{ComeFirst}
+use Rattle.dexpool.proofs.Common.{◌-◌, ◌≡◌, ◌<◌, ◌≤◌, ℕ, Bool, true, false, is_lt, ComeFirst}
 use Rattle.dexpool.proofs.ranks.count_less.Given as goal
 
 abbrev pub invariant-loop-low : goal.invariant-loop-low

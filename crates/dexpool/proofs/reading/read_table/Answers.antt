@@ -1,6 +1,5 @@
-use Rattle.dexpool.proofs.Common.{sym, ap, subst, ◌∙◌, arith, Condition, number}
+use Rattle.dexpool.proofs.Common.{sym, ap, subst, ◌∙◌, arith, Condition, number, IsFault}
 use Rattle.dexpool.specs.declared.faults.ReadFault.TheVariants.{Refused}
-use Rattle.dexpool.specs.{IsFault}
 use Rattle.dexpool.proofs.Refusing.{refused}
 use Rattle.dexpool.proofs.reading.read_table.Goals as goal
 
@@ -9,5 +8,4 @@ returns-in-None-clause-err g c =
     let b = g.R.TableReader.file c.args.reader.now in
     let i = c.loop-i.i in
     let is = c.refused.ensures ∙ ap (λ (x : Condition). Refused (record { number = number x; place = i })) c.rows-condition.ensures.condition in
-    let none = rw c.in-None.is at c.in_ok-row.ensures.row in
-    subst (IsFault b) (sym is) (refused b g.R.TableReader.condition i (c.law.ensures.condition b i) c.requires.before (omega (arith, c.rows-condition.ensures.count)) c.loop-i.invariant.rows.held none)
+    subst (IsFault b) (sym is) (refused b g.R.TableReader.condition i (c.law.ensures.condition b i) c.requires.before (omega (arith, c.rows-condition.ensures.count)) c.loop-i.invariant.rows.held (rw c.in-None.is at c.in_ok-row.ensures.row))

@@ -1,5 +1,4 @@
-use Rattle.dexpool.proofs.Common.{Holds}
-use Rattle.dexpool.specs.{ReadTo}
+use Rattle.dexpool.proofs.Common.{Holds, ReadTo}
 use Rattle.dexpool.proofs.reading.read_table.Given as goal
 
 abbrev pub invariant-loop-i : goal.invariant-loop-i

@@ -1,5 +1,4 @@
-use Rattle.dexpool.proofs.Common.{map, ap, ◌∙◌, subst, length, ◌≤◌, take_all}
-use Rattle.dexpool.specs.internal.Renumbering.{numbers_of}
+use Rattle.dexpool.proofs.Common.{map, ap, ◌∙◌, subst, length, ◌≤◌, take_all, numbers_of}
 use Rattle.dexpool.proofs.renumbering.proto_rows.Goals as goal
 
 pub returns : goal.returns

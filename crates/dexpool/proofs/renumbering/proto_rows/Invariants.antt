@@ -1,5 +1,4 @@
-use Rattle.dexpool.proofs.Common.{◌≡◌, map, take}
-use Rattle.dexpool.specs.internal.Renumbering.{numbers_of}
+use Rattle.dexpool.proofs.Common.{◌≡◌, map, take, numbers_of}
 use Rattle.dexpool.proofs.renumbering.proto_rows.Given as goal
 
 abbrev pub invariant-loop-entry : goal.invariant-loop-entry

@@ -1,6 +1,4 @@
-use Rattle.dexpool.proofs.Common.{◌≡◌, [], ◌∷◌, ◌++◌, ◌+◌, ◌<◌, length, map, take, set, ap, sym, subst, ◌∙◌, arith, slice_index, All, map_more, take_more_set, length-set, ProtoNumbers}
-use Rattle.dexpool.specs.declared.rows.ProtoEntry.{ProtoEntry}
-use Rattle.dexpool.specs.internal.Renumbering.{moved_proto, IsEntryWithin}
+use Rattle.dexpool.proofs.Common.{◌≡◌, [], ◌∷◌, ◌++◌, ◌+◌, ◌<◌, length, map, take, set, ap, sym, subst, ◌∙◌, arith, slice_index, All, map_more, take_more_set, length-set, ProtoNumbers, ProtoEntry, moved_proto, IsEntryWithin}
 use Rattle.dexpool.proofs.InPlace.{same_at, rest_set, still_holds}
 use Rattle.dexpool.proofs.StoredProtos.{rows_more, spans_more}
 use Rattle.dexpool.proofs.renumbering.renumbered_protos.Goals as goal

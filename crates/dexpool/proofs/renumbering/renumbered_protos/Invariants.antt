@@ -1,6 +1,4 @@
-use Rattle.dexpool.proofs.Common.{◌≡◌, length, map, take, drop, All}
-use Rattle.dexpool.specs.{HasSpan}
-use Rattle.dexpool.specs.internal.Renumbering.{numbers_of, moved_proto}
+use Rattle.dexpool.proofs.Common.{◌≡◌, length, map, take, drop, All, HasSpan, numbers_of, moved_proto}
 use Rattle.dexpool.proofs.renumbering.renumbered_protos.Given as goal
 
 abbrev pub invariant-loop-i : goal.invariant-loop-i

@@ -1,5 +1,4 @@
-use Rattle.dexpool.proofs.Common.{map, ap, ◌∙◌, [], ◌∷◌, ◌++◌, sym, slice_index, take_all, map_more}
-use Rattle.dexpool.specs.internal.Renumbering.{moved_type}
+use Rattle.dexpool.proofs.Common.{map, ap, ◌∙◌, [], ◌∷◌, ◌++◌, sym, slice_index, take_all, map_more, moved_type}
 use Rattle.dexpool.proofs.renumbering.renumbered_types.Goals as goal
 
 pub loop-n-preserved : goal.loop-n-preserved

@@ -1,5 +1,4 @@
-use Rattle.dexpool.proofs.Common.{◌≡◌, map, take}
-use Rattle.dexpool.specs.internal.Renumbering.{moved_type}
+use Rattle.dexpool.proofs.Common.{◌≡◌, map, take, moved_type}
 use Rattle.dexpool.proofs.renumbering.renumbered_types.Given as goal
 
 abbrev pub invariant-loop-n : goal.invariant-loop-n

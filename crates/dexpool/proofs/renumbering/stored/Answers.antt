@@ -1,5 +1,4 @@
-use Rattle.dexpool.proofs.Common.{◌++◌, ◌∷◌, [], ◌≡◌, arith, sym, ◌∙◌, take_more, ProtoNumbers}
-use Rattle.dexpool.specs.declared.rows.ProtoEntry.{ProtoEntry}
+use Rattle.dexpool.proofs.Common.{◌++◌, ◌∷◌, [], ◌≡◌, arith, sym, ◌∙◌, take_more, ProtoNumbers, ProtoEntry}
 use Rattle.dexpool.proofs.StoredProtos.{rows_more, spans_more}
 use Rattle.dexpool.proofs.renumbering.stored.Goals as goal
 

@@ -1,6 +1,4 @@
-use Rattle.dexpool.proofs.Common.{◌≡◌, map, take, All}
-use Rattle.dexpool.specs.{HasSpan}
-use Rattle.dexpool.specs.internal.Renumbering.{numbers_of}
+use Rattle.dexpool.proofs.Common.{◌≡◌, map, take, All, HasSpan, numbers_of}
 use Rattle.dexpool.proofs.renumbering.stored.Given as goal
 
 abbrev pub invariant-loop-proto : goal.invariant-loop-proto

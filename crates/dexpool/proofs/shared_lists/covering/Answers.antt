@@ -1,17 +1,14 @@
-use Rattle.dexpool.proofs.Common.{rules, subst, All, take_all}
-use Rattle.dexpool.specs.internal.SharedLists.{Covers}
-use Rattle.dexpool.specs.declared.rows.ProtoEntry.{ProtoEntry}
+use Rattle.dexpool.proofs.Common.{rules, subst, All, take_all, Covers, ProtoEntry}
 use Rattle.dexpool.proofs.SharedLists.{covers_more}
 use Rattle.dexpool.proofs.shared_lists.covering.Goals as goal
 
 pub loop-entry-preserved : goal.loop-entry-preserved
 loop-entry-preserved c =
-    let ps = c.args.protos.now in
     let i = c.loop-entry.entry-index in
     let none : ProtoEntry = record { shorty = 0; return_type = 0; parameters = record { start = 0; end = 0 } } in
     let lt = c.loop-entry-test.true in
     record {
-      covers = covers_more c.loop-entry.range c.both-range.result ps i none lt c.both-range.ensures.left c.both-range.ensures.right c.loop-entry.invariant.covers;
+      covers = covers_more c.loop-entry.range c.both-range.result c.args.protos.now i none lt c.both-range.ensures.left c.both-range.ensures.right c.loop-entry.invariant.covers;
       within = λ qs h. c.both-range.ensures.within qs (c.loop-entry.invariant.within qs h) (h i none lt);
     }
 

@@ -1,6 +1,4 @@
-use Rattle.dexpool.proofs.Common.{ℕ, List, take, All}
-use Rattle.dexpool.specs.{HasSpan}
-use Rattle.dexpool.specs.internal.SharedLists.{Covers}
+use Rattle.dexpool.proofs.Common.{ℕ, List, take, All, HasSpan, Covers}
 use Rattle.dexpool.proofs.shared_lists.covering.Given as goal
 
 abbrev pub invariant-loop-entry : goal.invariant-loop-entry

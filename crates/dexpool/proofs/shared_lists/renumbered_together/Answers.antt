@@ -1,8 +1,4 @@
-use Rattle.dexpool.proofs.Common.{◌+◌, ◌<◌, length, map, take, set, ap, sym, subst, ◌∙◌, arith, slice_index, take_more_set, length-set}
-use Rattle.dexpool.specs.declared.rows.ProtoEntry.{ProtoEntry}
-use Rattle.dexpool.specs.declared.rows.Span.{Span}
-use Rattle.dexpool.specs.internal.Renumbering.{IsEntryWithin}
-use Rattle.dexpool.specs.internal.SharedLists.{Covers, IsPlaceWithin}
+use Rattle.dexpool.proofs.Common.{◌+◌, ◌<◌, length, map, take, set, ap, sym, subst, ◌∙◌, arith, slice_index, take_more_set, length-set, ProtoEntry, Span, IsEntryWithin, Covers, IsPlaceWithin}
 use Rattle.dexpool.proofs.InPlace.{same_at, rest_set, still_holds}
 use Rattle.dexpool.proofs.SharedLists.{spans_placed, rows_placed}
 use Rattle.dexpool.proofs.shared_lists.renumbered_together.Goals as goal

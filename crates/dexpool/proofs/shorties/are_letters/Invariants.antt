@@ -1,5 +1,4 @@
-use Rattle.dexpool.proofs.Common.{◌↔◌, drop}
-use Rattle.dexpool.specs.internal.CheckedLists.{SpellNumbers}
+use Rattle.dexpool.proofs.Common.{◌↔◌, drop, SpellNumbers}
 use Rattle.dexpool.proofs.shorties.are_letters.Given as goal
 
 abbrev pub invariant-loop-i : goal.invariant-loop-i

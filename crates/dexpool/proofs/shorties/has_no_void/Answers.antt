@@ -1,5 +1,4 @@
-use Rattle.dexpool.proofs.Common.{◌≡◌, ◌+◌, Bool, drop, false, sym, subst, arith, ◌↔◌, All}
-use Rattle.dexpool.specs.internal.CheckedLists.{IsNotVoid}
+use Rattle.dexpool.proofs.Common.{◌≡◌, ◌+◌, Bool, drop, false, sym, subst, arith, ◌↔◌, All, IsNotVoid}
 use Rattle.dexpool.proofs.Spellings.{void_here, no_void_here, void_decides}
 use Rattle.dexpool.proofs.shorties.has_no_void.Goals as goal
 use Rattle.dexpool.proofs.shorties.has_no_void.Goals.{then-unit-eq-VOID, else-unit-eq-VOID}

@@ -1,5 +1,4 @@
-use Rattle.dexpool.proofs.Common.{◌≡◌, drop, false, ◌↔◌, All}
-use Rattle.dexpool.specs.internal.CheckedLists.{IsNotVoid}
+use Rattle.dexpool.proofs.Common.{◌≡◌, drop, false, ◌↔◌, All, IsNotVoid}
 use Rattle.dexpool.proofs.shorties.has_no_void.Given as goal
 
 abbrev pub invariant-loop-unit : goal.invariant-loop-unit

@@ -1,5 +1,4 @@
-use Rattle.dexpool.proofs.Common.{ℕ, [], ◌∷◌, ◌++◌, map, ap, sym, ◌∙◌, map_more, take_all, shorty_letter}
-use Rattle.dexpool.specs.{text_of}
+use Rattle.dexpool.proofs.Common.{ℕ, [], ◌∷◌, ◌++◌, map, ap, sym, ◌∙◌, map_more, take_all, shorty_letter, text_of}
 use Rattle.dexpool.proofs.shorties.letters_of.Goals as goal
 
 pub loop-i-preserved : goal.loop-i-preserved

@@ -1,5 +1,4 @@
-use Rattle.dexpool.proofs.Common.{◌≡◌, map, take, shorty_letter}
-use Rattle.dexpool.specs.{text_of}
+use Rattle.dexpool.proofs.Common.{◌≡◌, map, take, shorty_letter, text_of}
 use Rattle.dexpool.proofs.shorties.letters_of.Given as goal
 
 abbrev pub invariant-loop-i : goal.invariant-loop-i

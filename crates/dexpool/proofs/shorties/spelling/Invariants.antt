@@ -1,5 +1,4 @@
-use Rattle.dexpool.proofs.Common.{◌≡◌, take}
-use Rattle.dexpool.specs.internal.CheckedLists.{letters_in}
+use Rattle.dexpool.proofs.Common.{◌≡◌, take, letters_in}
 use Rattle.dexpool.proofs.shorties.spelling.Given as goal
 
 abbrev pub invariant-loop-i : goal.invariant-loop-i

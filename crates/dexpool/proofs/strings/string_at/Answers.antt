@@ -10,11 +10,8 @@ returns-then-at-data_off c = λ holds. omega (arith, holds.is.in_data, at_is c.a
 
 pub returns-then-bytes-at : goal.returns-then-bytes-at
 returns-then-bytes-at c = λ holds.
-    let s = holds.text in
     let h = holds.is in
-    let at = at_is c.args.frame.now c.row.result.now c.args.i _ c.u32_at-at.ensures c.row.ensures.bytes in
-    let len : length c.bytes-bytes.result.now ≡ length c.args.frame.now = ap (λ (b : List ℕ). length b) c.bytes-bytes.ensures.bytes in
-    no_text_after c.args.frame.now _ h.encodes.0 s (omega (arith, c.if-bytes-at.true, at, len)) h.encodes.1
+    no_text_after c.args.frame.now _ h.encodes.0 holds.text (omega (arith, c.if-bytes-at.true, at_is c.args.frame.now c.row.result.now c.args.i _ c.u32_at-at.ensures c.row.ensures.bytes, ap (λ (b : List ℕ). length b) c.bytes-bytes.ensures.bytes)) h.encodes.1
 
 pub returns-in-Ok : goal.returns-in-Ok
 returns-in-Ok c =
@@ -29,5 +26,4 @@ pub returns-in-Err : goal.returns-in-Err
 returns-in-Err c = λ holds.
     let s = holds.text in
     let h = holds.is in
-    let at = at_is c.args.frame.now c.row.result.now c.args.i _ c.u32_at-at.ensures c.row.ensures.bytes in
-    c.in-Err.ensures.none s h.encodes.0 (subst (λ b. StringDataAt b c.u32_at-at.result s h.encodes.0) (sym c.bytes-bytes.ensures.bytes) (subst (λ o. StringDataAt c.args.frame.now o s h.encodes.0) (sym at) h.encodes.1))
+    c.in-Err.ensures.none s h.encodes.0 (subst (λ b. StringDataAt b c.u32_at-at.result s h.encodes.0) (sym c.bytes-bytes.ensures.bytes) (subst (λ o. StringDataAt c.args.frame.now o s h.encodes.0) (sym (at_is c.args.frame.now c.row.result.now c.args.i _ c.u32_at-at.ensures c.row.ensures.bytes)) h.encodes.1))

@@ -1,5 +1,4 @@
-use Rattle.dexpool.proofs.Common.{[], ◌∷◌, ◌++◌, sym, ap, ◌∙◌, arith, map, map_more, take_all}
-use Rattle.dexpool.specs.{type_of}
+use Rattle.dexpool.proofs.Common.{[], ◌∷◌, ◌++◌, sym, ap, ◌∙◌, arith, map, map_more, take_all, type_of}
 use Rattle.dexpool.proofs.symbols.type_names.Goals as goal
 
 pub loop-i-preserved : goal.loop-i-preserved

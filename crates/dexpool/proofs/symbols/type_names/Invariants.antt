@@ -1,5 +1,4 @@
-use Rattle.dexpool.proofs.Common.{◌≡◌, map, take}
-use Rattle.dexpool.specs.{type_of}
+use Rattle.dexpool.proofs.Common.{◌≡◌, map, take, type_of}
 use Rattle.dexpool.proofs.symbols.type_names.Given as goal
 
 abbrev pub invariant-loop-i : goal.invariant-loop-i

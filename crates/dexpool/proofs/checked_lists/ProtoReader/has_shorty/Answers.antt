@@ -1,6 +1,4 @@
-use Rattle.dexpool.proofs.Common.{refl, sym, subst, ◌∙◌, false≢true}
-use Rattle.dexpool.specs.{span_of, file_numbers}
-use Rattle.dexpool.specs.internal.CheckedLists.{IsSpelled}
+use Rattle.dexpool.proofs.Common.{refl, sym, subst, ◌∙◌, false≢true, span_of, file_numbers, IsSpelled}
 use Rattle.dexpool.proofs.SpelledLists.{known_checked, spelled_checked, not_spelled, other_units}
 use Rattle.dexpool.proofs.checked_lists.ProtoReader.has_shorty.Goals as goal
 

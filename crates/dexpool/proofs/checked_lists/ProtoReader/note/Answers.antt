@@ -1,7 +1,5 @@
-use Rattle.dexpool.proofs.Common.{◌≡◌, ℕ, Some, sym, subst, ◌∙◌, inl, inr, ne_eqb, nat_eq, cases_eq}
+use Rattle.dexpool.proofs.Common.{◌≡◌, ℕ, Some, sym, subst, ◌∙◌, inl, inr, ne_eqb, nat_eq, cases_eq, CheckedList, IsChecked}
 use Rattle.std.specs.HashMap.{get}
-use Rattle.dexpool.specs.declared.checked_lists.CheckedList.{CheckedList}
-use Rattle.dexpool.specs.internal.CheckedLists.{IsChecked}
 use Rattle.dexpool.proofs.checked_lists.ProtoReader.note.Goals as goal
 
 one_value : (j k : CheckedList) → Some j ≡ Some k → k ≡ j

@@ -1,6 +1,4 @@
-use Rattle.dexpool.proofs.Common.{ℕ, List, ap, sym, subst, ◌∙◌, ◌↔◌, IsTrue}
-use Rattle.dexpool.specs.{span_of, HasSpan, file_numbers}
-use Rattle.dexpool.specs.internal.CheckedLists.{IsSpelled}
+use Rattle.dexpool.proofs.Common.{ℕ, List, ap, sym, subst, ◌∙◌, ◌↔◌, IsTrue, span_of, HasSpan, file_numbers, IsSpelled}
 use Rattle.dexpool.proofs.Spellings.{span_letters, part_letters, shorty_spelled}
 use Rattle.dexpool.proofs.checked_lists.ProtoReader.spells.Goals as goal
 
@@ -9,17 +7,15 @@ of-requires-clause-ordered c = c.requires.span.ordered
 
 pub of-requires-clause-within : goal.of-requires-clause-within
 of-requires-clause-within c =
-    let are = rw c.in-Some.is at c.requires.lists.letters_are in
-    (subst (λ (found : List ℕ). HasSpan found c.args.list.span) (sym (c.deref.ensures.value ∙ are)) (span_letters c.args.self.now.letters.now (file_numbers c.args.self.now.names.now.frame.now) c.args.list.span c.requires.span)).within
+    (subst (λ (found : List ℕ). HasSpan found c.args.list.span) (sym (c.deref.ensures.value ∙ (rw c.in-Some.is at c.requires.lists.letters_are))) (span_letters c.args.self.now.letters.now (file_numbers c.args.self.now.names.now.frame.now) c.args.list.span c.requires.span)).within
 
 pub returns-in-Some : goal.returns-in-Some
 returns-in-Some c =
-    let are = rw c.in-Some.is at c.requires.lists.letters_are in
     let letters = c.args.self.now.letters.now in
     let numbers = file_numbers c.args.self.now.names.now.frame.now in
     let span = c.args.list.span in
     shorty_spelled letters c.args.units.now c.args.list.letter (span_of numbers span) c.of.result.now
-    (c.of.ensures ∙ ap (λ (found : List ℕ). span_of found span) (c.deref.ensures.value ∙ are) ∙ part_letters letters numbers span) c.is_shorty.result c.is_shorty.ensures
+    (c.of.ensures ∙ ap (λ (found : List ℕ). span_of found span) (c.deref.ensures.value ∙ (rw c.in-Some.is at c.requires.lists.letters_are)) ∙ part_letters letters numbers span) c.is_shorty.result c.is_shorty.ensures
 
 pub returns-in-None : goal.returns-in-None
 returns-in-None c = subst (λ (ns : List ℕ). IsTrue c.is_spelled.result ↔ IsSpelled c.args.self.now.letters.now c.args.units.now c.args.list.letter ns)

@@ -1,5 +1,4 @@
-use Rattle.dexpool.proofs.Common.{sym, ◌∙◌, ap, map}
-use Rattle.dexpool.specs.internal.Closing.{number_or_none}
+use Rattle.dexpool.proofs.Common.{sym, ◌∙◌, ap, map, number_or_none}
 use Rattle.dexpool.proofs.StoredImages.{all_stored}
 use Rattle.dexpool.proofs.images.Images.numbers.Goals as goal
 

@@ -1,5 +1,4 @@
-use Rattle.dexpool.proofs.Common.{ℕ, map, Some, ap, ◌∙◌, arith, take_all}
-use Rattle.dexpool.specs.{Maps}
+use Rattle.dexpool.proofs.Common.{ℕ, map, Some, ap, ◌∙◌, arith, take_all, Maps}
 use Rattle.dexpool.proofs.JoinedTables.{maps_more}
 use Rattle.dexpool.proofs.joined_tables.JoinedImages.remaps.Goals as goal
 

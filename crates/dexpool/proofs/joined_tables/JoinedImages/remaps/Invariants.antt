@@ -1,5 +1,4 @@
-use Rattle.dexpool.proofs.Common.{map, take}
-use Rattle.dexpool.specs.internal.Joining.{AreMapsOf}
+use Rattle.dexpool.proofs.Common.{map, take, AreMapsOf}
 use Rattle.dexpool.proofs.joined_tables.JoinedImages.remaps.Given as goal
 
 abbrev pub invariant-loop-i : goal.invariant-loop-i

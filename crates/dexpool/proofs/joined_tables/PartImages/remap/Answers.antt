@@ -1,5 +1,4 @@
-use Rattle.dexpool.proofs.Common.{sym, subst}
-use Rattle.dexpool.specs.{KeepsOrder}
+use Rattle.dexpool.proofs.Common.{sym, subst, KeepsOrder}
 use Rattle.dexpool.proofs.joined_tables.PartImages.remap.Goals as goal
 
 pub invariant_of-result : goal.invariant_of-result

@@ -16,15 +16,13 @@ compare_type-requires-in-Equal-compare_string c = (c.field-row.ensures none).typ
 
 pub returns-in_default : goal.returns-in_default
 returns-in_default c = λ d.
-    let classes = at_number text_cmp _ _ c.compare_type.result [] _ c.args.field.now.class _ (c.field-row.ensures d).class_is (c.compare_type.ensures []) (c.text.ensures ∙ ap (λ (f : Field). f.class) c.field.view_is) in
-    by_first _ _ _ classes c.in_default.not-Equal
+    by_first _ _ _ (at_number text_cmp _ _ c.compare_type.result [] _ c.args.field.now.class _ (c.field-row.ensures d).class_is (c.compare_type.ensures []) (c.text.ensures ∙ ap (λ (f : Field). f.class) c.field.view_is)) c.in_default.not-Equal
 
 pub returns-in_default-compare_string : goal.returns-in_default-compare_string
 returns-in_default-compare_string c = λ d.
     let k = c.field-row.ensures d in
     let classes = at_number text_cmp _ _ c.compare_type.result [] _ c.args.field.now.class _ k.class_is (c.compare_type.ensures []) (c.text.ensures ∙ ap (λ (f : Field). f.class) c.field.view_is) in
-    let names = at_number text_cmp _ _ c.compare_string.result [] _ c.args.field.now.name _ k.name_is (c.compare_string.ensures []) (c.text-in-Equal.ensures ∙ ap (λ (f : Field). f.name) c.field.view_is) in
-    by_second _ _ _ _ classes c.in-Equal.is (by_first _ _ _ names c.in_default-compare_string.not-Equal)
+    by_second _ _ _ _ classes c.in-Equal.is (by_first _ _ _ (at_number text_cmp _ _ c.compare_string.result [] _ c.args.field.now.name _ k.name_is (c.compare_string.ensures []) (c.text-in-Equal.ensures ∙ ap (λ (f : Field). f.name) c.field.view_is)) c.in_default-compare_string.not-Equal)
 
 pub returns-in-Equal-compare_string : goal.returns-in-Equal-compare_string
 returns-in-Equal-compare_string c = λ d.

@@ -1,5 +1,4 @@
-use Rattle.dexpool.proofs.Common.{sym, ◌∙◌}
-use Rattle.dexpool.specs.declared.tables.Tables.{Tables}
+use Rattle.dexpool.proofs.Common.{sym, ◌∙◌, Tables}
 use Rattle.dexpool.proofs.SameTables.{HaveSameRows, same_symbols, same_tables}
 use Rattle.dexpool.proofs.numbering.Numbering.copy.Goals as goal
 

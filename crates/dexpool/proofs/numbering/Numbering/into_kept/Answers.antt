@@ -1,7 +1,4 @@
-use Rattle.dexpool.proofs.Common.{◌≡◌, ◌↔◌, ◌∙◌, sym, ap, subst, false≢true, Mentions, closed}
-use Rattle.dexpool.specs.{symbols_in, AreMarksOf, AllMapTo, Maps, marked, MapsDown, MapsMarked}
-use Rattle.dexpool.specs.internal.Closing.{kept_places, kept_symbols}
-use Rattle.dexpool.specs.internal.Marking.{HaveAllMarks}
+use Rattle.dexpool.proofs.Common.{◌≡◌, ◌↔◌, ◌∙◌, sym, ap, subst, false≢true, Mentions, closed, symbols_in, AreMarksOf, AllMapTo, Maps, marked, MapsDown, MapsMarked, kept_places, kept_symbols, HaveAllMarks}
 use Rattle.dexpool.proofs.KeptNumbers.{kept_down, kept_marked}
 use Rattle.dexpool.proofs.KeptSymbols.{are_closed, closed_count, kept_mentioned, kept_mapped}
 use Rattle.dexpool.proofs.KeptWhole.{whole_if_marked}
@@ -29,13 +26,11 @@ returns-then-are_all-clause-kept c = c.into_tables-tables.ensures.symbols ∙ sy
 
 pub marked_rows-rows-requires-clause-marks : goal.marked_rows-rows-requires-clause-marks
 marked_rows-rows-requires-clause-marks c =
-    let k = (goal.at.marked_rows-rows-requires-clause-marks c).In_ok-closed in
-    closed_count c.into_tables-tables.result c.into_tables-tables.ensures.tables c.args.marks.now (counted k) c.in_ok-closed.closed c.in_ok-closed.ensures
+    closed_count c.into_tables-tables.result c.into_tables-tables.ensures.tables c.args.marks.now (counted ((goal.at.marked_rows-rows-requires-clause-marks c).In_ok-closed)) c.in_ok-closed.closed c.in_ok-closed.ensures
 
 pub marked_rows-rows-requires-clause-closed : goal.marked_rows-rows-requires-clause-closed
 marked_rows-rows-requires-clause-closed c =
-    let k = (goal.at.marked_rows-rows-requires-clause-closed c).In_ok-closed in
-    are_closed c.into_tables-tables.result c.into_tables-tables.ensures.tables c.args.marks.now (counted k) c.in_ok-closed.closed c.in_ok-closed.ensures
+    are_closed c.into_tables-tables.result c.into_tables-tables.ensures.tables c.args.marks.now (counted ((goal.at.marked_rows-rows-requires-clause-closed c).In_ok-closed)) c.in_ok-closed.closed c.in_ok-closed.ensures
 
 pub renumbered-requires : goal.renumbered-requires
 renumbered-requires c = (c.into_tables-tables.result, c.marked_rows-rows.ensures)
@@ -53,8 +48,7 @@ pub returns-clause-map : goal.returns-clause-map
 returns-clause-map c =
     let t = c.into_tables-tables.result in
     let k = (c.in_ok-tables.ensures c.into_tables-tables.result c.marked_rows-rows.ensures) in
-    let are_mapped = kept_mapped t c.into_tables-tables.ensures.tables c.args.marks.now (counted (goal.at.returns-clause-map c).In_ok-closed) c.in_ok-closed.closed c.in_ok-closed.ensures in
-    let there = subst (λ (m : Mentions). AllMapTo (symbols_in t) m (kept_places c.in_ok-closed.closed)) (sym k.symbols_are) are_mapped in
+    let there = subst (λ (m : Mentions). AllMapTo (symbols_in t) m (kept_places c.in_ok-closed.closed)) (sym k.symbols_are) (kept_mapped t c.into_tables-tables.ensures.tables c.args.marks.now (counted (goal.at.returns-clause-map c).In_ok-closed) c.in_ok-closed.closed c.in_ok-closed.ensures) in
     let maps = subst (λ (r : Maps). AllMapTo (symbols_in t) (symbols_in c.in_ok-tables.tables) r) (sym k.maps_are) there in
     subst (λ (m : Mentions). AllMapTo m (symbols_in c.in_ok-tables.tables) c.in_ok-tables.remap) c.into_tables-tables.ensures.symbols maps
 

@@ -1,5 +1,4 @@
-use Rattle.dexpool.proofs.Common.{subst}
-use Rattle.dexpool.specs.{IsNumbering}
+use Rattle.dexpool.proofs.Common.{subst, IsNumbering}
 use Rattle.dexpool.proofs.TablesAreAt.{are_numbering}
 use Rattle.dexpool.proofs.numbering.Numbering.is_numbering.Goals as goal
 

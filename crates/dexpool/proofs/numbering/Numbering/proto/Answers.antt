@@ -1,12 +1,10 @@
-use Rattle.dexpool.proofs.Common.{◌≡◌, ◌<◌, get_or, length, sym, ◌∙◌, subst}
-use Rattle.dexpool.specs.{span_of, DenotesProto}
+use Rattle.dexpool.proofs.Common.{◌<◌, get_or, length, sym, ◌∙◌, subst, DenotesProto}
 use Rattle.dexpool.proofs.RowParts.{row_encoded}
 use Rattle.dexpool.proofs.numbering.Numbering.proto.Goals as goal
 
 pub returns : goal.returns
 returns c = λ d.
     let entry = c.index-entry.result.now in
-    let parameters : c.part-parameters.result ≡ span_of c.self.inside.tables.parameters entry.parameters = c.part-parameters.ensures in
     subst (λ m. DenotesProto m c.of.result (get_or m.protos c.args.i d)) c.self.view_is (row_encoded c.self.inside.tables c.self.invariant c.args.i entry c.of.result d
     (subst (λ m. c.args.i < length m.protos) (sym c.self.view_is) c.requires) c.index-entry.ensures
-    (c.of.ensures ∙ (λ i. record { shorty = entry.shorty; return_type = entry.return_type; parameters = parameters i })))
+    (c.of.ensures ∙ (λ i. record { shorty = entry.shorty; return_type = entry.return_type; parameters = c.part-parameters.ensures i })))

@@ -1,5 +1,4 @@
-use Rattle.dexpool.proofs.Common.{◌≡◌, ◌∙◌, ◌+◌, ◌-◌, ◌*◌, ◌^◌, ap, sym, arith, min, length, sum_by, text_weight, mentions_weight}
-use Rattle.dexpool.specs.declared.rows.ProtoEntry.{ProtoEntry}
+use Rattle.dexpool.proofs.Common.{◌≡◌, ◌∙◌, ◌+◌, ◌-◌, ◌*◌, ◌^◌, ap, sym, arith, min, length, sum_by, text_weight, mentions_weight, ProtoEntry}
 use Rattle.dexpool.proofs.Weighing.{tables_weight}
 use Rattle.dexpool.proofs.numbering.Numbering.weight.Goals as goal
 
@@ -7,9 +6,6 @@ pub returns : goal.returns
 returns c =
     let t = c.self.inside.tables in
     let weighs = λ (p : ProtoEntry). 20 + 2 * (p.parameters.end - p.parameters.start) in
-    let whole = sym (tables_weight t c.self.invariant) ∙ ap mentions_weight c.self.view_is in
-    let texts = ap (sum_by text_weight) c.deref.ensures.value in
-    let protos = ap (sum_by weighs) c.deref-2.ensures.value in
     let sums : c.saturating_add-4.result ≡ min (2 ^ 64 - 1) (sum_by text_weight t.strings.items + 4 * length t.types.items + sum_by weighs t.protos.items + 8 * length t.fields.items + 8 * length t.methods.items) =
-    omega (arith, texts, protos) in
-    sums ∙ ap (min (2 ^ 64 - 1)) whole
+    omega (arith, ap (sum_by text_weight) c.deref.ensures.value, ap (sum_by weighs) c.deref-2.ensures.value) in
+    sums ∙ ap (min (2 ^ 64 - 1)) (sym (tables_weight t c.self.invariant) ∙ ap mentions_weight c.self.view_is)

@@ -1,5 +1,4 @@
-use Rattle.dexpool.proofs.Common.{get_or, subst}
-use Rattle.dexpool.specs.{DenotesField}
+use Rattle.dexpool.proofs.Common.{get_or, subst, DenotesField}
 use Rattle.dexpool.proofs.pools.Pools.field.Goals as goal
 
 pub returns : goal.returns

@@ -1,5 +1,4 @@
-use Rattle.dexpool.proofs.Common.{get_or, subst}
-use Rattle.dexpool.specs.{DenotesMethod}
+use Rattle.dexpool.proofs.Common.{get_or, subst, DenotesMethod}
 use Rattle.dexpool.proofs.pools.Pools.method.Goals as goal
 
 pub returns : goal.returns

@@ -1,5 +1,4 @@
-use Rattle.dexpool.proofs.Common.{◌∙◌, ℕ, List, sym, ap, subst}
-use Rattle.dexpool.specs.{file_numbers}
+use Rattle.dexpool.proofs.Common.{◌∙◌, ℕ, List, sym, ap, subst, file_numbers}
 use Rattle.dexpool.proofs.AllPools.{AreRead, all_read, are_pools}
 use Rattle.dexpool.proofs.ReadTables.{read_tables}
 use Rattle.dexpool.proofs.pools.Pools.read.Goals as goal

@@ -1,5 +1,4 @@
-use Rattle.dexpool.proofs.Common.{sym, subst, ◌∙◌, arith}
-use Rattle.dexpool.specs.{IsProtoEntry, IsFieldRow, IsMethodRow}
+use Rattle.dexpool.proofs.Common.{sym, subst, ◌∙◌, arith, IsProtoEntry, IsFieldRow, IsMethodRow}
 use Rattle.dexpool.proofs.KindCounts.{text_in, type_in, proto_in, field_in, method_in}
 use Rattle.dexpool.proofs.pools.Pools.symbol.Goals as goal
 

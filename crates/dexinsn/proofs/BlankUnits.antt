@@ -19,9 +19,7 @@ zero_twice false (a ∷ []) = refl
 zero_twice false (a ∷ b ∷ xs) = refl
 
 zero_again : (xs : List ℕ) → with_index 0 (with_index 0 xs) ≡ with_index 0 xs
-zero_again xs =
-    ap (λ (w : Bool). cond w (slice_set (slice_set (with_index 0 xs) 1 0) 2 0) (slice_set (with_index 0 xs) 1 0)) (same_wide (with_index 0 xs) xs (first_kept 0 xs))
-    ∙ zero_twice (is_wide_index xs) xs
+zero_again xs = ap (λ (w : Bool). cond w (slice_set (slice_set (with_index 0 xs) 1 0) 2 0) (slice_set (with_index 0 xs) 1 0)) (same_wide (with_index 0 xs) xs (first_kept 0 xs)) ∙ zero_twice (is_wide_index xs) xs
 
 plain_blank : (t : Bool) (xs : List ℕ) → blank_units (cond t (Payload xs) (Instruction xs None)) ≡ numbered_units (cond t (Payload xs) (Instruction xs None))
 plain_blank true xs = refl
@@ -112,24 +110,22 @@ rise_by_unit is rise i j d le lt = elim (cases_eq i j) [
 pub none_covers : (us : List ℕ) (is : List Index) (i : ℕ) → IsCountBefore is i 0 → false ≡ list_any (covers us i) is
 none_covers us is i h = sym (false_from_ne_true (list_any (covers us i) is) (λ e.
     let found : Any (λ (x : Index). covers us i x ≡ true) is = Any-from_list_any (covers us i) is e in
-    let c : Index = found.1 in
-    omega (arith, (covers_within us i c found.4).0, subst (λ (x : Index). i ≤ x.unit) found.3 (h.after found.0 c (omega arith) found.2))))
+    omega (arith, (covers_within us i found.1 found.4).0, subst (λ (x : Index). i ≤ x.unit) found.3 (h.after found.0 found.1 (omega arith) found.2))))
 
 pub last_covers : (us : List ℕ) (is : List Index) (i k : ℕ) (d : Index) → AreStored us is → IsCountBefore is i (k + 1) → covers us i (get_or is k d) ≡ list_any (covers us i) is
 last_covers us is i k d s h = same_test (covers us i (get_or is k d)) (list_any (covers us i) is)
     (λ e. list_any_at (covers us i) is k d (omega (arith, h.within)) e)
     (λ e.
     let found : Any (λ (x : Index). covers us i x ≡ true) is = Any-from_list_any (covers us i) is e in
-    let c : Index = found.1 in
-    let within = covers_within us i c found.4 in
+    let within = covers_within us i found.1 found.4 in
     elim (cases_lt found.0 k) [
       | inl less ↦
-          absurd (omega (arith, within.1, (subst (λ (x : Index). after_index (is_wide_index (drop x.unit us)) x.unit ≤ (get_or is k c).unit) found.3 (follow_order us 0 is found.0 k c (stored_follow us is s) less (omega (arith, h.within)))), h.before k c (omega arith)))
+          absurd (omega (arith, within.1, (subst (λ (x : Index). after_index (is_wide_index (drop x.unit us)) x.unit ≤ (get_or is k found.1).unit) found.3 (follow_order us 0 is found.0 k found.1 (stored_follow us is s) less (omega (arith, h.within)))), h.before k found.1 (omega arith)))
       | inr more ↦ elim (cases_eq found.0 k) [
         | inl same ↦
-            ap (covers us i) (any_default is k d c (omega (arith, h.within)) ∙ ap (λ (j : ℕ). get_or is j c) (sym same) ∙ found.3) ∙ found.4
+            ap (covers us i) (any_default is k d found.1 (omega (arith, h.within)) ∙ ap (λ (j : ℕ). get_or is j found.1) (sym same) ∙ found.3) ∙ found.4
         | inr other ↦
-            absurd (omega (arith, within.0, (subst (λ (x : Index). i ≤ x.unit) found.3 (h.after found.0 c (omega (arith, more, other)) found.2))))
+            absurd (omega (arith, within.0, (subst (λ (x : Index). i ≤ x.unit) found.3 (h.after found.0 found.1 (omega (arith, more, other)) found.2))))
       ]
     ])
 
@@ -138,8 +134,7 @@ last_covers us is i k d s h = same_test (covers us i (get_or is k d)) (list_any 
 none_after : (us : List ℕ) (from i : ℕ) (is : List Index) → Follow us from is → i ≤ from → list_any (covers us i) is ≡ false
 none_after us from i is h le = false_from_ne_true (list_any (covers us i) is) (λ e.
     let found : Any (λ (x : Index). covers us i x ≡ true) is = Any-from_list_any (covers us i) is e in
-    let c : Index = found.1 in
-    omega (arith, (covers_within us i c found.4).0, subst (λ (x : Index). from ≤ x.unit) found.3 (follow_after us from is found.0 c h found.2), le))
+    omega (arith, (covers_within us i found.1 found.4).0, subst (λ (x : Index). from ≤ x.unit) found.3 (follow_after us from is found.0 found.1 h found.2), le))
 
 zero_units : (w : Bool) (k : ℕ) (more : List ℕ) → k < length (index_units w 0) → slice_index (index_units w 0 ++ more) k ≡ 0
 zero_units true (suc (suc k)) more lt = absurd (omega (arith, lt))
@@ -162,8 +157,7 @@ blank_one us from i (x ∷ is) h le lt =
           let place : from + (i - from) ≡ i = omega (arith, le) in
           let here : i - from < x.unit + 1 - from = omega (arith, below, le) in
           let none : covers us i x ≡ false = false_from_ne_true (covers us i x) (λ e. let c = covers_within us i x e in omega (arith, c.0, below)) in
-          get_or_append_left front (index_units w 0 ++ rest) 0 (i - from) (omega (arith, long, here))
-          ∙ get_or-take (x.unit + 1 - from) (drop from us) (i - from) 0 here
+          get_or_append_left front (index_units w 0 ++ rest) 0 (i - from) (omega (arith, long, here)) ∙ get_or-take (x.unit + 1 - from) (drop from us) (i - from) 0 here
           ∙ get_or-drop from us (i - from) 0 ∙ ap (slice_index us) place
           ∙ ap (λ (b : Bool). cond b 0 (slice_index us i)) (sym (ap (λ (b : Bool). b || list_any (covers us i) is) none ∙ (none_after us (after_index w x.unit) i is h.1 (omega (arith, below, after_is_more w x.unit)))))
       | inr above ↦
@@ -179,8 +173,7 @@ blank_one us from i (x ∷ is) h le lt =
                 let over : slice_index (index_units w 0 ++ rest) (i - (x.unit + 1)) ≡ slice_index rest (i - (x.unit + 1) - length (index_units w 0)) =
                 get_or-append_right (index_units w 0) rest (length (index_units w 0)) (i - (x.unit + 1)) 0 refl (omega (arith, units_after w x.unit, beyond)) in
                 let last : i - (x.unit + 1) - length (index_units w 0) ≡ i - after_index w x.unit = omega (arith, units_after w x.unit, beyond) in
-                moved ∙ ap (slice_index (index_units w 0 ++ rest)) step ∙ over ∙ ap (slice_index rest) last
-                ∙ blank_one us (after_index w x.unit) i is h.1 beyond lt
+                moved ∙ ap (slice_index (index_units w 0 ++ rest)) step ∙ over ∙ ap (slice_index rest) last ∙ blank_one us (after_index w x.unit) i is h.1 beyond lt
                 ∙ ap (λ (b : Bool). cond (b || list_any (covers us i) is) 0 (slice_index us i)) (sym none)
           ]
     ]

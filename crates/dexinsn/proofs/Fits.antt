@@ -32,10 +32,8 @@ place_by r us n (Some j) e some fits = (j, e, fits j refl)
 -- ---- after a cut
 
 cut_place : (r : Maps) (p : NumberedPiece) → MapsDown r → FitsPlace p → HasImage r p → HasPlace r p
-cut_place r (Instruction us None) down fits image = tt
-cut_place r (Instruction us (Some n)) down fits image =
-    place_by r us n (image_of r (kind_in us) n) refl image (λ j e. let le : j ≤ n = down (kind_in us) n j e in omega (arith, le, fits))
-cut_place r (Payload us) down fits image = tt
+cut_place r (Instruction us (Some n)) down fits image = place_by r us n (image_of r (kind_in us) n) refl image (λ j e. let le : j ≤ n = down (kind_in us) n j e in omega (arith, le, fits))
+cut_place r _ down fits image = tt
 
 cut_places : (r : Maps) (ps : List NumberedPiece) → MapsDown r → FitPlaces ps → All (HasImage r) ps → All (HasPlace r) ps
 cut_places r [] down fit images = All-nil (HasPlace r)
@@ -110,10 +108,8 @@ short_is true n k c = elim (Contains-cons_cases n k [] c) [
 short_is false n k c = absurd (Contains-nil k c)
 
 short_remapped : (r : Maps) (p : NumberedPiece) (i : ℕ) → HasImage r p → Contains (short_string p) i → IsSome (image r.texts i)
-short_remapped r (Instruction us None) i has c = absurd (Contains-nil i c)
-short_remapped r (Instruction us (Some n)) i has c =
-    let s = short_is (is_short_string us) n i c in subst (λ k. IsSome (image r.texts k)) s.1 (text_remapped r (kind_in us) (is_wide_index us) n s.0 has)
-short_remapped r (Payload us) i has c = absurd (Contains-nil i c)
+short_remapped r (Instruction us (Some n)) i has c = let s = short_is (is_short_string us) n i c in subst (λ k. IsSome (image r.texts k)) s.1 (text_remapped r (kind_in us) (is_wide_index us) n s.0 has)
+short_remapped r _ i has c = absurd (Contains-nil i c)
 
 pub shorts_remapped : (r : Maps) (ps : List NumberedPiece) (i : ℕ) → All (HasImage r) ps → Contains (short_strings ps) i → IsSome (image r.texts i)
 shorts_remapped r [] i all c = absurd (Contains-nil i c)
@@ -125,8 +121,7 @@ shorts_remapped r (p ∷ ps) i all c = elim (Contains-append_cases (short_string
 -- of two numbers of texts the lesser has the lesser image
 lesser_by : (r : Maps) (i g j k : ℕ) (b : Bool) → nat_lt i g ≡ b → KeepOrder r → image r.texts g ≡ Some k → k < 2 ^ 16 → i ≤ g → image r.texts i ≡ Some j → j < 2 ^ 16
 lesser_by r i g j k true test order e lt le f = let less : j < k = order.texts_keep i g j k (ltb-true i g test) f e in omega (arith, less, lt)
-lesser_by r i g j k false test order e lt le f =
-    let same : i ≡ g = omega (arith, ltb-false i g test, le) in let one : Some j ≡ Some k = sym f ∙ ap (image r.texts) same ∙ e in let is : j ≡ k = cc in omega (arith, is, lt)
+lesser_by r i g j k false test order e lt le f = let same : i ≡ g = omega (arith, ltb-false i g test, le) in let one : Some j ≡ Some k = sym f ∙ ap (image r.texts) same ∙ e in let is : j ≡ k = cc in omega (arith, is, lt)
 
 lesser_image : (r : Maps) (i g j : ℕ) (o : Option ℕ) → KeepOrder r → image r.texts g ≡ o → IsSome o → MapsShort r (Some g) → i ≤ g → image r.texts i ≡ Some j → j < 2 ^ 16
 lesser_image r i g j None order e some short le f = absurd cc
@@ -138,8 +133,7 @@ short_mapped r ns (Some g) order is short remapped i j c e = lesser_image r i g 
 
 pub places_after_join : (r : Maps) (ps : List NumberedPiece) (greatest : Option ℕ) → KeepOrder r → ImagesFit r → IsGreatest (short_strings ps) greatest → MapsShort r greatest → All (IsMappedUse r) (uses_of ps) → All (HasPlace r) ps
 places_after_join r ps greatest order fit is short uses =
-    let images : All (HasImage r) ps = images_of_uses r ps uses in
-    joined_places r ps fit (short_mapped r (short_strings ps) greatest order is short (λ i c. shorts_remapped r ps i images c)) images
+    let images : All (HasImage r) ps = images_of_uses r ps uses in joined_places r ps fit (short_mapped r (short_strings ps) greatest order is short (λ i c. shorts_remapped r ps i images c)) images
 
 -- ---- numbers as they are stored
 
@@ -174,8 +168,7 @@ shorts_by : (o : Option Pool) (us xs : List ℕ) (parts : List (List ℕ)) (is :
     → short_string (piece_with o xs is) ++ short_strings (pieces_with parts (left_by o is)) ≡ flat_map (short_at us) is
 shorts_by None us xs parts is on h = ap (λ (ns : List ℕ). ns ++ short_strings (pieces_with parts is)) (plain_short (is_payload_ident (slice_index xs 0)) xs) ∙ on is h
 shorts_by (Some pool) us xs parts [] on h = absurd h
-shorts_by (Some pool) us xs parts (i ∷ is) on h =
-    ap (λ (ns : List ℕ). ns ++ short_strings (pieces_with parts is)) (head_short us xs i h.0) ∙ ap (λ (ns : List ℕ). short_at us i ++ ns) (on is h.1)
+shorts_by (Some pool) us xs parts (i ∷ is) on h = ap (λ (ns : List ℕ). ns ++ short_strings (pieces_with parts is)) (head_short us xs i h.0) ∙ ap (λ (ns : List ℕ). short_at us i ++ ns) (on is h.1)
 
 shorts_lined : (us : List ℕ) (parts : List (List ℕ)) (is : List Index) → Lined us parts is → short_strings (pieces_with parts is) ≡ flat_map (short_at us) is
 shorts_lined us [] is h = ap (flat_map (short_at us)) (sym h)
@@ -196,10 +189,7 @@ greater_by ns g n m true test e is =
     )
 greater_by ns g n m false test e is =
     let le : n ≤ g = ltb-false g n test in
-    let same : g ≡ m = omega (arith, e, le) in (
-      Contains-append_left ns (n ∷ []) m (subst (Contains ns) same is.0),
-      All-push (λ k. k ≤ m) ns n (All-weaker (λ k. k ≤ g) (λ k. k ≤ m) (λ k h. omega (arith, h, same)) ns is.1) (omega (arith, le, same)),
-    )
+    let same : g ≡ m = omega (arith, e, le) in (Contains-append_left ns (n ∷ []) m (subst (Contains ns) same is.0), All-push (λ k. k ≤ m) ns n (All-weaker (λ k. k ≤ g) (λ k. k ≤ m) (λ k h. omega (arith, h, same)) ns is.1) (omega (arith, le, same)))
 
 pub greater_most : (ns : List ℕ) (g n : ℕ) → IsGreatest ns (Some g) → IsGreatest (ns ++ n ∷ []) (Some (max g n))
 greater_most ns g n is = greater_by ns g n (max g n) (nat_lt g n) refl refl is
@@ -207,8 +197,7 @@ greater_most ns g n is = greater_by ns g n (max g n) (nat_lt g n) refl refl is
 -- the indices up to one more
 pub shorts_more : (us : List ℕ) (is : List Index) (i : ℕ) (d : Index) → i < length is → flat_map (short_at us) (take (i + 1) is) ≡ flat_map (short_at us) (take i is) ++ short_at us (get_or is i d)
 shorts_more us is i d lt =
-    ap (flat_map (short_at us)) (take_more is i d lt) ∙ flat_map-append (short_at us) (take i is) (get_or is i d ∷ [])
-    ∙ ap (λ ns. flat_map (short_at us) (take i is) ++ ns) (append-nil (short_at us (get_or is i d)))
+    ap (flat_map (short_at us)) (take_more is i d lt) ∙ flat_map-append (short_at us) (take i is) (get_or is i d ∷ []) ∙ ap (λ ns. flat_map (short_at us) (take i is) ++ ns) (append-nil (short_at us (get_or is i d)))
 
 short_by : (b : Bool) (n : ℕ) → b ≡ true → (if b then n ∷ [] else []) ≡ n ∷ []
 short_by true n e = refl
@@ -228,8 +217,7 @@ module _ (us : List ℕ) (is : List Index) (i : ℕ) (d : Index) (lt : i < lengt
 
 -- the same, with the code's own names for the units and for the indices
 pub greatest_for : (us vs : List ℕ) (is js : List Index) (g : Option ℕ) → AreStored us is → vs ≡ us → js ≡ is → IsGreatest (flat_map (short_at vs) js) g → IsGreatest (short_strings (pieces_with (parts_in us) is)) g
-greatest_for us vs is js g s same_us same_is h =
-    subst (λ ns. IsGreatest ns g) (ap (λ (ws : List ℕ). flat_map (short_at ws) js) same_us ∙ ap (flat_map (short_at us)) same_is ∙ sym (stored_shorts us is s)) h
+greatest_for us vs is js g s same_us same_is h = subst (λ ns. IsGreatest ns g) (ap (λ (ws : List ℕ). flat_map (short_at ws) js) same_us ∙ ap (flat_map (short_at us)) same_is ∙ sym (stored_shorts us is s)) h
 
 -- ---- short strings by their opcode
 
@@ -246,8 +234,7 @@ unfolding opcode_of opcode_runs names_text
 string_ops = refl
 
 string_op : (op : ℕ) → op < 256 → is_string_op op ≡ true
-string_op op small =
-    sym (get_or-map-range_with_len is_string_op 0 256 op op false small (zero-add op)) ∙ ap (λ bs. get_or bs op false) string_ops ∙ get_or-replicate 256 op true false small
+string_op op small = sym (get_or-map-range_with_len is_string_op 0 256 op op false small (zero-add op)) ∙ ap (λ bs. get_or bs op false) string_ops ∙ get_or-replicate 256 op true false small
 
 either_op : (a b : Bool) (op : ℕ) → (op == 0x1a) ≡ a → b ≡ false → (a || b) ≡ true → op ≡ 0x1a
 either_op true b op is narrow h = eqb-true op 0x1a is
@@ -299,8 +286,7 @@ short_named m ps qs s h has = named_in m ps qs s has.units h has.piece has.short
 
 -- the symbol of a kind that is not of texts
 no_text : (us : List ℕ) (pool : Pool) → index_pool us ≡ Some pool → is_short_string us ≡ true → is_text (kind_of_pool pool) ≡ true
-no_text us pool e short =
-    ap is_text (sym (ap (λ (o : Option Pool). option_map_or kind_of_pool o kinds.Text) e)) ∙ (and_parts (is_text (kind_in us)) (not (is_wide_index us)) short).0
+no_text us pool e short = ap is_text (sym (ap (λ (o : Option Pool). option_map_or kind_of_pool o kinds.Text) e)) ∙ (and_parts (is_text (kind_in us)) (not (is_wide_index us)) short).0
 
 not_back : (b : Bool) → not b ≡ true → b ≡ false
 not_back true e = absurd cc
@@ -318,12 +304,10 @@ meant_by m us xs n (FieldSymbol s) h short = let bad : false ≡ true = no_text 
 meant_by m us xs n (MethodSymbol s) h short = let bad : false ≡ true = no_text us MethodPool h.1 short in absurd cc
 
 meant_piece : (m : Mentions) (p : NumberedPiece) (q : Piece) (n : ℕ) → Denotes m p q → Contains (short_string p) n → Meant m n q
-meant_piece m (Instruction us None) q n h c = absurd (Contains-nil n c)
-meant_piece m (Instruction us (Some k)) (symbolic.Instruction xs (Some t)) n h c =
-    let s = short_is (is_short_string us) k n c in subst (λ i. Meant m i (symbolic.Instruction xs (Some t))) s.1 (meant_by m us xs k t h s.0)
+meant_piece m (Instruction us (Some k)) (symbolic.Instruction xs (Some t)) n h c = let s = short_is (is_short_string us) k n c in subst (λ i. Meant m i (symbolic.Instruction xs (Some t))) s.1 (meant_by m us xs k t h s.0)
 meant_piece m (Instruction us (Some k)) (symbolic.Instruction xs None) n h c = absurd h
 meant_piece m (Instruction us (Some k)) (symbolic.Payload xs) n h c = absurd h
-meant_piece m (Payload us) q n h c = absurd (Contains-nil n c)
+meant_piece m _ q n h c = absurd (Contains-nil n c)
 
 pub short_denoted : (m : Mentions) (ps : List NumberedPiece) (qs : List Piece) (n : ℕ) → Denote m ps qs → Contains (short_strings ps) n → (s : Text) × IsAt m.texts n s × HasConstString qs s
 short_denoted m [] qs n h c = absurd (Contains-nil n c)
@@ -333,6 +317,5 @@ short_denoted m (p ∷ ps) (q ∷ qs) n h c = elim (Contains-append_cases (short
       let f = meant_piece m p q n h.0 l in (f.0, f.1, record { units = f.2; piece = subst (λ x. Contains (q ∷ qs) x) f.3 (Contains-first q qs); short = f.4 })
   | inr l ↦
       let f = short_denoted m ps qs n h.1 l in
-      let has : HasConstString qs f.0 = f.2 in
-      (f.0, f.1, record { units = has.units; piece = Contains-later q (symbolic.Instruction has.units (Some (TextSymbol f.0))) qs has.piece; short = has.short })
+      let has : HasConstString qs f.0 = f.2 in (f.0, f.1, record { units = has.units; piece = Contains-later q (symbolic.Instruction has.units (Some (TextSymbol f.0))) qs has.piece; short = has.short })
 ]

@@ -9,10 +9,7 @@ unit_at b o (suc n) zero lt = let e : o ≡ o + 2 * 0 = omega arith in ap (ushor
 unit_at b o (suc n) (suc i) lt = let e : o + 2 + 2 * i ≡ o + 2 * suc i = omega arith in unit_at b (o + 2) n i (omega arith) ∙ ap (ushort_at b) e
 
 pub unit_from : (b : List ℕ) (i : ℕ) → i < length (units_in b) → ushort_at b (2 * i) ≡ slice_index (units_in b) i
-unit_from b i lt =
-    let l : length (units_in b) ≡ length b / 2 = length-ushorts_at b 0 (length b / 2) in
-    let e : 2 * i ≡ 0 + 2 * i = omega arith in
-    ap (ushort_at b) e ∙ sym (unit_at b 0 (length b / 2) i (omega arith))
+unit_from b i lt = let l : length (units_in b) ≡ length b / 2 = length-ushorts_at b 0 (length b / 2) in let e : 2 * i ≡ 0 + 2 * i = omega arith in ap (ushort_at b) e ∙ sym (unit_at b 0 (length b / 2) i (omega arith))
 
 pub length_from : (b : List ℕ) → length (units_in b) ≡ length b / 2
 length_from b = length-ushorts_at b 0 (length b / 2)
@@ -43,8 +40,7 @@ rest_from b at le =
     let m : length (drop (2 * at) b) ≡ length b - 2 * at = length-drop (2 * at) b in
     let e : 2 * at + 0 ≡ 0 + 2 * at = omega arith in
     let f : length (drop (2 * at) b) / 2 ≡ length b / 2 - at = omega arith in
-    ushorts_after b (2 * at) 0 (length (drop (2 * at) b) / 2) ∙ ap (λ (o : ℕ). ushorts_at b o (length (drop (2 * at) b) / 2)) e ∙ ap (ushorts_at b (0 + 2 * at)) f
-    ∙ sym (ushorts_from b 0 (length b / 2) at (omega arith))
+    ushorts_after b (2 * at) 0 (length (drop (2 * at) b) / 2) ∙ ap (λ (o : ℕ). ushorts_at b o (length (drop (2 * at) b) / 2)) e ∙ ap (ushorts_at b (0 + 2 * at)) f ∙ sym (ushorts_from b 0 (length b / 2) at (omega arith))
 
 -- the same for four bytes
 pub uint_after : (b : List ℕ) (k o : ℕ) → uint_at (drop k b) o ≡ uint_at b (k + o)
@@ -54,9 +50,7 @@ uint_after b k o = simp drop-drop
 -- a number among the first bytes
 ushort_prefix : (b : List ℕ) (m o : ℕ) → o + 2 ≤ m → ushort_at (take m b) o ≡ ushort_at b o
 unfolding ushort_at
-ushort_prefix b m o le =
-    let e : m ≡ o + (m - o) = omega arith in
-    ap number_of (ap (λ (k : ℕ). take 2 (drop o (take k b))) e ∙ ap (take 2) (drop-take o (m - o) b) ∙ take-take 2 (m - o) (drop o b) (omega arith))
+ushort_prefix b m o le = let e : m ≡ o + (m - o) = omega arith in ap number_of (ap (λ (k : ℕ). take 2 (drop o (take k b))) e ∙ ap (take 2) (drop-take o (m - o) b) ∙ take-take 2 (m - o) (drop o b) (omega arith))
 
 -- units among the first bytes
 ushorts_prefix : (b : List ℕ) (m o n : ℕ) → o + 2 * n ≤ m → ushorts_at (take m b) o n ≡ ushorts_at b o n
@@ -69,5 +63,4 @@ units_of_part b k n le =
     let l : length (drop k b) ≡ length b - k = length-drop k b in
     let m : length (take (2 * n) (drop k b)) ≡ 2 * n = length-take-le (2 * n) (drop k b) (omega arith) in
     let h : length (take (2 * n) (drop k b)) / 2 ≡ n = omega arith in
-    let z : k + 0 ≡ k = omega arith in
-    ap (ushorts_at (take (2 * n) (drop k b)) 0) h ∙ ushorts_prefix (drop k b) (2 * n) 0 n (omega arith) ∙ ushorts_after b k 0 n ∙ ap (λ (o : ℕ). ushorts_at b o n) z
+    let z : k + 0 ≡ k = omega arith in ap (ushorts_at (take (2 * n) (drop k b)) 0) h ∙ ushorts_prefix (drop k b) (2 * n) 0 n (omega arith) ∙ ushorts_after b k 0 n ∙ ap (λ (o : ℕ). ushorts_at b o n) z

@@ -10,5 +10,4 @@ with_index_append (Some pool) us c is js = refl
 pub indices_push : (us : List ℕ) (cs : List Cut) (c : Cut) → indices_at us (cs ++ c ∷ []) ≡ indices_at us cs ++ with_index_at (index_pool (drop c.unit us)) us c []
 indices_push us [] c = refl
 indices_push us (b ∷ cs) c =
-    ap (with_index_at (index_pool (drop b.unit us)) us b) (indices_push us cs c)
-    ∙ with_index_append (index_pool (drop b.unit us)) us b (indices_at us cs) (with_index_at (index_pool (drop c.unit us)) us c [])
+    ap (with_index_at (index_pool (drop b.unit us)) us b) (indices_push us cs c) ∙ with_index_append (index_pool (drop b.unit us)) us b (indices_at us cs) (with_index_at (index_pool (drop c.unit us)) us c [])

@@ -20,10 +20,7 @@ compared us i a b answer first second is = ap (λ (z : ℤ). is_lt (int_cmp z (i
 -- a key that is less than the next leaves it to the others
 pub do_rise-less : (us : List ℕ) (i j n k : ℕ) (a b : ℤ) → n ≡ suc k → 0 < k → j ≡ i + 2 → a ≡ int_in us i → b ≡ int_in us (i + 2) → a <ℤ b → do_rise us i n ≡ do_rise us j k
 do_rise-less us i j n zero a b is some next first second less = absurd (omega arith)
-do_rise-less us i j n (suc k) a b is some next first second less =
-    ap (do_rise us i) is
-    ∙ step us i k true (compared us i a b true first second (is_lt-less a b less))
-    ∙ ap (λ (p : ℕ). do_rise us p (suc k)) (sym next)
+do_rise-less us i j n (suc k) a b is some next first second less = ap (do_rise us i) is ∙ step us i k true (compared us i a b true first second (is_lt-less a b less)) ∙ ap (λ (p : ℕ). do_rise us p (suc k)) (sym next)
 
 pub do_rise-not : (us : List ℕ) (i n k : ℕ) (a b : ℤ) → n ≡ suc k → 0 < k → a ≡ int_in us i → b ≡ int_in us (i + 2) → b ≤ℤ a → do_rise us i n ≡ false
 do_rise-not us i n zero a b is some first second le = absurd (omega arith)

@@ -1,5 +1,4 @@
 pub mod Common
-pub mod StartsRead
 pub mod SamePieces
 pub mod Listings
 pub mod SameSteps
@@ -8,7 +7,6 @@ pub mod PutUnits
 pub mod Steps
 pub mod Fits
 pub mod Lined
-pub mod FaultsRead
 pub mod StoredRead
 pub mod CodeRead
 pub mod IndicesRead
@@ -16,8 +14,6 @@ pub mod IndexRoom
 pub mod Halves
 pub mod Table
 pub mod Keys
-pub mod Sizes
-pub mod Cuts
 pub mod Outcome
 pub mod Starts
 pub mod RightTargets

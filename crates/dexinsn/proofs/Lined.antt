@@ -92,8 +92,7 @@ uses_by : (o : Option Pool) (us xs : List ℕ) (parts : List (List ℕ)) (is : L
     → piece_uses (piece_with o xs is) ++ uses_of (pieces_with parts (left_by o is)) ≡ map (use_at us) is
 uses_by None us xs parts is on h = ap (λ (ys : List Use). ys ++ uses_of (pieces_with parts is)) (plain_uses (is_payload_ident (slice_index xs 0)) xs) ∙ on is h
 uses_by (Some pool) us xs parts [] on h = absurd h
-uses_by (Some pool) us xs parts (i ∷ is) on h =
-    ap (λ k. record { kind = k; number = i.number } ∷ uses_of (pieces_with parts is)) (head_kind us xs i h.0) ∙ ap (λ (ys : List Use). use_at us i ∷ ys) (on is h.1)
+uses_by (Some pool) us xs parts (i ∷ is) on h = ap (λ k. record { kind = k; number = i.number } ∷ uses_of (pieces_with parts is)) (head_kind us xs i h.0) ∙ ap (λ (ys : List Use). use_at us i ∷ ys) (on is h.1)
 
 uses_lined : (us : List ℕ) (parts : List (List ℕ)) (is : List Index) → Lined us parts is → uses_of (pieces_with parts is) ≡ map (use_at us) is
 uses_lined us [] is h = ap (map (use_at us)) (sym h)
@@ -192,10 +191,7 @@ still_stored r us is s all = record { few = s.few; cut = s.cut; places = same_un
 pub renumber_all : (r : Maps) (us vs : List ℕ) (is js : List Index) → AreStored us is → vs ≡ us → All (HasPlace r) (pieces_with (parts_in us) is) → js ≡ map (renumbered_index r vs) is → AreStored us js × (pieces_with (parts_in us) js ≡ map (renumbered_piece r) (pieces_with (parts_in us) is))
 renumber_all r us vs is js s same all e =
     let places : All (HasPlaceAt r us) is = stored_places r us is s all in
-    let f : js ≡ map (renumbered_index r us) is = e ∙ ap (λ (ws : List ℕ). map (renumbered_index r ws) is) same in (
-      subst (AreStored us) (sym f) (still_stored r us is s places),
-      ap (pieces_with (parts_in us)) f ∙ stored_renumbered r us is s places,
-    )
+    let f : js ≡ map (renumbered_index r us) is = e ∙ ap (λ (ws : List ℕ). map (renumbered_index r ws) is) same in (subst (AreStored us) (sym f) (still_stored r us is s places), ap (pieces_with (parts_in us)) f ∙ stored_renumbered r us is s places)
 
 -- the same, with the code's own names for the units and for the indices
 pub indexed_for : (us vs : List ℕ) (is js : List Index) → AreStored us is → vs ≡ us → js ≡ is → All (IsIndexed vs) js

@@ -4,7 +4,7 @@ use Rattle.dexpool.specs.declared.symbols.SymbolKind.TheVariants as symbols
 use Rattle.dexinsn.specs.declared.listing.PieceKind.{PieceKind}
 use Rattle.dexinsn.specs.declared.listing.PieceKind.TheVariants as kinds
 use Rattle.dexinsn.specs.{kind_of}
-use Rattle.dexinsn.proofs.Sizes.{Fits, piece_size-fits}
+use Rattle.dexinsn.proofs.IndexRoom.{Fits, piece_size-fits}
 use Rattle.dexinsn.proofs.StoredRead.{cuts_from_is, same_pool, first_kept, cut_pool, cut_length, payload_pool}
 use Rattle.dexinsn.proofs.SamePieces.{left_by_places, length-blank, blank_is}
 
@@ -75,8 +75,7 @@ listing_whole us is = refl
 
 pub listing_end : (us : List ℕ) (at : ℕ) (is : List Index) → length us ≤ at → listing us at is ≡ []
 unfolding listing
-listing_end us at is le =
-    ap (λ (cs : List Cut). listed at (pieces_with (map (cut_units us) cs) is)) (cuts_from_is (length us) at (drop at us) [] (drop_all at us le) (omega (arith, length-drop at us)))
+listing_end us at is le = ap (λ (cs : List Cut). listed at (pieces_with (map (cut_units us) cs) is)) (cuts_from_is (length us) at (drop at us) [] (drop_all at us le) (omega (arith, length-drop at us)))
 
 cut_on : (us : List ℕ) (at : ℕ) (cs : List Cut) → AreCut at (drop at us) cs [] → at < length us → piece_size at (drop at us) ≡ None → ⊥
 cut_on us at [] cut lt none = omega (arith, ap length cut, length-drop at us)

@@ -39,10 +39,8 @@ piece_is m _ _ r h = absurd h
 -- the units are those of the symbolic pieces, where each index is the rank of its symbol
 pub units_are : (m : Mentions) (ps : List NumberedPiece) (qs : List Piece) → AreRising m → Denote m ps qs → flat_map numbered_units ps ≡ flat_map (piece_units m) qs
 units_are m [] [] r h = refl
-units_are m [] (q ∷ qs) r h = absurd h
-units_are m (p ∷ ps) [] r h = absurd h
-units_are m (p ∷ ps) (q ∷ qs) r h =
-    ap (λ (us : List ℕ). us ++ flat_map numbered_units ps) (piece_is m p q r h.0) ∙ ap (λ (us : List ℕ). piece_units m q ++ us) (units_are m ps qs r h.1)
+units_are m (p ∷ ps) (q ∷ qs) r h = ap (λ (us : List ℕ). us ++ flat_map numbered_units ps) (piece_is m p q r h.0) ∙ ap (λ (us : List ℕ). piece_units m q ++ us) (units_are m ps qs r h.1)
+units_are m _ _ r h = absurd h
 
 -- ---- other numbers
 
@@ -72,10 +70,8 @@ renumbered_denotes m n r _ _ l image h = absurd h
 -- the pieces denote the same symbolic ones
 pub renumbered_denote : (m n : Mentions) (r : Maps) (ps : List NumberedPiece) (qs : List Piece) → AllMapTo m n r → All (HasImage r) ps → Denote m ps qs → Denote n (map (renumbered_piece r) ps) qs
 renumbered_denote m n r [] [] l images h = tt
-renumbered_denote m n r [] (q ∷ qs) l images h = absurd h
-renumbered_denote m n r (p ∷ ps) [] l images h = absurd h
-renumbered_denote m n r (p ∷ ps) (q ∷ qs) l images h =
-    (renumbered_denotes m n r p q l (All-head (HasImage r) p ps images) h.0, renumbered_denote m n r ps qs l (All-tail (HasImage r) p ps images) h.1)
+renumbered_denote m n r (p ∷ ps) (q ∷ qs) l images h = (renumbered_denotes m n r p q l (All-head (HasImage r) p ps images) h.0, renumbered_denote m n r ps qs l (All-tail (HasImage r) p ps images) h.1)
+renumbered_denote m n r _ _ l images h = absurd h
 
 image_of_place : (r : Maps) (p : NumberedPiece) → HasPlace r p → HasImage r p
 image_of_place r (Instruction us (Some i)) h = subst IsSome (sym h.1) refl

@@ -16,14 +16,12 @@ none_yet words from = record { following = omega arith; none = λ k le lt has. o
 rest_of : (words : List ℕ) (at k : ℕ) → at ≤ k → k / 64 ≡ at / 64 → HasBit words k → bit_at (slice_index words (at / 64) / 2 ^ (at % 64)) (k - at) ≡ 1
 unfolding HasBit
 rest_of words at k le word has =
-    let place : at % 64 + (k - at) ≡ k % 64 = omega (arith, le, word) in
-    low_part (slice_index words (at / 64)) (at % 64) (k - at) ∙ (λ j. bit_at (slice_index words (sym word j)) (place j)) ∙ has
+    let place : at % 64 + (k - at) ≡ k % 64 = omega (arith, le, word) in low_part (slice_index words (at / 64)) (at % 64) (k - at) ∙ (λ j. bit_at (slice_index words (sym word j)) (place j)) ∙ has
 
 bit_back : (words : List ℕ) (at k : ℕ) → at ≤ k → k / 64 ≡ at / 64 → bit_at (slice_index words (at / 64) / 2 ^ (at % 64)) (k - at) ≡ 1 → HasBit words k
 unfolding HasBit
 bit_back words at k le word is =
-    let place : at % 64 + (k - at) ≡ k % 64 = omega (arith, le, word) in
-    (λ j. bit_at (slice_index words (word j)) (sym place j)) ∙ sym (low_part (slice_index words (at / 64)) (at % 64) (k - at)) ∙ is
+    let place : at % 64 + (k - at) ≡ k % 64 = omega (arith, le, word) in (λ j. bit_at (slice_index words (word j)) (sym place j)) ∙ sym (low_part (slice_index words (at / 64)) (at % 64) (k - at)) ∙ is
 
 -- nothing is left of a word
 pub word_done : (words : List ℕ) (from at : ℕ) → NoneUpTo words from at → slice_index words (at / 64) / 2 ^ (at % 64) ≡ 0 → NoneUpTo words from ((at / 64 + 1) * 64)

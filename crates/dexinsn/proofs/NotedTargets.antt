@@ -25,9 +25,7 @@ by_opcode us cs c None is plain nowhere = right-instruction us cs c None plain (
 by_opcode us cs c (Some p) is plain nowhere = branches-none us cs c.unit p.format (no_offset p.format us c.unit nowhere) ∙ right-instruction us cs c (Some p.format) plain (ap (option_map (λ (o : Opcode). o.format)) (sym is))
 
 plain_right : (us : List ℕ) (cs : List Cut) (c : Cut) → is_noted (slice_index us c.unit) ≡ false → true ≡ has_right_targets us cs c
-plain_right us cs c none =
-    let u = slice_index us c.unit in
-    by_opcode us cs c (opcode_of (low_byte u)) refl (or_parts (is_payload_ident u) (has_targets u) none).0 (or_parts (is_payload_ident u) (has_targets u) none).1
+plain_right us cs c none = let u = slice_index us c.unit in by_opcode us cs c (opcode_of (low_byte u)) refl (or_parts (is_payload_ident u) (has_targets u) none).0 (or_parts (is_payload_ident u) (has_targets u) none).1
 
 -- each piece that is noted has its bit
 noted_bit : (us : List ℕ) (cs : List Cut) (noted : List ℕ) (i : ℕ) (d : Cut) → AreBitsOf is_noted us cs noted → i < length cs → is_noted (slice_index us (get_or cs i d).unit) ≡ true → HasBit noted (get_or cs i d).unit
@@ -42,8 +40,7 @@ all_right us starts noted each = λ cs pieces sb nb. All-from_get_or (λ c. IsTr
     by_note cs sb nb i lt (is_noted (slice_index us (get_or cs i (record { unit = 0; units = 0 })).unit)) refl)
   where
     by_note : (cs : List Cut) → AreBitsOf begins_instruction us cs starts → AreBitsOf is_noted us cs noted → (i : ℕ) → i < length cs → (b : Bool) → is_noted (slice_index us (get_or cs i (record { unit = 0; units = 0 })).unit) ≡ b → IsTrue (has_right_targets us cs (get_or cs i (record { unit = 0; units = 0 })))
-    by_note cs sb nb i lt true e =
-        let c : Cut = get_or cs i (record { unit = 0; units = 0 }) in sym (each c.unit (noted_bit us cs noted i (record { unit = 0; units = 0 }) nb lt e) cs c.units sb nb)
+    by_note cs sb nb i lt true e = let c : Cut = get_or cs i (record { unit = 0; units = 0 }) in sym (each c.unit (noted_bit us cs noted i (record { unit = 0; units = 0 }) nb lt e) cs c.units sb nb)
     by_note cs sb nb i lt false e = sym (plain_right us cs (get_or cs i (record { unit = 0; units = 0 })) e)
 
 -- where one is wrong they are not all right
@@ -59,10 +56,7 @@ one_wrong us starts noted k has wrong = λ cs sb nb all.
 
 -- each bit is that of a piece
 pub bits_noted : (us : List ℕ) (cs : List Cut) (noted : List ℕ) → All (IsPieceAt us) cs → AreBitsOf is_noted us cs noted → AreNoted us noted
-bits_noted us cs noted pieces bits = record {
-  inside = bits.inside;
-  pieces = λ k has. piece_at us cs k pieces (and_first (list_any (λ c. c.unit == k) cs) (is_noted (slice_index us k)) (sym (starts_with-pos is_noted us cs k) ∙ (bits.each k).0 has));
-}
+bits_noted us cs noted pieces bits = record { inside = bits.inside; pieces = λ k has. piece_at us cs k pieces (and_first (list_any (λ c. c.unit == k) cs) (is_noted (slice_index us k)) (sym (starts_with-pos is_noted us cs k) ∙ (bits.each k).0 has)) }
 
 pub are_noted : (us : List ℕ) (m : Mentions) (starts noted : List ℕ) (indices : ℕ) → ArePassed us m starts noted (length us) indices → AreNoted us noted
 are_noted us m starts noted indices h = bits_noted us h.cuts noted h.pieces h.noted_are
@@ -82,8 +76,7 @@ bad_target us m starts noted indices h wrong = λ cuts code all.
 
 -- the bits that the pass leaves are those of the code
 pub code_starts : (us : List ℕ) (m : Mentions) (starts noted : List ℕ) (indices : ℕ) → ArePassed us m starts noted (length us) indices → AreCodeStarts us starts
-code_starts us m starts noted indices h cuts code =
-    subst (λ (cs : List Cut). AreBitsOf begins_instruction us cs starts) (whole_once us h.cuts cuts (all_cut us m starts noted indices h) code.cut) h.starts_are
+code_starts us m starts noted indices h cuts code = subst (λ (cs : List Cut). AreBitsOf begins_instruction us cs starts) (whole_once us h.cuts cuts (all_cut us m starts noted indices h) code.cut) h.starts_are
 
 -- ---- the shape
 

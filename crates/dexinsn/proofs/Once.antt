@@ -5,7 +5,7 @@ use Rattle.dexinsn.specs.declared.code.SplitFault.{SplitFault}
 use Rattle.dexinsn.specs.declared.code.SplitFault.TheVariants.{Piece, Memory}
 use Rattle.dexinsn.specs.declared.code_fault.CodeFault.{CodeFault}
 use Rattle.dexinsn.specs.internal.{kind_of}
-use Rattle.dexinsn.proofs.Sizes.{piece_size-fits}
+use Rattle.dexinsn.proofs.IndexRoom.{piece_size-fits}
 
 -- the pieces, and what is left, where no piece begins
 record Ends (at : ℕ) (us : List ℕ) (cs : List Cut) (rest : List ℕ) : Type 0 where
@@ -58,8 +58,7 @@ whole us cs cut = record { cut = cut; none = nothing (0 + units_of_all cs) }
 -- a cut that breaks ends where no piece begins
 broken : (us : List ℕ) (n : ℕ) (b : BreaksAt us n) → Ends 0 us b.cuts (drop n us)
 broken us n b =
-    let here : 0 + units_of_all b.cuts ≡ n = omega (arith, reaches 0 us b.cuts (drop n us) b.cut, b.within, length-drop n us) in
-    record { cut = b.cut; none = ap (λ (p : ℕ). piece_size p (drop n us)) here ∙ b.none }
+    let here : 0 + units_of_all b.cuts ≡ n = omega (arith, reaches 0 us b.cuts (drop n us) b.cut, b.within, length-drop n us) in record { cut = b.cut; none = ap (λ (p : ℕ). piece_size p (drop n us)) here ∙ b.none }
 
 -- a cut that ends at the end is no broken one
 not_both : (us : List ℕ) (cs : List Cut) (n : ℕ) → AreCut 0 us cs [] → BreaksAt us n → ⊥
@@ -86,8 +85,7 @@ no_bad_target us cs (c ∷ some) right =
 
 -- code has no instruction with a wrong target
 is_no_bad_target : (us : List ℕ) (cs : List Cut) (n : ℕ) → IsCode us cs → HasBadTargetAt us n → ⊥
-is_no_bad_target us cs n code a =
-    let both : None ≡ Some n = sym (no_bad_target us cs cs code.targets) ∙ ap (first_bad_target us) (whole_once us cs a.cuts code.cut a.cut) ∙ a.first in cc
+is_no_bad_target us cs n code a = let both : None ≡ Some n = sym (no_bad_target us cs cs code.targets) ∙ ap (first_bad_target us) (whole_once us cs a.cuts code.cut a.cut) ∙ a.first in cc
 
 -- one instruction is the first with a wrong target
 bad_target_once : (us : List ℕ) (n m : ℕ) → HasBadTargetAt us n → HasBadTargetAt us m → n ≡ m
@@ -173,8 +171,7 @@ only_fault us fault (Ok cs) is code other = no_fault us cs fault code is other
 only_fault us fault (Err known) is answers other =
     let f = name_of us fault is other in
     let g = name_of us known answers.0 answers.1 in
-    let e = ap numbers_in (result_once us (Err g.named) (Err f.named) g.is f.is) in
-    (g.numbers.kind_is ∙ ap (λ p. p.0) e ∙ sym f.numbers.kind_is, g.numbers.unit_is ∙ ap (λ p. p.1) e ∙ sym f.numbers.unit_is)
+    let e = ap numbers_in (result_once us (Err g.named) (Err f.named) g.is f.is) in (g.numbers.kind_is ∙ ap (λ p. p.0) e ∙ sym f.numbers.kind_is, g.numbers.unit_is ∙ ap (λ p. p.1) e ∙ sym f.numbers.unit_is)
 
 -- what is returned is the only answer
 pub returned_all : (us : List ℕ) (r : Result (Vec CutOfCode Global) CodeFault) (answer : Result (List Cut) CodeFault) → IfOk r (λ cuts. IsCode us (cuts_of cuts.items)) → IfErr r (IsFault us) → IsResult us answer → IsReturned answer r

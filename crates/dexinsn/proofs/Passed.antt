@@ -1,12 +1,25 @@
 -- Units checked in one pass.
-use Rattle.dexinsn.proofs.Common.{and_right, ◌≡◌, ℕ, ◌+◌, ◌-◌, ◌/◌, ◌<◌, ◌≤◌, ◌||◌, ◌&&◌, pos, Bool, true, false, List, [], ◌∷◌, ◌++◌, length, drop, slice_index, replicate, Some, None, inl, inr, refl, ap, sym, ◌∙◌, subst, arith, zero-add, length-drop, length-append, ◌↔◌, All, int_eq, cases_eq, drop-drop, drop_all, length-replicate, All-push, All-head, All-tail, All-append, list_any-append, Mentions, Cut, AreCut, index_pool, piece_size, BreaksAt, FitsAt, IsInRange, indices_at, with_index_at, IsPieceAt, starts_with, units_of_all, AreBitsOf, AreCutWith, ArePassed, HasNoCode, HasNoStep, IndexCount, IsOutside, begins_instruction, is_noted, HasBit}
-use Rattle.dexinsn.proofs.Cuts.{AreCut-push, units_of_all-push}
+use Rattle.dexinsn.proofs.Common.{and_right, ◌≡◌, ℕ, ◌+◌, ◌-◌, ◌/◌, ◌<◌, ◌≤◌, ◌||◌, ◌&&◌, pos, Bool, true, false, List, [], ◌∷◌, ◌++◌, length, drop, slice_index, replicate, Some, None, inl, inr, refl, ap, sym, ◌∙◌, subst, arith, zero-add, length-drop, length-append, ◌↔◌, All, int_eq, cases_eq, drop-drop, drop_all, length-replicate, All-push, All-head, All-tail, All-append, list_any-append, Mentions, Cut, AreCut, index_pool, piece_size, BreaksAt, FitsAt, IsInRange, indices_at, with_index_at, IsPieceAt, starts_with, units_of_all, AreBitsOf, AreCutWith, ArePassed, HasNoCode, HasNoStep, IndexCount, IsOutside, begins_instruction, is_noted, HasBit, map-append, cut_of, cuts_of}
 use Rattle.dexinsn.proofs.CodeRead.{broken_is_none}
 use Rattle.dexinsn.proofs.IndicesRead.{indices_push}
 use Rattle.dexinsn.proofs.Once.{nothing}
-use Rattle.dexinsn.proofs.Sizes.{piece_size-fits}
+use Rattle.dexinsn.proofs.IndexRoom.{piece_size-fits}
 use Rattle.dexinsn.proofs.Starts.{int_eq-same, int_eq-other}
 use Rattle.dexinsn.proofs.StartBits.{or_nothing, or_last, none_set}
+use Rattle.dexinsn.specs.declared.code.Cut.{Cut as CutOfCode}
+
+-- ---- Cutting on by one piece
+
+pub AreCut-push : (at : ℕ) (us rest : List ℕ) (cs : List Cut) (c : Cut) → AreCut at us cs rest → at + units_of_all cs ≡ c.unit → piece_size c.unit rest ≡ Some c.units → AreCut at us (cs ++ c ∷ []) (drop c.units rest)
+AreCut-push at us rest [] c cut reached is = let here : at ≡ c.unit = omega arith in (sym here, ap (piece_size at) cut ∙ ap (λ (p : ℕ). piece_size p rest) here ∙ is, ap (drop c.units) cut)
+AreCut-push at us rest (b ∷ cs) c cut reached is = (cut.0, cut.1, AreCut-push (at + b.units) (drop b.units us) rest cs c cut.2 (omega arith) is)
+
+pub units_of_all-push : (cs : List Cut) (c : Cut) → units_of_all (cs ++ c ∷ []) ≡ units_of_all cs + c.units
+units_of_all-push [] c = omega arith
+units_of_all-push (b ∷ cs) c = let on : units_of_all (cs ++ c ∷ []) ≡ units_of_all cs + c.units = units_of_all-push cs c in omega arith
+
+pub cuts_of-push : (cuts : List CutOfCode) (c : CutOfCode) → cuts_of (cuts ++ c ∷ []) ≡ cuts_of cuts ++ cut_of c ∷ []
+cuts_of-push cuts c = map-append cut_of cuts (c ∷ [])
 
 -- ---- bits
 
@@ -43,18 +56,13 @@ bits_grow test us cs c words new passes inside long here others before = record 
 
 -- with the same bits in other words
 bits_same : (test : ℕ → Bool) (us : List ℕ) (cs : List Cut) (words new : List ℕ) → length new ≡ length words → ((k : ℕ) → HasBit new k ↔ HasBit words k) → AreBitsOf test us cs words → AreBitsOf test us cs new
-bits_same test us cs words new long same before = record {
-  room = long ∙ before.room;
-  each = λ k. (λ has. (before.each k).0 ((same k).0 has), λ e. (same k).1 ((before.each k).1 e));
-  inside = λ k has. before.inside k ((same k).0 has);
-}
+bits_same test us cs words new long same before = record { room = long ∙ before.room; each = λ k. (λ has. (before.each k).0 ((same k).0 has), λ e. (same k).1 ((before.each k).1 e)); inside = λ k has. before.inside k ((same k).0 has) }
 
 -- a piece has a bit if its first unit passes the test
 pub bits_put : (test : ℕ → Bool) (us : List ℕ) (cs : List Cut) (c : Cut) (words new : List ℕ) (bit : Bool) → bit ≡ test (slice_index us c.unit) → c.unit < length us → length new ≡ length words → (bit ≡ true → HasBit new c.unit)
     → ((k : ℕ) → (k ≡ c.unit → bit ≡ true → ⊥) → HasBit new k ↔ HasBit words k) → AreBitsOf test us cs words → AreBitsOf test us (cs ++ c ∷ []) new
 bits_put test us cs c words new true is inside long here others before = bits_grow test us cs c words new (sym is) inside long (here refl) (λ k other. others k (λ e t. other e)) before
-bits_put test us cs c words new false is inside long here others before =
-    bits_stay test us cs c new (sym is) (bits_same test us cs words new long (λ k. others k (λ e t. absurd cc)) before)
+bits_put test us cs c words new false is inside long here others before = bits_stay test us cs c new (sym is) (bits_same test us cs words new long (λ k. others k (λ e t. absurd cc)) before)
 
 -- ---- pieces
 
@@ -66,8 +74,7 @@ next_in P a us rest (c ∷ cs) [] e f some all = let none : piece_size a us ≡ 
 next_in P a us rest (c ∷ cs) (d ∷ ds) e f some all =
     let both : Some c.units ≡ Some d.units = sym e.1 ∙ f.1 in
     let same : c.units ≡ d.units = cc in
-    let found = next_in P (a + c.units) (drop c.units us) rest cs ds e.2 (subst (λ (k : ℕ). AreCut (a + k) (drop k us) ds []) (sym same) f.2) some (All-tail P d ds all) in
-    (found.0, omega (arith, found.1), found.2)
+    let found = next_in P (a + c.units) (drop c.units us) rest cs ds e.2 (subst (λ (k : ℕ). AreCut (a + k) (drop k us) ds []) (sym same) f.2) some (All-tail P d ds all) in (found.0, omega (arith, found.1), found.2)
 
 -- a piece more
 pub one_passed : (us : List ℕ) (m : Mentions) (starts noted news newn : List ℕ) (at indices size count : ℕ) → ArePassed us m starts noted at indices → at < length us → piece_size at (drop at us) ≡ Some size → 0 < size → IndexCount us m at count
@@ -77,7 +84,6 @@ pub one_passed : (us : List ℕ) (m : Mentions) (starts noted news newn : List �
 one_passed us m starts noted news newn at indices size count h more is some index s n =
     let c : Cut = record { unit = at; units = size } in
     let fits : size ≤ length (drop at us) = (piece_size-fits at (drop at us) size is).1 in
-    let counted = h.counted in
     record {
       cuts = h.cuts ++ c ∷ [];
       cut = subst (λ (rest : List ℕ). AreCut 0 us (h.cuts ++ c ∷ []) rest) (drop-drop size at us) (AreCut-push 0 us (drop at us) h.cuts c h.cut (zero-add (units_of_all h.cuts) ∙ h.reached) is);
@@ -86,7 +92,7 @@ one_passed us m starts noted news newn at indices size count h more is some inde
       pieces = All-push (IsPieceAt us) h.cuts c h.pieces is;
       in_range = All-push (IsInRange us m) h.cuts c h.in_range (index.in_range size);
       counted =
-          omega (arith, ap length (indices_push us h.cuts c), length-append (indices_at us h.cuts) (with_index_at (index_pool (drop at us)) us c []), counted, index.counted size);
+          omega (arith, ap length (indices_push us h.cuts c), length-append (indices_at us h.cuts) (with_index_at (index_pool (drop at us)) us c []), h.counted, index.counted size);
       few = omega (arith, h.few, index.few);
       fit = subst (All (FitsAt us)) (sym (indices_push us h.cuts c)) (All-append (FitsAt us) (indices_at us h.cuts) (with_index_at (index_pool (drop at us)) us c []) h.fit (index.fit size));
       starts_are = s h.cuts size h.starts_are;
@@ -100,8 +106,7 @@ no_piece us m starts noted at indices h more none = λ cuts code all. broken_is_
 -- where an index is out of range there is none with all in range
 no_index : (us : List ℕ) (m : Mentions) (starts noted : List ℕ) (at indices : ℕ) → ArePassed us m starts noted at indices → at < length us → IsOutside us m at → HasNoCode us m
 no_index us m starts noted at indices h more outside = λ cuts code all.
-    let found = next_in (IsInRange us m) 0 us (drop at us) h.cuts cuts h.cut code.cut (omega (arith, length-drop at us)) all in
-    outside found.0 (omega (arith, found.1, h.reached)) found.2
+    let found = next_in (IsInRange us m) 0 us (drop at us) h.cuts cuts h.cut code.cut (omega (arith, length-drop at us)) all in outside found.0 (omega (arith, found.1, h.reached)) found.2
 
 -- by what is missing
 pub no_step : (us : List ℕ) (m : Mentions) (starts noted : List ℕ) (at indices : ℕ) → ArePassed us m starts noted at indices → at < length us → HasNoStep us m at → HasNoCode us m
@@ -113,11 +118,7 @@ all_cut us m starts noted indices h = subst (λ (rest : List ℕ). AreCut 0 us h
 
 -- no bit is set yet
 pub none_bits : (test : ℕ → Bool) (us words : List ℕ) (n : ℕ) → n ≡ length us / 64 + 2 → words ≡ replicate n 0 → AreBitsOf test us [] words
-none_bits test us words n room is = subst (AreBitsOf test us []) (sym is) record {
-  room = length-replicate {A = ℕ} n 0 ∙ room;
-  each = λ k. (λ has. absurd (none_set n k has), λ e. absurd cc);
-  inside = λ k has. absurd (none_set n k has);
-}
+none_bits test us words n room is = subst (AreBitsOf test us []) (sym is) record { room = length-replicate {A = ℕ} n 0 ∙ room; each = λ k. (λ has. absurd (none_set n k has), λ e. absurd cc); inside = λ k has. absurd (none_set n k has) }
 
 -- ---- cuts that are kept
 

@@ -1,7 +1,6 @@
 -- Instructions with no index or one of 16 bits, found by their first unit and the row of their opcode.
 use Rattle.dexinsn.proofs.Common.{cond-false, ◌≡◌, ℕ, ◌+◌, ◌-◌, ◌/◌, ◌%◌, ◌^◌, ◌<◌, ◌≤◌, ◌==◌, ◌&&◌, ◌||◌, nat_le, Bool, true, false, cond, List, [], length, drop, slice_index, Option, Some, None, refl, ap, sym, ◌∙◌, subst, arith, add-zero, length-drop, All, MatchOption, option_map, option_map_or, option_and_then, le-leb, eqb-true, get_or-drop, All-nil, All-cons, Mentions, Pool, Format, Opcode, opcode_of, opcode_runs, units_in, F10x, F20t, F30t, F32x, F35c, index_in, index_pool, instruction_size, is_first_unit, is_payload_ident, is_wide_index, low_byte, payload_size, piece_size, two_units, count_of, SymbolKind, IndexCount, IsStep, count_of_index, limit_of, kind_of_pool, IsPlainRow, IsRowOf, greatest_at, greatest_first, kind_of_index, with_index_at, FitsAt, Row}
-use Rattle.dexinsn.proofs.IndexRoom.{pool_of_first}
-use Rattle.dexinsn.proofs.Sizes.{first_is, units_in-some}
+use Rattle.dexinsn.proofs.IndexRoom.{pool_of_first, first_is, units_in-some}
 
 -- ---- the first unit
 
@@ -35,8 +34,7 @@ jumbo_greatest = refl
 opcode_there : (u : ℕ) (o : Option Opcode) → opcode_of (low_byte u) ≡ o → u ≤ greatest_at (low_byte u) → (p : Opcode) × (opcode_of (low_byte u) ≡ Some p)
 opcode_there u (Some p) e le = (p, e)
 opcode_there u None e le =
-    let zero : u ≡ 0 = omega (arith, le, ap (λ (o : Option Opcode). option_map_or (λ (p : Opcode). greatest_first p.format) o 0) e) in
-    (nop_is.0, ap (λ (n : ℕ). opcode_of (low_byte n)) zero ∙ nop_is.1)
+    let zero : u ≡ 0 = omega (arith, le, ap (λ (o : Option Opcode). option_map_or (λ (p : Opcode). greatest_first p.format) o 0) e) in (nop_is.0, ap (λ (n : ℕ). opcode_of (low_byte n)) zero ∙ nop_is.1)
 
 -- the first unit is not that of a payload
 not_ident : (k u : ℕ) (b : Bool) → low_byte k ≡ 0 → 0x00ff < k → u ≤ greatest_at (low_byte u) → (u == k) ≡ b → b ≡ false
@@ -67,8 +65,7 @@ plain_size us at o within is plain first =
     ap (option_and_then (λ (op : Opcode). cond (nat_le (units_in op.format) (length (drop at us)) && is_first_unit op.format (slice_index (drop at us) 0)) (Some (units_in op.format)) None)) (ap (λ (u : ℕ). opcode_of (low_byte u)) here ∙ is)
     ∙ sized (nat_le (units_in o.format) (length (drop at us))) (is_first_unit o.format (slice_index (drop at us) 0)) (units_in o.format) (le-leb (units_in o.format) (length (drop at us)) (omega (arith, within, l))) (ap (is_first_unit o.format) here ∙ first) in
     first_is at (drop at us) (omega (arith, l, within))
-    ∙ cond-false (is_payload_ident (slice_index (drop at us) 0)) (cond (at % 2 == 0) (payload_size (drop at us)) None) (instruction_size (drop at us)) (ap is_payload_ident here ∙ plain)
-    ∙ instruction
+    ∙ cond-false (is_payload_ident (slice_index (drop at us) 0)) (cond (at % 2 == 0) (payload_size (drop at us)) None) (instruction_size (drop at us)) (ap is_payload_ident here ∙ plain) ∙ instruction
 
 -- ---- the index
 
@@ -110,9 +107,8 @@ row_size us at row plain =
     let u = slice_index us at in
     let least_at : u ≤ greatest_at (low_byte u) = omega (arith, plain.least, plain.row_is.greatest) in
     let there = opcode_there u (opcode_of (low_byte u)) refl least_at in
-    let o = there.0 in
-    let units : row.units ≡ units_in o.format = plain.row_is.units ∙ ap (λ (x : Option Opcode). option_map_or (λ (p : Opcode). units_in p.format) x 0) there.1 in
-    plain_size us at o (omega (arith, plain.within, units)) there.1 (no_payload u least_at) (begins o.format u (omega (arith, plain.least, plain.row_is.greatest ∙ ap (λ (x : Option Opcode). option_map_or (λ (p : Opcode). greatest_first p.format) x 0) there.1))) ∙ ap Some (sym units)
+    let units : row.units ≡ units_in there.0.format = plain.row_is.units ∙ ap (λ (x : Option Opcode). option_map_or (λ (p : Opcode). units_in p.format) x 0) there.1 in
+    plain_size us at there.0 (omega (arith, plain.within, units)) there.1 (no_payload u least_at) (begins there.0.format u (omega (arith, plain.least, plain.row_is.greatest ∙ ap (λ (x : Option Opcode). option_map_or (λ (p : Opcode). greatest_first p.format) x 0) there.1))) ∙ ap Some (sym units)
 
 pub plain_step : (us : List ℕ) (m : Mentions) (at : ℕ) (row : Row) → IsPlainRow us at row → slice_index us (at + 1) < limit_of m (kind_of_index row.index) → slice_index us (at + 1) < 2 ^ 16
     → IsStep us m at (record { units = row.units; indices = count_of_index (kind_of_index row.index); is_instruction = true; is_noted = row.branches })

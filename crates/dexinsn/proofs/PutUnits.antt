@@ -3,8 +3,7 @@ use Rattle.dexinsn.proofs.Common.{◌≡◌, ℕ, zero, suc, ◌+◌, ◌-◌, �
 use Rattle.dexspec.proofs.numbers.ByteNumbers.{length-ushort}
 use Rattle.std.proofs.Math.Seq.{take-add}
 use Rattle.dexinsn.specs.{units_in}
-use Rattle.dexinsn.proofs.Sizes.{Fits, piece_size-fits}
-use Rattle.dexinsn.proofs.IndexRoom.{HasRoom, has_room}
+use Rattle.dexinsn.proofs.IndexRoom.{Fits, piece_size-fits, HasRoom, has_room}
 use Rattle.dexinsn.proofs.Halves.{length_from, ushorts_from}
 use Rattle.dexinsn.proofs.StoredRead.{same_wide, first_kept, cut_pool, cut_first, cut_length}
 
@@ -27,8 +26,7 @@ put_by true ys n k r e f g =
     ∙ put_wide ys (n % 65536) (n / 65536) k (k - 3) (omega (arith, r.within)) (omega arith)
 put_by false ys n k r e f g =
     ap (λ (w : Bool). cond w (slice_set (slice_set (with_index 0 (take k ys)) 1 (n % 65536)) 2 (n / 65536)) (slice_set (with_index 0 (take k ys)) 1 n)) g
-    ∙ ap (λ (w : Bool). slice_set (cond w (slice_set (slice_set (take k ys) 1 0) 2 0) (slice_set (take k ys) 1 0)) 1 n) f
-    ∙ put_short ys n k (k - 2) (omega (arith, r.within, r.two)) (omega (arith, r.two))
+    ∙ ap (λ (w : Bool). slice_set (cond w (slice_set (slice_set (take k ys) 1 0) 2 0) (slice_set (take k ys) 1 0)) 1 n) f ∙ put_short ys n k (k - 2) (omega (arith, r.within, r.two)) (omega (arith, r.two))
 
 -- ---- one part after the other
 
@@ -87,8 +85,7 @@ spelled_by : (o : Option Pool) (us : List ℕ) (c : Cut) (at : ℕ) (parts : Lis
 spelled_by None us c at parts places is unit piece e same on =
     let o = on is same in
     ap (λ (xs : List ℕ). xs ++ flat_map numbered_units (pieces_with parts is)) (plain_units (is_payload_ident (slice_index (cut_units us c) 0)) (cut_units us c) ∙ ap (λ (k : ℕ). take c.units (drop k us)) unit)
-    ∙ ap (λ (xs : List ℕ). take c.units (drop at us) ++ xs) o.1
-    ∙ sym (skip us at c.units is o.0)
+    ∙ ap (λ (xs : List ℕ). take c.units (drop at us) ++ xs) o.1 ∙ sym (skip us at c.units is o.0)
 spelled_by (Some pool) us c at parts places [] unit piece e same on = absurd cc
 spelled_by (Some pool) us c at parts places (i ∷ is) unit piece e same on =
     let here : i.unit ≡ at = cc in
@@ -168,18 +165,15 @@ ushorts_taken b o (suc n) (suc k) le = ap (λ (us : List ℕ). ushort_at b o ∷
 pub part_bytes : (b : List ℕ) (from to : ℕ) → from ≤ to → 2 * to ≤ length b → ((i : ℕ) → get_or b i 0 < 256) → flat_map ushort (take (to - from) (drop from (units_in b))) ≡ take (2 * (to - from)) (drop (2 * from) b)
 part_bytes b from to le within small =
     let n : length b / 2 ≡ length (units_in b) = sym (length_from b) in
-    ap (λ (xs : List ℕ). flat_map ushort (take (to - from) xs)) (ushorts_from b 0 (length b / 2) from (omega arith))
-    ∙ ap (flat_map ushort) (ushorts_taken b (0 + 2 * from) (length b / 2 - from) (to - from) (omega arith))
-    ∙ bytes_of_units b (0 + 2 * from) (to - from) (omega arith) small
-    ∙ let z : 0 + 2 * from ≡ 2 * from = omega arith in ap (λ (k : ℕ). take (2 * (to - from)) (drop k b)) z
+    ap (λ (xs : List ℕ). flat_map ushort (take (to - from) xs)) (ushorts_from b 0 (length b / 2) from (omega arith)) ∙ ap (flat_map ushort) (ushorts_taken b (0 + 2 * from) (length b / 2 - from) (to - from) (omega arith))
+    ∙ bytes_of_units b (0 + 2 * from) (to - from) (omega arith) small ∙ let z : 0 + 2 * from ≡ 2 * from = omega arith in ap (λ (k : ℕ). take (2 * (to - from)) (drop k b)) z
 
 -- the two halves of a number
 pub halves : (n : ℕ) → uint n ≡ flat_map ushort (index_units true n)
 unfolding uint ushort bytes_of
 halves n =
     let a : n % 256 ≡ n % 65536 % 256 = omega arith in
-    let b : n / 256 % 256 ≡ n % 65536 / 256 % 256 = omega arith in
-    let c : n / 256 / 256 % 256 ≡ n / 65536 % 256 = omega arith in let d : n / 256 / 256 / 256 % 256 ≡ n / 65536 / 256 % 256 = omega arith in cc
+    let b : n / 256 % 256 ≡ n % 65536 / 256 % 256 = omega arith in let c : n / 256 / 256 % 256 ≡ n / 65536 % 256 = omega arith in let d : n / 256 / 256 / 256 % 256 ≡ n / 65536 / 256 % 256 = omega arith in cc
 
 append_nil : (xs : List ℕ) → xs ≡ xs ++ []
 append_nil [] = refl
@@ -200,8 +194,7 @@ after_is_more false unit = omega arith
 
 pub follow_within : (us : List ℕ) (from : ℕ) (is : List Index) → Follow us from is → from ≤ length us
 follow_within us from [] h = h
-follow_within us from (i ∷ is) h =
-    omega (arith, h.0, after_is_more (is_wide_index (drop i.unit us)) i.unit, follow_within us (after_index (is_wide_index (drop i.unit us)) i.unit) is h.1)
+follow_within us from (i ∷ is) h = omega (arith, h.0, after_is_more (is_wide_index (drop i.unit us)) i.unit, follow_within us (after_index (is_wide_index (drop i.unit us)) i.unit) is h.1)
 
 pub next_is : (is : List Index) (i : ℕ) (d : Index) → i < length is → drop i is ≡ get_or is i d ∷ drop (i + 1) is
 next_is is i d lt = drop-cons is i d lt ∙ ap (λ (k : ℕ). get_or is i d ∷ drop k is) (sym (add-one i))
@@ -272,5 +265,4 @@ bytes_bound ps = omega (arith, length-ushorts (flat_map numbered_units ps))
 -- two bytes for each unit
 pub stored_length : (us : List ℕ) (is : List Index) → AreStored us is → length (numbered_bytes (pieces_with (parts_in us) is)) ≡ 2 * length us
 stored_length us is s =
-    let z : 2 * (length us - 0) ≡ 2 * length us = omega arith in
-    ap length (stored_bytes us is s) ∙ length-ushorts (spelled_from us 0 is) ∙ ap (λ (n : ℕ). 2 * n) (spelled_length us 0 is (stored_follow us is s)) ∙ z
+    let z : 2 * (length us - 0) ≡ 2 * length us = omega arith in ap length (stored_bytes us is s) ∙ length-ushorts (spelled_from us 0 is) ∙ ap (λ (n : ℕ). 2 * n) (spelled_length us 0 is (stored_follow us is s)) ∙ z

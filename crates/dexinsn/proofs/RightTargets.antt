@@ -8,9 +8,7 @@ do_target us cs at i n = are_right_targets us cs at (ints_in us i n)
 -- by the first of them
 pub do_target-more : (us : List ℕ) (cs : List Cut) (at i j n k : ℕ) (z : ℤ) (b : Bool) → n ≡ suc k → j ≡ i + 2 → pos at +ℤ int_in us i ≡ z → is_instruction_start us cs z ≡ b → do_target us cs at i n ≡ (b && do_target us cs at j k)
 do_target-more us cs at i j n k z b is next target start =
-    ap (do_target us cs at i) is
-    ∙ ap (λ (t : Bool). t && do_target us cs at (i + 2) k) (ap (is_instruction_start us cs) target ∙ start)
-    ∙ ap (λ (p : ℕ). b && do_target us cs at p k) (sym next)
+    ap (do_target us cs at i) is ∙ ap (λ (t : Bool). t && do_target us cs at (i + 2) k) (ap (is_instruction_start us cs) target ∙ start) ∙ ap (λ (p : ℕ). b && do_target us cs at p k) (sym next)
 
 -- the place that the code adds up
 pub place_is : (at : ℕ) (meant offset wide : ℤ) → at < 2 ^ 62 → SFits w32 offset → offset ≡ meant → wide ≡ to_z w32 (of_z w32 offset) → pos at +ℤ meant ≡ to_z w64 (of_z w64 (to_z w64 at +ℤ to_z w64 (of_z w64 wide)))
@@ -25,8 +23,7 @@ branches-none us cs at f is = ap (all_of_option (is_right_target us cs at f)) is
 -- one that refers to a payload is right where the payload and its targets are
 pub branches-payload : (us : List ℕ) (cs : List Cut) (at : ℕ) (f : Format) (ident : ℕ) (z place : ℤ) (r : Bool) → f ≡ F31t → Some z ≡ branch_offset f us at → pos at +ℤ z ≡ place → ident ≡ payload_ident (low_byte (slice_index us at)) → r ≡ targets_payload ident us cs at place → r ≡ branches_right us cs at f
 branches-payload us cs at f ident z place r named is target kind says =
-    says ∙ ap (λ (i : ℕ). targets_payload i us cs at place) kind ∙ ap (targets_payload (payload_ident (low_byte (slice_index us at))) us cs at) (sym target)
-    ∙ ap (λ (g : Format). is_right_target us cs at g z) (sym named)
+    says ∙ ap (λ (i : ℕ). targets_payload i us cs at place) kind ∙ ap (targets_payload (payload_ident (low_byte (slice_index us at))) us cs at) (sym target) ∙ ap (λ (g : Format). is_right_target us cs at g z) (sym named)
     ∙ ap (all_of_option (is_right_target us cs at f)) is
 
 -- the target of one of another format is an instruction
@@ -36,8 +33,7 @@ has_targets-other us cs at _ z other = refl
 
 -- one that branches is right where an instruction begins at its target
 pub branches-other : (us : List ℕ) (cs : List Cut) (at : ℕ) (f : Format) (z place : ℤ) (r : Bool) → (f ≡ F31t → ⊥) → Some z ≡ branch_offset f us at → pos at +ℤ z ≡ place → r ≡ is_instruction_start us cs place → r ≡ branches_right us cs at f
-branches-other us cs at f z place r other is target says =
-    says ∙ ap (is_instruction_start us cs) (sym target) ∙ has_targets-other us cs at f z other ∙ ap (all_of_option (is_right_target us cs at f)) is
+branches-other us cs at f z place r other is target says = says ∙ ap (is_instruction_start us cs) (sym target) ∙ has_targets-other us cs at f z other ∙ ap (all_of_option (is_right_target us cs at f)) is
 
 -- ---- a payload that an instruction refers to
 

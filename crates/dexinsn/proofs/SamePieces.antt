@@ -1,8 +1,7 @@
 -- Stored pieces are the same once remapped by two maps just where their units agree beside the indices and these have
 -- the same images.
 use Rattle.dexinsn.proofs.Common.{◌≡◌, ℕ, zero, suc, ◌+◌, ◌-◌, ◌<◌, ◌≤◌, Bool, true, false, cond, List, [], ◌∷◌, length, drop, take, map, slice_index, slice_set, Option, Some, None, inl, inr, refl, ap, sym, ◌∙◌, subst, arith, length-drop, get_or-set_other, AllZip, cases_lt, same_number_lists, drop-drop, drop_all, get_or-take, get_or-drop, get_or-set_same, length-set, length-take-le, Pool, Cut, AreCut, piece_size, cut_units, index_pool, is_wide_index, is_payload_ident, with_index, Kept, piece_same, Maps, image_of, Index, IsPieceAt, NumberedPiece, Instruction, kind_in, renumbered_piece, cuts_in, parts_in, piece_with, left_by, pieces_with, with_place, index_places, after_index, AreStored, Follow, Payload, Agree, AgreeBeside, AreEqualMapped, AreEquivalent}
-use Rattle.dexinsn.proofs.Sizes.{Fits, piece_size-fits}
-use Rattle.dexinsn.proofs.IndexRoom.{HasRoom, has_room}
+use Rattle.dexinsn.proofs.IndexRoom.{Fits, piece_size-fits, HasRoom, has_room}
 use Rattle.dexinsn.proofs.StoredRead.{cuts_in_is, same_pool, same_wide, first_kept, cut_pool, cut_first, cut_length}
 use Rattle.dexinsn.proofs.Lined.{same_kind_in}
 use Rattle.dexinsn.proofs.PutUnits.{after_is, follow_from, after_by}
@@ -80,8 +79,7 @@ blank_unit w xs ys (suc k) lt same first rest = elim (cases_lt (suc k) (after_in
 
 blank_same : (w : Bool) (xs ys : List ℕ) → is_wide_index xs ≡ w → length xs ≡ length ys → slice_index xs 0 ≡ slice_index ys 0 → ((j : ℕ) → after_index w 0 ≤ j → j < length xs → slice_index xs j ≡ slice_index ys j) → with_index 0 xs ≡ with_index 0 ys
 blank_same w xs ys e same first rest =
-    blank_is w xs e
-    ∙ same_number_lists (blank_by w xs) (blank_by w ys) (length-blank w xs ∙ same ∙ sym (length-blank w ys)) (λ k lt. blank_unit w xs ys k (omega (arith, lt, length-blank w xs)) same first rest)
+    blank_is w xs e ∙ same_number_lists (blank_by w xs) (blank_by w ys) (length-blank w xs ∙ same ∙ sym (length-blank w ys)) (λ k lt. blank_unit w xs ys k (omega (arith, lt, length-blank w xs)) same first rest)
     ∙ sym (blank_is w ys (sym (same_wide xs ys first) ∙ e))
 
 blank_firsts : (xs ys : List ℕ) → with_index 0 xs ≡ with_index 0 ys → slice_index xs 0 ≡ slice_index ys 0
@@ -188,8 +186,7 @@ blank_step us vs c is pool count piece e s =
     blank_same (is_wide_index (drop c.unit us)) (cut_units us c) (cut_units vs c) (same_wide (cut_units us c) (drop c.unit us) (cut_first us c piece)) (n ∙ sym (part_length vs c.unit c.units (omega (arith, f.0, f.1, count))))
     (part_read us c.unit c.units 0 f.0 ∙ ap (slice_index us) z ∙ s.first ∙ ap (slice_index vs) (sym z) ∙ sym (part_read vs c.unit c.units 0 f.0))
     (λ j le lt.
-    part_read us c.unit c.units j (omega (arith, lt, n))
-    ∙ s.following pool refl (c.unit + j) (omega (arith, le, after_is (is_wide_index (drop c.unit us)) c.unit)) (omega (arith, lt, n))
+    part_read us c.unit c.units j (omega (arith, lt, n)) ∙ s.following pool refl (c.unit + j) (omega (arith, le, after_is (is_wide_index (drop c.unit us)) c.unit)) (omega (arith, lt, n))
     ∙ sym (part_read vs c.unit c.units j (omega (arith, lt, n))))
 
 equivalent_by : (r q : Maps) (o : Option Pool) (us vs : List ℕ) (c : Cut) (ps ts : List (List ℕ)) (places : List ℕ) (is js : List Index) → length us ≡ length vs → IsPieceAt us c → index_pool (drop c.unit us) ≡ o → Step o us vs c is → map (λ (i : Index). i.unit) is ≡ with_place o c.unit places
@@ -305,13 +302,7 @@ same_by r q (Some pool) (Some other_pool) us vs c d ps ts places more (i ∷ is)
         λ k le lt. let at : k ≡ c.unit = omega (arith, here) in ap (slice_index us) at ∙ first ∙ ap (slice_index vs) (sym at),
         subst (λ (k : ℕ). AgreeBeside us vs (after_index (is_wide_index (drop k us)) k) is) (sym here) (beside_join us vs (after_index (is_wide_index (drop c.unit us)) c.unit) (c.unit + c.units) is following later.agree),
       );
-      are_mapped = (
-        record {
-          place = here ∙ unit ∙ sym there;
-          image = ap (λ k. image_of r k i.number) (sym kind) ∙ image ∙ ap (λ (xs : List ℕ). image_of q (kind_in xs) j.number) (sym blank) ∙ ap (λ k. image_of q k j.number) kind;
-        },
-        later.are_mapped,
-      );
+      are_mapped = (record { place = here ∙ unit ∙ sym there; image = ap (λ k. image_of r k i.number) (sym kind) ∙ image ∙ ap (λ (xs : List ℕ). image_of q (kind_in xs) j.number) (sym blank) ∙ ap (λ k. image_of q k j.number) kind }, later.are_mapped);
     }
 
 equivalent_from : (r q : Maps) (us vs : List ℕ) (at : ℕ) (cs ds : List Cut) (is js : List Index) → AreCut at (drop at us) cs [] → AreCut at (drop at vs) ds [] → map (λ (i : Index). i.unit) is ≡ index_places at (map (cut_units us) cs) → map (λ (i : Index). i.unit) js ≡ index_places at (map (cut_units vs) ds)
@@ -343,5 +334,4 @@ equivalent_from r q us vs at (c ∷ cs) (d ∷ ds) is js cut other same mate e =
 
 pub equivalent_from_same : (r q : Maps) (us vs : List ℕ) (is js : List Index) → AreStored us is → AreStored vs js → Same r q (parts_in us) (parts_in vs) is js → AreEquivalent r q us vs is js
 equivalent_from_same r q us vs is js s t e =
-    let a : PiecesEqualMapped r q us vs 0 is js = equivalent_from r q us vs 0 (cuts_in us) (cuts_in vs) is js s.cut t.cut s.places t.places e in
-    record { count = a.left; agree = a.agree; are_mapped = a.are_mapped }
+    let a : PiecesEqualMapped r q us vs 0 is js = equivalent_from r q us vs 0 (cuts_in us) (cuts_in vs) is js s.cut t.cut s.places t.places e in record { count = a.left; agree = a.agree; are_mapped = a.are_mapped }

@@ -10,9 +10,7 @@ part_units : (b : List ℕ) (from to : ℕ) → from ≤ to → 2 * to ≤ lengt
 part_units b from to le within =
     let n : length b / 2 ≡ length (units_in b) = sym (length_from b) in
     let z : 0 + 2 * from ≡ 2 * from = omega arith in
-    ap (take (to - from)) (ushorts_from b 0 (length b / 2) from (omega arith))
-    ∙ ushorts_taken b (0 + 2 * from) (length b / 2 - from) (to - from) (omega arith)
-    ∙ ap (λ (k : ℕ). ushorts_at b k (to - from)) z
+    ap (take (to - from)) (ushorts_from b 0 (length b / 2) from (omega arith)) ∙ ushorts_taken b (0 + 2 * from) (length b / 2 - from) (to - from) (omega arith) ∙ ap (λ (k : ℕ). ushorts_at b k (to - from)) z
     ∙ sym (units_of_part b (2 * from) (to - from) (omega arith))
 
 -- the same bytes are the same units

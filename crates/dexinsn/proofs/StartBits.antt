@@ -16,12 +16,10 @@ within_word x i lt = sym (bit_at_cat_low (x / 2 ^ 64) 64 (x % 2 ^ 64) i lt) ∙ 
 
 -- the lower bits of a word, put up
 high_part : (b k i : ℕ) → i < 64 → k ≤ i → bit_at (b * 2 ^ k % 2 ^ 64) i ≡ bit_at b (i - k)
-high_part b k i lt from =
-    let plain : b * 2 ^ k ≡ b * 2 ^ k + 0 = omega arith in within_word (b * 2 ^ k) i lt ∙ ap (λ y. bit_at y i) plain ∙ bit_at_cat_high b k 0 i (pow_pos k) from
+high_part b k i lt from = let plain : b * 2 ^ k ≡ b * 2 ^ k + 0 = omega arith in within_word (b * 2 ^ k) i lt ∙ ap (λ y. bit_at y i) plain ∙ bit_at_cat_high b k 0 i (pow_pos k) from
 
 high_none : (b k i : ℕ) → i < 64 → i < k → bit_at (b * 2 ^ k % 2 ^ 64) i ≡ 0
-high_none b k i lt below =
-    let plain : b * 2 ^ k ≡ b * 2 ^ k + 0 = omega arith in within_word (b * 2 ^ k) i lt ∙ ap (λ y. bit_at y i) plain ∙ bit_at_cat_low b k 0 i below ∙ bit_at-zero i
+high_none b k i lt below = let plain : b * 2 ^ k ≡ b * 2 ^ k + 0 = omega arith in within_word (b * 2 ^ k) i lt ∙ ap (λ y. bit_at y i) plain ∙ bit_at_cat_low b k 0 i below ∙ bit_at-zero i
 
 -- the bit at unit + i, where the word begins at the unit
 pub bits_of_word : (words : List ℕ) (unit s i : ℕ) → unit % 64 ≡ s → s ≡ 0 → i < 64 → HasBit words (unit + i) ↔ (bit_at (slice_index words (unit / 64) / 2 ^ s) i ≡ 1)
@@ -47,15 +45,13 @@ bits_of_words words unit s i is some small lt =
           let bit : (unit + i) % 64 ≡ s + i = omega arith in
           let here : bit_at (slice_index words ((unit + i) / 64)) ((unit + i) % 64) ≡ bit_at a (s + i) = λ j. bit_at (slice_index words (word j)) (bit j) in
           let low = low_part a s i in
-          let high = high_none b (64 - s) i lt (omega arith) in
-          (λ e. omega (arith, here, low, high, either, bit_at-lt a (s + i)), λ e. omega (arith, here, low, high, either, bit_at-lt a (s + i)))
+          let high = high_none b (64 - s) i lt (omega arith) in (λ e. omega (arith, here, low, high, either, bit_at-lt a (s + i)), λ e. omega (arith, here, low, high, either, bit_at-lt a (s + i)))
       | inr beyond ↦
           let word : (unit + i) / 64 ≡ unit / 64 + 1 = omega arith in
           let bit : (unit + i) % 64 ≡ i - (64 - s) = omega arith in
           let here : bit_at (slice_index words ((unit + i) / 64)) ((unit + i) % 64) ≡ bit_at b (i - (64 - s)) = λ j. bit_at (slice_index words (word j)) (bit j) in
           let low : bit_at (a / 2 ^ s) i ≡ 0 = low_part a s i ∙ bit_at_above a 64 (s + i) small beyond in
-          let high = high_part b (64 - s) i lt (omega arith) in
-          (λ e. omega (arith, here, low, high, either, bit_at-lt b (i - (64 - s))), λ e. omega (arith, here, low, high, either, bit_at-lt b (i - (64 - s))))
+          let high = high_part b (64 - s) i lt (omega arith) in (λ e. omega (arith, here, low, high, either, bit_at-lt b (i - (64 - s))), λ e. omega (arith, here, low, high, either, bit_at-lt b (i - (64 - s))))
     ]
 
 -- ---- a mask within a word
@@ -118,10 +114,8 @@ same_bit words unit k within other =
     elim (cases_eq (k / 64) (unit / 64)) [
       | inl same ↦
           let apart : k % 64 ≡ unit % 64 → ⊥ = λ e. other (omega arith) in
-          ap (λ j. bit_at (slice_index (with_bit words unit) j) (k % 64)) same
-          ∙ ap (λ w. bit_at w (k % 64)) (get_or-set_same words (unit / 64) (bit_or (slice_index words (unit / 64)) mask) 0 within)
-          ∙ bit_at_set_other w64 (slice_index words (unit / 64)) (unit % 64) (omega arith) (k % 64) apart
-          ∙ ap (λ j. bit_at (slice_index words j) (k % 64)) (sym same)
+          ap (λ j. bit_at (slice_index (with_bit words unit) j) (k % 64)) same ∙ ap (λ w. bit_at w (k % 64)) (get_or-set_same words (unit / 64) (bit_or (slice_index words (unit / 64)) mask) 0 within)
+          ∙ bit_at_set_other w64 (slice_index words (unit / 64)) (unit % 64) (omega arith) (k % 64) apart ∙ ap (λ j. bit_at (slice_index words j) (k % 64)) (sym same)
       | inr elsewhere ↦ ap (λ w. bit_at w (k % 64)) (get_or-set_other words (unit / 64) (k / 64) (bit_or (slice_index words (unit / 64)) mask) 0 elsewhere)
     ]
 
@@ -142,8 +136,7 @@ with_mask words unit mask = set words (unit / 64) (bit_or (slice_index words (un
 blank_bit : (words : List ℕ) (unit k mask : ℕ) → mask ≡ 0 → unit / 64 < length words → bit_at (slice_index (with_mask words unit mask) (k / 64)) (k % 64) ≡ bit_at (slice_index words (k / 64)) (k % 64)
 blank_bit words unit k mask none within = elim (cases_eq (k / 64) (unit / 64)) [
   | inl same ↦
-      ap (λ j. bit_at (slice_index (with_mask words unit mask) j) (k % 64)) same
-      ∙ ap (λ w. bit_at w (k % 64)) (get_or-set_same words (unit / 64) (bit_or (slice_index words (unit / 64)) mask) 0 within)
+      ap (λ j. bit_at (slice_index (with_mask words unit mask) j) (k % 64)) same ∙ ap (λ w. bit_at w (k % 64)) (get_or-set_same words (unit / 64) (bit_or (slice_index words (unit / 64)) mask) 0 within)
       ∙ (bit_at_or (slice_index words (unit / 64)) mask (k % 64) ∙ ap (max (bit_at (slice_index words (unit / 64)) (k % 64))) (ap (λ m. bit_at m (k % 64)) none ∙ bit_at-zero (k % 64)) ∙ omega arith)
       ∙ ap (λ j. bit_at (slice_index words j) (k % 64)) (sym same)
   | inr apart ↦ ap (λ w. bit_at w (k % 64)) (get_or-set_other words (unit / 64) (k / 64) (bit_or (slice_index words (unit / 64)) mask) 0 apart)

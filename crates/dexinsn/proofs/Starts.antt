@@ -32,14 +32,11 @@ starts_with-pos test us (c ∷ cs) k =
     let on : starts_with test us cs (pos k) ≡ (list_any (λ (b : Cut). b.unit == k) cs && test (slice_index us k)) = starts_with-pos test us cs k in
     elim (cases_eq c.unit k) [
       | inl same ↦
-          ap (λ (b : Bool). (b && test (slice_index us c.unit)) || starts_with test us cs (pos k)) (int_eq-same c.unit k same)
-          ∙ ap (λ (b : Bool). test (slice_index us c.unit) || b) on
-          ∙ ap (λ (p : ℕ). test (slice_index us p) || (list_any (λ (b : Cut). b.unit == k) cs && test (slice_index us k))) same
-          ∙ or_same (test (slice_index us k)) (list_any (λ (b : Cut). b.unit == k) cs)
+          ap (λ (b : Bool). (b && test (slice_index us c.unit)) || starts_with test us cs (pos k)) (int_eq-same c.unit k same) ∙ ap (λ (b : Bool). test (slice_index us c.unit) || b) on
+          ∙ ap (λ (p : ℕ). test (slice_index us p) || (list_any (λ (b : Cut). b.unit == k) cs && test (slice_index us k))) same ∙ or_same (test (slice_index us k)) (list_any (λ (b : Cut). b.unit == k) cs)
           ∙ ap (λ (b : Bool). (b || list_any (λ (d : Cut). d.unit == k) cs) && test (slice_index us k)) (sym (eq-eqb c.unit k same))
       | inr other ↦
-          ap (λ (b : Bool). (b && test (slice_index us c.unit)) || starts_with test us cs (pos k)) (int_eq-other c.unit k other)
-          ∙ on
+          ap (λ (b : Bool). (b && test (slice_index us c.unit)) || starts_with test us cs (pos k)) (int_eq-other c.unit k other) ∙ on
           ∙ ap (λ (b : Bool). (b || list_any (λ (d : Cut). d.unit == k) cs) && test (slice_index us k)) (sym (ne_eqb c.unit k other))
     ]
 
@@ -47,8 +44,7 @@ starts_with-pos test us (c ∷ cs) k =
 pub piece_at : (us : List ℕ) (cs : List Cut) (k : ℕ) → All (IsPieceAt us) cs → list_any (λ c. c.unit == k) cs ≡ true → IsSome (piece_size k (drop k us))
 piece_at us cs k pieces marked =
     let found : Any (λ (c : Cut). (c.unit == k) ≡ true) cs = Any-from_list_any (λ (c : Cut). c.unit == k) cs marked in
-    let c : Cut = found.1 in
-    let size : piece_size k (drop k us) ≡ Some c.units = subst (λ (p : ℕ). piece_size p (drop p us) ≡ Some c.units) (eqb-true c.unit k found.4) (subst (IsPieceAt us) found.3 (All-get_or (IsPieceAt us) cs found.0 c found.2 pieces)) in
+    let size : piece_size k (drop k us) ≡ Some found.1.units = subst (λ (p : ℕ). piece_size p (drop p us) ≡ Some found.1.units) (eqb-true found.1.unit k found.4) (subst (IsPieceAt us) found.3 (All-get_or (IsPieceAt us) cs found.0 found.1 found.2 pieces)) in
     subst (λ (o : Option ℕ). IsSome o) (sym size) refl
 
 -- a payload begins with the unit where the code finds a kind

@@ -11,9 +11,7 @@ pub none_changed : {X : Type 0} (f : X → X) (xs : List X) → AreChanged f 0 x
 none_changed f xs = record { done = refl; rest = refl; size = refl }
 
 same_at : {X : Type 0} (xs ys : List X) (i : ℕ) (d : X) → drop i xs ≡ drop i ys → get_or xs i d ≡ get_or ys i d
-same_at xs ys i d e =
-    let z : i + 0 ≡ i = omega arith in
-    ap (λ (k : ℕ). get_or xs k d) (sym z) ∙ sym (get_or-drop i xs 0 d) ∙ ap (λ zs. get_or zs 0 d) e ∙ get_or-drop i ys 0 d ∙ ap (λ (k : ℕ). get_or ys k d) z
+same_at xs ys i d e = let z : i + 0 ≡ i = omega arith in ap (λ (k : ℕ). get_or xs k d) (sym z) ∙ sym (get_or-drop i xs 0 d) ∙ ap (λ zs. get_or zs 0 d) e ∙ get_or-drop i ys 0 d ∙ ap (λ (k : ℕ). get_or ys k d) z
 
 pub unchanged : {X : Type 0} (f : X → X) (P : X → Type 0) (old new : List X) (i : ℕ) (d : X) → AreChanged f i old new → i < length old → All P old → P (get_or new i d)
 unchanged f P old new i d h lt all = subst P (sym (same_at new old i d h.rest)) (All-get_or P old i d lt all)

@@ -1,11 +1,15 @@
 -- What is read is stored so that it denotes the pieces of the code_item.
-use Rattle.dexinsn.proofs.Common.{◌≡◌, ℕ, zero, suc, ◌+◌, ◌-◌, ◌*◌, ◌/◌, ◌%◌, ◌^◌, ◌<◌, ◌≤◌, ◌==◌, Bool, true, false, cond, List, [], ◌∷◌, length, drop, map, get_or, slice_index, slice_set, Option, Some, None, refl, ap, sym, ◌∙◌, subst, arith, length-drop, get_or-set_other, All, AllZip, option_map_or, option_and_then, MatchOption, drop-drop, get_or-take, length-take-le, All-nil, All-cons, All-head, All-tail, uint_at, opcode_of, Pool, StringPool, TypePool, ProtoPool, FieldPool, MethodPool, Proto, Symbol, TextSymbol, TypeSymbol, ProtoSymbol, FieldSymbol, MethodSymbol, pool_of, Mentions, Cut, AreCut, IsCode, Piece, DenotesPiece, piece_size, cut_units, index_pool, index_in, is_wide_index, is_payload_ident, with_index, low_byte, two_units, PiecesAt, length-ushorts_at, ArePools, count_of, IsNumbered, Index, IsPieceAt, Instruction, kind_of_pool, Denotes, Denote, cuts_from, cuts_in, parts_in, piece_with, left_by, pieces_with, with_place, index_places, AreStored, ArePiecesAt, AreUnitsAt, with_index_at, indices_at, IsInRange, AreCodeIndices, Payload}
+use Rattle.dexinsn.proofs.Common.{◌≡◌, ℕ, zero, suc, ◌+◌, ◌-◌, ◌*◌, ◌/◌, ◌%◌, ◌^◌, ◌<◌, ◌≤◌, ◌==◌, Bool, true, false, cond, List, [], ◌∷◌, length, drop, map, get_or, slice_index, slice_set, Option, Some, None, refl, ap, sym, ◌∙◌, subst, arith, length-drop, get_or-set_other, All, AllZip, option_map_or, option_and_then, MatchOption, drop-drop, get_or-take, length-take-le, All-nil, All-cons, All-head, All-tail, uint_at, opcode_of, Pool, StringPool, TypePool, ProtoPool, FieldPool, MethodPool, Proto, Symbol, TextSymbol, TypeSymbol, ProtoSymbol, FieldSymbol, MethodSymbol, pool_of, Mentions, Cut, AreCut, IsCode, Piece, DenotesPiece, piece_size, cut_units, index_pool, index_in, is_wide_index, is_payload_ident, with_index, low_byte, two_units, PiecesAt, length-ushorts_at, ArePools, count_of, IsNumbered, Index, IsPieceAt, Instruction, kind_of_pool, Denotes, Denote, cuts_from, cuts_in, parts_in, piece_with, left_by, pieces_with, with_place, index_places, AreStored, ArePiecesAt, AreUnitsAt, with_index_at, indices_at, IsInRange, AreCodeIndices, Payload, IsPiecesFault, IsCodeFault, false_from_ne_true, pos, inl, inr, eqb-true, eq-eqb, zero-add, ◌↔◌, bit_at, cases_lt, get_or_past, is_instruction_start, bits_from, bits_in, has_bit, AreStartsAt, AreCodeStarts, HasBit}
 use Rattle.dexspec.specs.Rows.{SymbolRow}
 use Rattle.dexspec.specs.Pieces as symbolic
 use Rattle.dexinsn.specs.{units_in}
-use Rattle.dexinsn.proofs.Once.{nothing, same_cut}
-use Rattle.dexinsn.proofs.Sizes.{Fits, piece_size-fits}
-use Rattle.dexinsn.proofs.IndexRoom.{HasRoom, has_room}
+use Rattle.dexinsn.proofs.Once.{nothing, same_cut, whole_once}
+use Rattle.dexinsn.proofs.IndexRoom.{Fits, piece_size-fits, HasRoom, has_room}
+use Rattle.dexpool.specs.declared.faults.ItemFault.{ItemFault}
+use Rattle.dexpool.specs.declared.faults.ItemFault.TheVariants.{Refused, Memory}
+use Rattle.dexinsn.specs.internal.{HasPlace}
+use Rattle.dexinsn.proofs.StartBits.{same_test}
+use Rattle.dexinsn.proofs.Placed.{no_bit_past}
 
 -- ---- the cuts
 
@@ -76,8 +80,7 @@ places_read us at [] cut = refl
 places_read us at (c ∷ cs) cut =
     let is : IsPieceAt us c = subst (λ (k : ℕ). piece_size k (drop k us) ≡ Some c.units) (sym cut.0) cut.1 in
     let on : map (λ (i : Index). i.unit) (indices_at us cs) ≡ index_places (at + c.units) (map (cut_units us) cs) = places_read us (at + c.units) cs (subst (λ (xs : List ℕ). AreCut (at + c.units) xs cs []) (drop-drop c.units at us) cut.2) in
-    place_by (index_pool (drop c.unit us)) us c (indices_at us cs)
-    ∙ ap (λ (o : Option Pool). with_place o c.unit (map (λ (i : Index). i.unit) (indices_at us cs))) (sym (cut_pool us c is))
+    place_by (index_pool (drop c.unit us)) us c (indices_at us cs) ∙ ap (λ (o : Option Pool). with_place o c.unit (map (λ (i : Index). i.unit) (indices_at us cs))) (sym (cut_pool us c is))
     ∙ ap (λ (k : ℕ). with_place (index_pool (cut_units us c)) k (map (λ (i : Index). i.unit) (indices_at us cs))) cut.0
     ∙ ap (with_place (index_pool (cut_units us c)) at) (on ∙ ap (λ (n : ℕ). index_places (at + n) (map (cut_units us) cs)) (sym (cut_length us c is)))
 
@@ -259,3 +262,50 @@ none_read b off m bytes pools at none cuts ps h =
 
 pub few_units : (b : List ℕ) (off : ℕ) (bytes : List ℕ) → AreUnitsAt b off bytes → length (units_in bytes) < 2 ^ 32
 few_units b off bytes at = omega (arith, at.few, ap length at.units ∙ length-ushorts_at b (off + 16) (uint_at b (off + 12)))
+
+-- ---- What faults of reading say of the file
+
+-- units are cut in one way
+pub one_cut : (us : List ℕ) (cs ds : List Cut) → IsCode us cs → IsCode us ds → cs ≡ ds
+one_cut us cs ds x y = whole_once us cs ds x.cut y.cut
+
+pub pieces_fault : (b : List ℕ) (off : ℕ) (m : Mentions) (bytes : List ℕ) (f : ItemFault) → ArePools b m → AreUnitsAt b off bytes → IsCodeFault (units_in bytes) m f → IsPiecesFault b off f
+pieces_fault b off m bytes (Refused n) pools at h = (h.0, none_read b off m bytes pools at h.1)
+pieces_fault b off m bytes Memory pools at h = tt
+
+-- ---- Where instructions begin, by the bits
+
+-- the bit as an answer
+pub bit_says : (words : List ℕ) (k : ℕ) → (has_bit words k ≡ true) ↔ HasBit words k
+unfolding HasBit
+bit_says words k = (λ e. eqb-true (bit_at (slice_index words (k / 64)) (k % 64)) 1 e, λ has. eq-eqb (bit_at (slice_index words (k / 64)) (k % 64)) 1 has)
+
+bit_from : (n : ℕ) (words : List ℕ) (k i : ℕ) → i < n → get_or (bits_from n words k) i false ≡ has_bit words (k + i)
+bit_from zero words k i lt = absurd (omega (arith, lt))
+bit_from (suc n) words k zero lt = ap (has_bit words) (omega arith)
+bit_from (suc n) words k (suc i) lt = let same : k + 1 + i ≡ k + suc i = omega arith in bit_from n words (k + 1) i (omega (arith, lt)) ∙ ap (has_bit words) same
+
+length_from : (n : ℕ) (words : List ℕ) (k : ℕ) → length (bits_from n words k) ≡ n
+length_from zero words k = refl
+length_from (suc n) words k = ap suc (length_from n words (k + 1))
+
+-- the answers are those of the bits
+pub bit_in : (words : List ℕ) (k : ℕ) → get_or (bits_in words) k false ≡ has_bit words k
+unfolding bits_in
+bit_in words k = elim (cases_lt k (64 * length words)) [
+  | inl within ↦ bit_from (64 * length words) words 0 k within ∙ ap (has_bit words) (zero-add k)
+  | inr past ↦
+      get_or_past (bits_from (64 * length words) words 0) k false (omega (arith, length_from (64 * length words) words 0, past))
+      ∙ sym (false_from_ne_true (has_bit words k) (λ e. no_bit_past words k (omega (arith, past)) ((bit_says words k).0 e)))
+]
+
+-- an answer that is right of the place is right of the bits
+pub test_in : (words : List ℕ) (k : ℕ) (r : Bool) → (r ≡ true) ↔ HasPlace words (pos k) → r ≡ get_or (bits_in words) k false
+test_in words k r says = same_test r (has_bit words k) (λ e. (bit_says words k).1 (says.0 e)) (λ e. says.1 ((bit_says words k).0 e)) ∙ sym (bit_in words k)
+
+-- the starts of the code_item
+pub starts_there : (b : List ℕ) (off : ℕ) (bytes words : List ℕ) → AreUnitsAt b off bytes → AreCodeStarts (units_in bytes) words → AreStartsAt b off (bits_in words)
+starts_there b off bytes words at s cuts ps k h =
+    let bits = (s cuts (subst (λ (us : List ℕ). IsCode us cuts) (sym at.units) h.code)).each k in
+    bit_in words k ∙ same_test (has_bit words k) (is_instruction_start (units_in bytes) cuts (pos k)) (λ e. bits.0 ((bit_says words k).0 e)) (λ e. (bit_says words k).1 (bits.1 e))
+    ∙ ap (λ (us : List ℕ). is_instruction_start us cuts (pos k)) at.units

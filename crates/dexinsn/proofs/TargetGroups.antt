@@ -88,10 +88,7 @@ all_grouped ts i groups g whole before test = (
 -- one target more is read
 pub one_read : (us : List ℕ) (all read : List ℤ) (z : ℤ) (i j n k : ℕ) → n ≡ suc k → j ≡ i + 2 → int_in us i ≡ z → all ≡ read ++ ints_in us i n → all ≡ (read ++ z ∷ []) ++ ints_in us j k
 one_read us all read z i j n k more next is before =
-    before ∙ ap (λ (m : ℕ). read ++ ints_in us i m) more
-    ∙ ap (λ (t : ℤ). read ++ t ∷ ints_in us (i + 2) k) is
-    ∙ ap (λ (p : ℕ). read ++ z ∷ ints_in us p k) (sym next)
-    ∙ sym (append_assoc read (z ∷ []) (ints_in us j k))
+    before ∙ ap (λ (m : ℕ). read ++ ints_in us i m) more ∙ ap (λ (t : ℤ). read ++ t ∷ ints_in us (i + 2) k) is ∙ ap (λ (p : ℕ). read ++ z ∷ ints_in us p k) (sym next) ∙ sym (append_assoc read (z ∷ []) (ints_in us j k))
 
 -- in another order the targets are the same
 pub sorted_grouped : (ts sorted : List ℤ) (groups : List TargetGroup) → IsPermutation ts sorted → AreGrouped sorted groups → AreGrouped ts groups

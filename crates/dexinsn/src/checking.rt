@@ -38,7 +38,7 @@ pub(crate) fn has_targets(first: u16) -> bool
 }
 
 /// Returns the number of indices of the piece at a unit, one or none, if what it has is in range.
-#[tactic(auto, using(crate::proofs::IndexRoom::room_after, crate::proofs::IndexRoom::wide_room_after))]
+#[tactic(auto, using(crate::proofs::IndexRoom::piece_within, crate::proofs::IndexRoom::room_after, crate::proofs::IndexRoom::wide_room_after))]
 pub(crate) fn index_count(
     units: &Units<'_>,
     at: usize,

@@ -22,6 +22,7 @@ pub fn renumber_law()
 {}
 
 /// The symbols that occur are those of the pieces that they denote, one for one and in their order.
+#[tactic(auto, using(crate::proofs::Meanings::uses_encoded))]
 pub fn uses_law()
     ensures { UsesAreDenoted }
 {}
@@ -45,6 +46,7 @@ pub fn cut_places_law()
 
 /// After a join: where the numbering is not too large, its numbers fit but for those of texts at a const-string, and
 /// these fit where the greatest does. So the image of each number that has one fits its place.
+#[tactic(auto, using(crate::proofs::Fits::images_after_join, crate::proofs::Fits::places_after_join))]
 pub fn joined_places_law()
     ensures images { (m n : Mentions) (r : Maps) → AllMapTo m n r → IsNotTooLarge n → ImagesFit r }
     ensures places { FitWhereGreatestDoes }

@@ -27,7 +27,7 @@ pub(crate) struct Targets {
 }
 
 /// The targets of the payload of the kind at a unit; `None` where it has none.
-#[tactic(auto, using(crate::proofs::Sizes::packed_fits, crate::proofs::Sizes::sparse_fits))]
+#[tactic(auto, using(crate::proofs::IndexRoom::packed_fits, crate::proofs::IndexRoom::sparse_fits))]
 pub(crate) fn targets_at(units: &Units<'_>, kind: PayloadKind, unit: usize) -> Option<Targets>
     requires small { length units.now < 2 ^ 62 }
     requires kind { slice_index units.now unit ≡ ident_of kind }

@@ -299,6 +299,7 @@ fn row_in(rows: &[Row; 256], op: u8) -> Row
 }
 
 /// The mnemonic of an opcode, or nothing where the opcode is unused.
+#[tactic(auto, using(crate::proofs::Table::mnemonics_are))]
 fn mnemonic_or_empty(op: u8) -> &'static str
     ensures { result.now ≡ mnemonic_of op }
 {
@@ -306,6 +307,7 @@ fn mnemonic_or_empty(op: u8) -> &'static str
 }
 
 /// What a table that is right has as an opcode's mnemonic.
+#[tactic(auto, using(crate::proofs::Table::mnemonic_is))]
 fn mnemonic_in(mnemonics: &[&'static str; 256], op: u8) -> &'static str
     requires { AreMnemonics mnemonics.now }
     ensures { result.now ≡ mnemonic_of op }

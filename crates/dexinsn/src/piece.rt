@@ -7,7 +7,7 @@ use crate::payload::PayloadKind;
 
 /// The number of units of the instruction or payload that comes first, at unit `at` of the code; `None` where neither
 /// does.
-#[tactic(auto, using(crate::proofs::Sizes::first_is))]
+#[tactic(auto, using(crate::proofs::IndexRoom::first_is))]
 pub(crate) fn piece_size(at: usize, units: &Units<'_>) -> Option<usize>
     requires { 0 < length units.now }
     ensures size { result ≡ piece_size at units.now }

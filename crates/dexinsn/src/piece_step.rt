@@ -99,6 +99,7 @@ fn plain_row(units: &Units<'_>, at: usize) -> Option<Row>
 
 /// The number of units of the piece at a unit, or `None` where no piece begins.
 #[inline(always)]
+#[tactic(auto, using(crate::proofs::Plain::row_size))]
 pub(crate) fn size_at(units: &Units<'_>, at: usize) -> Option<usize>
     requires { at < length units.now }
     ensures { result ≡ piece_size at (drop at units.now) }

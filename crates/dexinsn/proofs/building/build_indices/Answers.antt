@@ -35,20 +35,19 @@ overflow_cast-unit c =
 
 pub loop-size-preserved : goal.loop-size-preserved
 loop-size-preserved c =
-    let us = c.args.units.now in
-    let next = next_piece us c.args.count c.loop-size.at c.loop-size.indices.items c.loop-size.invariant.built (omega arith) in
-    let size : piece_size c.loop-size.at (drop c.loop-size.at us) ≡ Some c.unwrap-size.result = sym c.size_at.ensures ∙ c.unwrap-size.ensures in
+    let next = next_piece c.args.units.now c.args.count c.loop-size.at c.loop-size.indices.items c.loop-size.invariant.built (omega arith) in
+    let size : piece_size c.loop-size.at (drop c.loop-size.at c.args.units.now) ≡ Some c.unwrap-size.result = sym c.size_at.ensures ∙ c.unwrap-size.ensures in
     elim c.if-is_some.branch [
       | then-is_some w ↦
-          let pool = some_pool (index_pool (drop c.loop-size.at us)) (ap is_some (sym c.kind_at.ensures) ∙ (sym c.is_some.ensures ∙ w.if-is_some.true)) in
+          let pool = some_pool (index_pool (drop c.loop-size.at c.args.units.now)) (ap is_some (sym c.kind_at.ensures) ∙ (sym c.is_some.ensures ∙ w.if-is_some.true)) in
           record {
             room = rw w.indices-is (omega (arith, w.push.ensures.capacity));
-            built = rw w.indices-is (index_built us c.args.count c.loop-size.at c.unwrap-size.result w.index_at-number.result c.loop-size.indices.items w.push.new.self.items pool.0 next size pool.1 w.index_at-number.ensures.is (search rules));
+            built = rw w.indices-is (index_built c.args.units.now c.args.count c.loop-size.at c.unwrap-size.result w.index_at-number.result c.loop-size.indices.items w.push.new.self.items pool.0 next size pool.1 w.index_at-number.ensures.is (search rules));
           }
       | else-is_some w ↦
           record {
             room = rw w.indices-is c.loop-size.invariant.room;
-            built = rw w.indices-is (plain_built us c.args.count c.loop-size.at c.unwrap-size.result c.loop-size.indices.items next size (no_pool (index_pool (drop c.loop-size.at us)) (ap is_some (sym c.kind_at.ensures) ∙ (sym c.is_some.ensures ∙ w.if-is_some.false))));
+            built = rw w.indices-is (plain_built c.args.units.now c.args.count c.loop-size.at c.unwrap-size.result c.loop-size.indices.items next size (no_pool (index_pool (drop c.loop-size.at c.args.units.now)) (ap is_some (sym c.kind_at.ensures) ∙ (sym c.is_some.ensures ∙ w.if-is_some.false))));
           }
     ]
 

@@ -1,7 +1,6 @@
 use Rattle.dexinsn.proofs.Common.{◌≡◌, ◌+◌, List, ◌∷◌, [], ◌++◌, drop, Some, sym, ◌∙◌, ap, subst, arith, common_steps, Cut as Meant, piece_size, cuts_of, AreCutWith}
 use Rattle.dexinsn.specs.declared.code.Cut.{Cut}
-use Rattle.dexinsn.proofs.Cuts.{cuts_of-push}
-use Rattle.dexinsn.proofs.Passed.{one_cut_more, cut_breaks}
+use Rattle.dexinsn.proofs.Passed.{cuts_of-push, one_cut_more, cut_breaks}
 use Rattle.dexinsn.proofs.code.cut_units.Goals as goal
 
 pub returns-in-None-clause-fault : goal.returns-in-None-clause-fault

@@ -20,6 +20,5 @@ returns-then-not-piece_targets_right c =
 
 pub loop-cut-preserved : goal.loop-cut-preserved
 loop-cut-preserved c =
-    c.loop-cut.invariant
-    ∙ bad_target_on c.args.checker.now.units.now (cuts_of c.args.cuts.now) c.args.cuts.now c.loop-cut.cut-index (record { unit = 0; units = 0 }) c.loop-cut-test.true
+    c.loop-cut.invariant ∙ bad_target_on c.args.checker.now.units.now (cuts_of c.args.cuts.now) c.args.cuts.now c.loop-cut.cut-index (record { unit = 0; units = 0 }) c.loop-cut-test.true
     (sym c.if-not-piece_targets_right.false ∙ c.piece_targets_right.ensures (cuts_of c.args.cuts.now) _ c.requires.cuts.starts_are c.requires.cuts.noted_are)

@@ -4,7 +4,6 @@ use Rattle.dexinsn.proofs.instruction_index.kind_at.Goals as goal
 
 pub returns : goal.returns
 returns c =
-    let us = c.args.units.now in
     let z : c.args.unit + 0 ≡ c.args.unit = omega arith in
-    let op : c.opcode_in.result ≡ low_byte (slice_index (drop c.args.unit us) 0) = c.opcode_in.ensures ∙ ap low_byte (c.at.ensures.is ∙ (sym (get_or-drop c.args.unit us 0 0 ∙ ap (λ (k : ℕ). get_or us k 0) z))) in
-    c.index_kind.ensures ∙ ap (option_map kind_of_pool) (ap (λ (n : ℕ). option_and_then (λ (o : Opcode). o.index) (opcode_of n)) op ∙ sym (pool_of_first (drop c.args.unit us)))
+    let op : c.opcode_in.result ≡ low_byte (slice_index (drop c.args.unit c.args.units.now) 0) = c.opcode_in.ensures ∙ ap low_byte (c.at.ensures.is ∙ (sym (get_or-drop c.args.unit c.args.units.now 0 0 ∙ ap (λ (k : ℕ). get_or c.args.units.now k 0) z))) in
+    c.index_kind.ensures ∙ ap (option_map kind_of_pool) (ap (λ (n : ℕ). option_and_then (λ (o : Opcode). o.index) (opcode_of n)) op ∙ sym (pool_of_first (drop c.args.unit c.args.units.now)))

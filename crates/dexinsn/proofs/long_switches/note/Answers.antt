@@ -1,6 +1,6 @@
 use Rattle.dexinsn.proofs.Common.{◌≡◌, ℕ, Some, sym, subst, ◌∙◌, inl, inr, ne_eqb, nat_eq, Vec, Global, List, ℤ, cases_eq, ints_in, payload_targets, AreGrouped, TargetGroup}
 use Rattle.std.specs.HashMap.{get}
-use Rattle.dexinsn.proofs.Sizes.{size_is, piece_within}
+use Rattle.dexinsn.proofs.IndexRoom.{size_is, piece_within}
 use Rattle.dexinsn.proofs.TargetGroups.{sorted_grouped}
 use Rattle.dexinsn.proofs.long_switches.note.Goals as goal
 
@@ -12,16 +12,15 @@ at-requires c = let size = size_is _ c.requires.piece in piece_within c.args.uni
 
 pub returns : goal.returns
 returns c = λ k groups e.
-    let us = c.args.units.now in
     let t = c.in-Some-targets_at.targets in
-    let grouped : AreGrouped (ints_in us t.first t.count) c.in_ok-grouped.grouped.items =
-    sorted_grouped (ints_in us t.first t.count) c.in_ok-sorted.sorted.items c.in_ok-grouped.grouped.items c.in_ok-sorted.ensures
+    let grouped : AreGrouped (ints_in c.args.units.now t.first t.count) c.in_ok-grouped.grouped.items =
+    sorted_grouped (ints_in c.args.units.now t.first t.count) c.in_ok-sorted.sorted.items c.in_ok-grouped.grouped.items c.in_ok-sorted.ensures
     (subst (λ (ts : List ℤ). AreGrouped ts c.in_ok-grouped.grouped.items) c.deref.ensures.value c.in_ok-grouped.ensures) in
-    let here : AreGrouped (payload_targets us c.args.unit) c.in_ok-grouped.grouped.items = subst (λ (ts : List ℤ). AreGrouped ts c.in_ok-grouped.grouped.items) (sym c.in-Some-targets_at.ensures.is) grouped in
+    let here : AreGrouped (payload_targets c.args.units.now c.args.unit) c.in_ok-grouped.grouped.items = subst (λ (ts : List ℤ). AreGrouped ts c.in_ok-grouped.grouped.items) (sym c.in-Some-targets_at.ensures.is) grouped in
     elim (cases_eq c.args.unit k) [
       | inl same ↦
           let value : Some groups ≡ Some c.in_ok-grouped.grouped = sym (subst (λ (n : ℕ). get nat_eq c.insert.new.self n ≡ Some groups) (sym same) e) ∙ c.in_ok-insert.ensures.updates.1 in
-          subst (λ (n : ℕ). AreGrouped (payload_targets us n) groups.items) same
-          (subst (λ (v : Vec TargetGroup Global). AreGrouped (payload_targets us c.args.unit) v.items) (one_value groups c.in_ok-grouped.grouped value) here)
+          subst (λ (n : ℕ). AreGrouped (payload_targets c.args.units.now n) groups.items) same
+          (subst (λ (v : Vec TargetGroup Global). AreGrouped (payload_targets c.args.units.now c.args.unit) v.items) (one_value groups c.in_ok-grouped.grouped value) here)
       | inr apart ↦ c.requires.groups k groups (sym (c.in_ok-insert.ensures.updates.2 k (ne_eqb c.args.unit k apart)) ∙ e)
     ]

@@ -5,10 +5,7 @@ use Rattle.dexinsn.proofs.PutUnits.{stored_follow, Next, next_index, follow_with
 use Rattle.dexinsn.proofs.put.encode_numbered.Goals as goal
 
 pub loop-index-init : goal.loop-index-init
-loop-index-init g c = record {
-  completes = completes_none g.O.Output.gives (flat_map ushort (spelled_from (units_in c.args.bytes.now) 0 c.args.indices.now)) c.args.out.now;
-  follow = stored_follow (units_in c.args.bytes.now) c.args.indices.now c.requires;
-}
+loop-index-init g c = record { completes = completes_none g.O.Output.gives (flat_map ushort (spelled_from (units_in c.args.bytes.now) 0 c.args.indices.now)) c.args.out.now; follow = stored_follow (units_in c.args.bytes.now) c.args.indices.now c.requires }
 
 pub is_wide_at-is_wide-requires : goal.is_wide_at-is_wide-requires
 is_wide_at-is_wide-requires g c =

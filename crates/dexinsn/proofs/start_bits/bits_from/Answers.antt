@@ -7,5 +7,4 @@ returns-then-shift-eq0 c = λ i lt. bits_of_word c.args.words.now c.args.unit (c
 
 pub returns-else-shift-eq0 : goal.returns-else-shift-eq0
 returns-else-shift-eq0 c = λ i lt.
-    let small : slice_index c.args.words.now (c.args.unit / 64) < 2 ^ 64 = search rules in
-    bits_of_words c.args.words.now c.args.unit (c.args.unit % 64) i refl (omega arith) small lt
+    let small : slice_index c.args.words.now (c.args.unit / 64) < 2 ^ 64 = search rules in bits_of_words c.args.words.now c.args.unit (c.args.unit % 64) i refl (omega arith) small lt

@@ -11,5 +11,4 @@ pub returns : goal.returns
 returns c =
     let unit : ℕ = nat_abs (to_z w64 (of_z w64 c.args.place)) in
     let here : c.args.place ≡ pos unit = grind (arith, ints) in
-    let bit = bit_is c.args.words.now unit c.args.place here in
-    let word = slice_index c.args.words.now (unit / 64) / 2 ^ (unit % 64) % 2 in (λ e. bit.0 (eqb-true word 1 e), λ has. eq-eqb word 1 (bit.1 has))
+    let bit = bit_is c.args.words.now unit c.args.place here in let word = slice_index c.args.words.now (unit / 64) / 2 ^ (unit % 64) % 2 in (λ e. bit.0 (eqb-true word 1 e), λ has. eq-eqb word 1 (bit.1 has))

@@ -1,5 +1,5 @@
 use Rattle.dexinsn.proofs.Common.{ℕ, slice_index, Some, None, ap, sym, ◌∙◌, option_map, Opcode, opcode_of, is_payload_ident, format_of}
-use Rattle.dexinsn.proofs.Sizes.{size_is, instruction_fits, piece_within}
+use Rattle.dexinsn.proofs.IndexRoom.{size_is, instruction_fits, piece_within}
 use Rattle.dexinsn.proofs.Starts.{payload_is}
 use Rattle.dexinsn.proofs.RightTargets.{right-payload, right-instruction}
 use Rattle.dexinsn.proofs.checking.TargetChecker.piece_targets_right.Goals as goal
@@ -24,8 +24,7 @@ branch_targets_right-requires-clause-within c =
 
 pub returns-in-Some : goal.returns-in-Some
 returns-in-Some c = λ cs n starts noted.
-    c.branch_targets_right.ensures cs starts noted
-    ∙ right-instruction c.args.self.now.units.now cs (record { unit = c.args.at; units = n }) (Some (format_of c.in-Some.format))
+    c.branch_targets_right.ensures cs starts noted ∙ right-instruction c.args.self.now.units.now cs (record { unit = c.args.at; units = n }) (Some (format_of c.in-Some.format))
     (payload_is c.of.result _ (is_payload_ident (slice_index c.args.self.now.units.now c.args.at)) c.is_some.result (rw c.at-first.ensures.is at c.of.ensures) (sym c.is_some.ensures) ∙ c.if-is_some.false)
     (c.in-Some.ensures ∙ ap (λ (op : ℕ). option_map (λ (o : Opcode). o.format) (opcode_of op)) (rw c.at-first.ensures.is at c.opcode_in.ensures))
 

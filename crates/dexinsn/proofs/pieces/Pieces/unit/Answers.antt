@@ -11,18 +11,14 @@ at-requires c =
 pub returns-then-is_of_index : goal.returns-then-is_of_index
 returns-then-is_of_index c =
     let us = units_in c.self.inside.bytes.now in
-    let is = c.self.inside.indices.items in
-    let i = c.args.i in
-    let lt : i < length us = omega (arith, ap (λ v. length (numbered_bytes v.pieces)) (sym c.self.view_is) ∙ stored_length us is c.self.invariant, c.requires) in
-    let said : c.is_of_index.result ≡ list_any (covers us i) is = rw (c.of_bytes-units.ensures, c.deref.ensures.value) at c.is_of_index.ensures in
-    sym (ap (λ v. slice_index (flat_map blank_units v.pieces) i) (sym c.self.view_is) ∙ blank_unit us is i c.self.invariant lt ∙ ap (λ (b : Bool). cond b 0 (slice_index us i)) (sym said ∙ c.if-is_of_index.true))
+    let lt : c.args.i < length us = omega (arith, ap (λ v. length (numbered_bytes v.pieces)) (sym c.self.view_is) ∙ stored_length us c.self.inside.indices.items c.self.invariant, c.requires) in
+    let said : c.is_of_index.result ≡ list_any (covers us c.args.i) c.self.inside.indices.items = rw (c.of_bytes-units.ensures, c.deref.ensures.value) at c.is_of_index.ensures in
+    sym (ap (λ v. slice_index (flat_map blank_units v.pieces) c.args.i) (sym c.self.view_is) ∙ blank_unit us c.self.inside.indices.items c.args.i c.self.invariant lt ∙ ap (λ (b : Bool). cond b 0 (slice_index us c.args.i)) (sym said ∙ c.if-is_of_index.true))
 
 pub returns-else-is_of_index : goal.returns-else-is_of_index
 returns-else-is_of_index c =
     let us = units_in c.self.inside.bytes.now in
-    let is = c.self.inside.indices.items in
-    let i = c.args.i in
-    let lt : i < length us = omega (arith, ap (λ v. length (numbered_bytes v.pieces)) (sym c.self.view_is) ∙ stored_length us is c.self.invariant, c.requires) in
-    let said : c.is_of_index.result ≡ list_any (covers us i) is = rw (c.of_bytes-units.ensures, c.deref.ensures.value) at c.is_of_index.ensures in
+    let lt : c.args.i < length us = omega (arith, ap (λ v. length (numbered_bytes v.pieces)) (sym c.self.view_is) ∙ stored_length us c.self.inside.indices.items c.self.invariant, c.requires) in
+    let said : c.is_of_index.result ≡ list_any (covers us c.args.i) c.self.inside.indices.items = rw (c.of_bytes-units.ensures, c.deref.ensures.value) at c.is_of_index.ensures in
     rw c.of_bytes-units.ensures at c.at.ensures.is
-    ∙ sym (ap (λ v. slice_index (flat_map blank_units v.pieces) i) (sym c.self.view_is) ∙ blank_unit us is i c.self.invariant lt ∙ ap (λ (b : Bool). cond b 0 (slice_index us i)) (sym said ∙ c.if-is_of_index.false))
+    ∙ sym (ap (λ v. slice_index (flat_map blank_units v.pieces) c.args.i) (sym c.self.view_is) ∙ blank_unit us c.self.inside.indices.items c.args.i c.self.invariant lt ∙ ap (λ (b : Bool). cond b 0 (slice_index us c.args.i)) (sym said ∙ c.if-is_of_index.false))

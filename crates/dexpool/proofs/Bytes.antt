@@ -4,10 +4,7 @@ use Rattle.dexpool.proofs.Common.{◌≡◌, ℕ, ◌+◌, ◌-◌, ◌<◌, ◌
 part_of : (b : List ℕ) (o n p k : ℕ) → p + k ≤ n → take k (drop p (take n (drop o b))) ≡ take k (drop (o + p) b)
 part_of b o n p k le =
     let whole : n ≡ p + (n - p) = omega (arith, le) in
-    ap (λ (m : ℕ). take k (drop p (take m (drop o b)))) whole
-    ∙ ap (take k) (drop-take p (n - p) (drop o b))
-    ∙ take-take k (n - p) (drop p (drop o b)) (omega (arith, le))
-    ∙ ap (take k) (drop-drop p o b)
+    ap (λ (m : ℕ). take k (drop p (take m (drop o b)))) whole ∙ ap (take k) (drop-take p (n - p) (drop o b)) ∙ take-take k (n - p) (drop p (drop o b)) (omega (arith, le)) ∙ ap (take k) (drop-drop p o b)
 
 -- the number in a row is that in the file
 pub uint_at_row : (b row : List ℕ) (o n p q : ℕ) → row ≡ take n (drop o b) → p + 4 ≤ n → o + p ≡ q → uint_at row p ≡ uint_at b q
@@ -29,6 +26,4 @@ ushort_at_rest b rest o p q e at = ap (λ (r : List ℕ). number_of (take 2 (dro
 
 -- there is no text after the end
 pub no_text_after : (b : List ℕ) (o n : ℕ) (s : List ℕ) → length b < o → StringDataAt b o s n → ⊥
-no_text_after b o n s lt h =
-    let item = h.spelled in
-    omega (arith, h.within, length-drop o b, length-take n (drop o b), ap length item.parts, length-append item.count (spelling s ++ 0 ∷ []), length-append (spelling s) (0 ∷ []))
+no_text_after b o n s lt h = omega (arith, h.within, length-drop o b, length-take n (drop o b), ap length h.spelled.parts, length-append h.spelled.count (spelling s ++ 0 ∷ []), length-append (spelling s) (0 ∷ []))

@@ -22,8 +22,7 @@ kept_too marks ns xs d count within = (
     | inl old ↦ let k = kept_from marks xs x old in
         subst (Contains (kept (mark_all marks ns) xs)) (k.is d) (kept_has (mark_all marks ns) xs k.at d (mark_stays marks ns k.at k.marked) k.within)
     | inr new ↦ let s = Contains-map_source (λ n. get_or xs n d) ns x new in
-        let lt = within s.0 s.1 in
-        subst (Contains (kept (mark_all marks ns) xs)) s.2 (kept_has (mark_all marks ns) xs s.0 d (mark_comes marks ns s.0 (omega (arith, count, lt)) s.1) lt)
+        let lt = within s.0 s.1 in subst (Contains (kept (mark_all marks ns) xs)) s.2 (kept_has (mark_all marks ns) xs s.0 d (mark_comes marks ns s.0 (omega (arith, count, lt)) s.1) lt)
   ],
 )
 
@@ -43,8 +42,7 @@ named_flat f at of parts (r ∷ rows) h =
 
 -- a rising list is its members in their order
 pub in_order_is : {K : Type 0} (R : K → K → Ordering) → IsTotalOrder R → IsAntisymmetric R → (xs ys : List K) → Rises R xs → Same xs ys → xs ≡ in_order R ys
-in_order_is R o exact xs ys rising same =
-    Rises-same R o xs (in_order R ys) rising (Rises-in_order R o exact ys) (λ x c. in_order-has R o exact ys x (same.0 x c)) (λ x c. same.1 x (in_order-only R o exact ys x c))
+in_order_is R o exact xs ys rising same = Rises-same R o xs (in_order R ys) rising (Rises-in_order R o exact ys) (λ x c. in_order-has R o exact ys x (same.0 x c)) (λ x c. same.1 x (in_order-only R o exact ys x c))
 
 -- ---- the parts of symbols
 
@@ -208,8 +206,7 @@ module _ (texts types : List Text) (protos : List Proto) (fields : List Field) (
                   Contains-flat_map types_in all_symbols (FieldSymbol z.0) x (has_field z.0 z.1) z.2
             ]
             | inr c ↦ let z = Contains-flat_map_source proto_types protos_kept x c in
-                let s = Contains-flat_map_source protos_in all_symbols z.0 (protos_same.0 z.0 z.1) in
-                Contains-flat_map types_in all_symbols s.0 x s.1 (proto_types_among s.0 z.0 s.2 x z.2)
+                let s = Contains-flat_map_source protos_in all_symbols z.0 (protos_same.0 z.0 z.1) in Contains-flat_map types_in all_symbols s.0 x s.1 (proto_types_among s.0 z.0 s.2 x z.2)
           ]
         ],
         λ x c. let z = Contains-flat_map_source types_in all_symbols x c in types_of z.0 z.1 x z.2,

@@ -39,9 +39,7 @@ module _ {R : Type 0} (rows : List R) (count i : ℕ) (d : R) (within : count �
       ]
 
   left_rest : drop (i + 1) (swap rows count i) ≡ drop (i + 1) rows
-  left_rest =
-      let x = get_or rows i d in
-      ap (drop (i + 1)) swapped ∙ drop-set-lt (i + 1) (set rows count x) i (get_or rows count d) (omega arith) ∙ drop-set-lt (i + 1) rows count x (omega (arith, within))
+  left_rest = let x = get_or rows i d in ap (drop (i + 1)) swapped ∙ drop-set-lt (i + 1) (set rows count x) i (get_or rows count d) (omega arith) ∙ drop-set-lt (i + 1) rows count x (omega (arith, within))
 
 -- the rows that are kept so far are first, and those from i on are still the old ones
 pub record IsCutTo {R : Type 0} (old : List R) (marks : List Bool) (i count : ℕ) (rows : List R) : Type 0 where

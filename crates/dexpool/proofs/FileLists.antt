@@ -5,8 +5,7 @@ use Rattle.dexpool.proofs.Bytes.{ushort_at_row}
 drop_shorts : (b : List ℕ) (o m k : ℕ) → k ≤ m → drop k (ushorts_at b o m) ≡ ushorts_at b (o + 2 * k) (m - k)
 drop_shorts b o m zero le = let e : o ≡ o + 2 * 0 = omega arith in let f : m ≡ m - 0 = omega arith in λ i. ushorts_at b (e i) (f i)
 drop_shorts b o zero (suc k) le = absurd (omega arith)
-drop_shorts b o (suc m) (suc k) le =
-    let e : o + 2 + 2 * k ≡ o + 2 * suc k = omega arith in let f : m - k ≡ suc m - suc k = omega arith in drop_shorts b (o + 2) m k (omega arith) ∙ (λ i. ushorts_at b (e i) (f i))
+drop_shorts b o (suc m) (suc k) le = let e : o + 2 + 2 * k ≡ o + 2 * suc k = omega arith in let f : m - k ≡ suc m - suc k = omega arith in drop_shorts b (o + 2) m k (omega arith) ∙ (λ i. ushorts_at b (e i) (f i))
 
 take_shorts : (b : List ℕ) (o m n : ℕ) → n ≤ m → take n (ushorts_at b o m) ≡ ushorts_at b o n
 take_shorts b o m zero le = refl
@@ -26,8 +25,7 @@ part_of_file b s h =
     let count = length-ushorts_at b 0 (length b / 2) in
     let e : 0 + 2 * s.start ≡ 2 * s.start = omega arith in
     ap (take (s.end - s.start)) (drop_shorts b 0 (length b / 2) s.start (omega (arith, h.ordered, h.within, count)))
-    ∙ take_shorts b (0 + 2 * s.start) (length b / 2 - s.start) (s.end - s.start) (omega (arith, h.ordered, h.within, count))
-    ∙ ap (λ (k : ℕ). ushorts_at b k (s.end - s.start)) e
+    ∙ take_shorts b (0 + 2 * s.start) (length b / 2 - s.start) (s.end - s.start) (omega (arith, h.ordered, h.within, count)) ∙ ap (λ (k : ℕ). ushorts_at b k (s.end - s.start)) e
 
 -- and the bytes that encode it
 pub bytes_of_part : (b part : List ℕ) (s : Span) → HasSpan (file_numbers b) s → part ≡ take (2 * (s.end - s.start)) (drop (2 * s.start) b) → ushorts_at part 0 (length part / 2) ≡ span_of (file_numbers b) s

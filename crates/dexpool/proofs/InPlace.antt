@@ -3,9 +3,7 @@ use Rattle.dexpool.proofs.Common.{◌≡◌, ℕ, ◌+◌, ◌<◌, List, length
 
 module _ {X : Type 0} (old xs : List X) (i : ℕ) (rest : drop i xs ≡ drop i old) where
   pub same_at : (d : X) → get_or xs i d ≡ get_or old i d
-  same_at d =
-      let z : i ≡ i + 0 = omega arith in
-      ap (λ k. get_or xs k d) z ∙ sym (get_or-drop i xs 0 d) ∙ ap (λ l. get_or l 0 d) rest ∙ get_or-drop i old 0 d ∙ ap (λ k. get_or old k d) (sym z)
+  same_at d = let z : i ≡ i + 0 = omega arith in ap (λ k. get_or xs k d) z ∙ sym (get_or-drop i xs 0 d) ∙ ap (λ l. get_or l 0 d) rest ∙ get_or-drop i old 0 d ∙ ap (λ k. get_or old k d) (sym z)
 
   pub rest_more : drop (i + 1) xs ≡ drop (i + 1) old
   rest_more = sym (drop-drop 1 i xs) ∙ ap (drop 1) rest ∙ drop-drop 1 i old

@@ -71,13 +71,12 @@ module _ (parts : List Mentions) (numberings : All IsNumbering parts) where
             → AreJoinedProtos parts texts types table.parameters.items table.rows.items images
         protos_joined joined images table j spans is =
             let ps = table.parameters.items in
-            let entries = table.rows.items in
             let u = union (λ (row : ProtoNumbers). row.return_type ∷ row.parameters) (proto_of_row texts types) (IsRowOf texts types) symbols.proto_cmp proto_total proto_exact rows_agree (λ (m : Mentions). m.protos) parts rows are_encoded joined images j in
             let w = joined_within (λ (row : ProtoNumbers). row.return_type ∷ row.parameters) (proto_of_row texts types) (IsRowOf texts types) symbols.proto_cmp proto_total proto_exact rows_agree (λ (m : Mentions). m.protos) parts rows are_encoded joined images j in
-            let parts_of = entries_of texts types ps entries spans (rw is w) in
+            let parts_of = entries_of texts types ps table.rows.items spans (rw is w) in
             record {
-              union = same_union (λ (m : Mentions). m.protos) symbols.proto_cmp parts (map (proto_of_row texts types) joined) (map (proto_of texts types ps) entries) images
-                  (ap (map (proto_of_row texts types)) (sym is) ∙ map_both (numbers_of ps) (proto_of_row texts types) (proto_of texts types ps) entries (λ k d lt. refl)) u;
+              union = same_union (λ (m : Mentions). m.protos) symbols.proto_cmp parts (map (proto_of_row texts types) joined) (map (proto_of texts types ps) table.rows.items) images
+                  (ap (map (proto_of_row texts types)) (sym is) ∙ map_both (numbers_of ps) (proto_of_row texts types) (proto_of texts types ps) table.rows.items (λ k d lt. refl)) u;
               within = parts_of.0;
               shorties = parts_of.1;
             }

@@ -29,13 +29,7 @@ some_same : (m n : ℕ) → Some m ≡ Some n → m ≡ n
 some_same m n e = cc
 
 is_at_later : {R : Type 0} (mark : Bool) (marks : List Bool) (row : R) (rows : List R) (i n m place : ℕ) → (mark ≡ true → m ≡ n + 1) → (mark ≡ false → m ≡ n) → IsKeptAt marks rows i m place → IsKeptAt (mark ∷ marks) (row ∷ rows) (suc i) n place
-is_at_later true marks row rows i n m place up same h = record {
-  among = suc h.among;
-  place_is = omega (arith, h.place_is, up refl);
-  marked = h.marked;
-  within = omega (arith, h.within);
-  same = h.same;
-}
+is_at_later true marks row rows i n m place up same h = record { among = suc h.among; place_is = omega (arith, h.place_is, up refl); marked = h.marked; within = omega (arith, h.within); same = h.same }
 is_at_later false marks row rows i n m place up same h = record { among = h.among; place_is = omega (arith, h.place_is, same refl); marked = h.marked; within = h.within; same = h.same }
 
 pub is_at : {R : Type 0} (marks : List Bool) (rows : List R) (i n place : ℕ) (o : Option ℕ) → length marks ≡ length rows → i < length marks → get_or (places n marks) i o ≡ Some place → IsKeptAt marks rows i n place

@@ -52,9 +52,7 @@ module _ (t : Tables) (ok : AreTables t) (marks : Marks) (count : AreMarksOf (sy
   protos_counted = length-map t.protos.items (proto_of t.strings.items t.types.items t.parameters)
 
   proto_within : (n : ℕ) → Contains proto_numbers n → n < length (symbols_in t).protos
-  proto_within n d =
-      let z = Contains-map_source (λ (m : MethodRow). m.proto) methods n d in
-      omega (arith, (All-contains (IsMethodRow t) methods z.0 are_methods z.1).proto_in, z.2, protos_counted)
+  proto_within n d = let z = Contains-map_source (λ (m : MethodRow). m.proto) methods n d in omega (arith, (All-contains (IsMethodRow t) methods z.0 are_methods z.1).proto_in, z.2, protos_counted)
 
   protos_grown : Same (kept c.protos.items (symbols_in t).protos) (kept marks.protos.items (symbols_in t).protos ++ map (λ (x : Method). x.proto) (kept marks.methods.items (symbols_in t).methods))
   protos_grown =
@@ -133,8 +131,7 @@ module _ (t : Tables) (ok : AreTables t) (marks : Marks) (count : AreMarksOf (sy
       map-append at (class_numbers ++ field_numbers) entry_numbers ∙ ap (λ l. l ++ map at entry_numbers) (map-append at class_numbers field_numbers) ∙ (λ i. (classes i ++ members i) ++ entries i)
 
   types_grown : Same (kept c.types.items (symbols_in t).types) (kept marks.types.items (symbols_in t).types ++ named_types)
-  types_grown =
-      kept_grown c.types.items marks.types.items type_numbers (symbols_in t).types named_types [] count.types_count (λ n d. let lt = type_within n d in omega (arith, lt, types_counted)) types_marked types_named
+  types_grown = kept_grown c.types.items marks.types.items type_numbers (symbols_in t).types named_types [] count.types_count (λ n d. let lt = type_within n d in omega (arith, lt, types_counted)) types_marked types_named
 
   -- ---- texts
 

@@ -94,8 +94,7 @@ module _ (t : Tables) (ok : AreTables t) (marks : Marks) (count : AreMarksOf (sy
 
     cut_protos_rise : rises (proto_cmp cut.parameters) cut.protos.items ≡ true
     cut_protos_rise =
-        rises-map (proto_cmp cut.parameters) (row_cmp proto_key) (numbers_of cut.parameters) (λ p. Unit {0}) (λ x y p q. refl) cut.protos.items (λ k d lt. tt)
-        ∙ subst (AreSorted proto_key) (sym is.protos_are)
+        rises-map (proto_cmp cut.parameters) (row_cmp proto_key) (numbers_of cut.parameters) (λ p. Unit {0}) (λ x y p q. refl) cut.protos.items (λ k d lt. tt) ∙ subst (AreSorted proto_key) (sym is.protos_are)
         (order.protos_stay (order.marked_among marks) (order.new_lower marks) (order.marked_rise marks) protos_stay t (kept marks.protos.items t.protos.items) protos_among
         (kept_rise (proto_cmp t.parameters) (proto_rows_total t.parameters) marks.protos.items t.protos.items ok.protos_rise))
 

@@ -1,15 +1,11 @@
 pub mod Common
 pub mod Bytes
-pub mod FieldRows
 pub mod FirstUnits
 pub mod Refusing
 pub mod Steps
 pub mod Spellings
 pub mod KindCounts
 pub mod TypeLists
-pub mod ProtoRows
-pub mod MethodRows
-pub mod AllPools
 pub mod Ranking
 pub mod Weighing
 pub mod KeptRows

@@ -11,9 +11,7 @@ some_or (Some j) h = refl
 module _ {X : Type 0} (R : X → X → Ordering) (o : IsTotalOrder R) (exact : IsAntisymmetric R) (of : Mentions → List X) where
   maps_somewhere : (ms : List Mentions) (m : Mentions) (images : List (Option ℕ)) → Contains ms m → MapsTo (of m) (in_order R (flat_map of ms)) images → (i : ℕ) → i < length (of m) → IsSome (image images i)
   maps_somewhere ms m images c l i lt =
-      let d = some (of m) i lt in
-      let x = get_or (of m) i d in
-      some_or (image images i) (λ e. l.none i d lt e (in_order-has R o exact (flat_map of ms) x (Contains-flat_map of ms m x c (Contains-get_or (of m) i d lt))))
+      let d = some (of m) i lt in let x = get_or (of m) i d in some_or (image images i) (λ e. l.none i d lt e (in_order-has R o exact (flat_map of ms) x (Contains-flat_map of ms m x c (Contains-get_or (of m) i d lt))))
 
 maps_all : (ms : List Mentions) (m : Mentions) (r : Maps) → Contains ms m → AllMapTo m (union_of ms) r → MapsAll m r
 maps_all ms m r c l kinds.Text i lt = maps_somewhere text_cmp text_total text_exact (λ n. n.texts) ms m r.texts c l.texts_mapped i lt

@@ -93,8 +93,7 @@ have_images strings types protos = record { strings = has_image strings; types =
 
 images_keep : {X : Type 0} (from to : List X) (images : List ℕ) → Moves from to images → Keeps (has_image images) from to images
 images_keep from to images m =
-    let there : (n : ℕ) → has_image images n ≡ true → n < length from = λ n h. omega (arith, ltb-true n (length images) h, m.count) in
-    record { there = there; same = λ n d h. m.same n d (there n h) }
+    let there : (n : ℕ) → has_image images n ≡ true → n < length from = λ n h. omega (arith, ltb-true n (length images) h, m.count) in record { there = there; same = λ n d h. m.same n d (there n h) }
 
 -- where there is an image for each number, all rows name numbers that have one
 module _ (t : Tables) (ok : AreTables t) (strings : List ℕ) (texts_count : length strings ≡ length t.strings.items) where

@@ -96,8 +96,7 @@ module _ (texts : List Text) (texts_rise : rises text_cmp texts ≡ true) where
     module _ (ps : List ℕ) (protos : List ProtoEntry) (protos_in : All (IsEntryWithin (length texts) (length types) ps) protos) (protos_rise : rises (proto_cmp ps) protos ≡ true) where
       -- numbers of protos
       pub protos_agree : (m n : ℕ) → m < length protos → n < length protos → nat_cmp m n ≡ symbols.proto_cmp (proto_of texts types ps (proto_at protos m)) (proto_of texts types ps (proto_at protos n))
-      protos_agree m n lt lt' =
-          places_agree (proto_cmp ps) (proto_rows_total ps) protos protos_rise m n _ _ lt lt' ∙ proto_rows_agree ps (proto_at protos m) (proto_at protos n) (protos_in m _ lt) (protos_in n _ lt')
+      protos_agree m n lt lt' = places_agree (proto_cmp ps) (proto_rows_total ps) protos protos_rise m n _ _ lt lt' ∙ proto_rows_agree ps (proto_at protos m) (proto_at protos n) (protos_in m _ lt) (protos_in n _ lt')
 
       -- rows of methods
       pub method_rows_agree : (m n : MethodRow) → IsMethodWithin (length texts) (length types) (length protos) m → IsMethodWithin (length texts) (length types) (length protos) n

@@ -63,8 +63,7 @@ all_seen f g Q xs ys e h k d lt = subst Q (get_or-map f xs k d (f d) lt) ((subst
 
 -- one more that is seen
 pub seen_more : {X Y Z : Type 0} (f : X → Z) (g : Y → Z) (xs zs : List X) (ys : List Y) (i : ℕ) (x : X) (d : Y) → i < length ys → map f xs ≡ map g (take i ys) → zs ≡ xs ++ x ∷ [] → f x ≡ g (get_or ys i d) → map f zs ≡ map g (take (i + 1) ys)
-seen_more f g xs zs ys i x d lt e more is =
-    ap (map f) more ∙ map-append f xs (x ∷ []) ∙ (λ k. e k ++ is k ∷ []) ∙ sym (map-append g (take i ys) (get_or ys i d ∷ [])) ∙ ap (map g) (sym (take_more ys i d lt))
+seen_more f g xs zs ys i x d lt e more is = ap (map f) more ∙ map-append f xs (x ∷ []) ∙ (λ k. e k ++ is k ∷ []) ∙ sym (map-append g (take i ys) (get_or ys i d ∷ [])) ∙ ap (map g) (sym (take_more ys i d lt))
 
 module _ {A B X Y : Type 0} (R : A → B → Type 0) (f : X → A) (g : Y → B) (xs : List X) where
   seen_within : (ys : List Y) (i : ℕ) → AllZip R (map f xs) (map g ys) → i < length xs → i < length ys

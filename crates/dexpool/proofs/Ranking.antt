@@ -7,8 +7,7 @@ use Rattle.std.proofs.Math.Seq.{drop-cons}
 module _ {X : Type 0} (R : X → X → Ordering) (o : IsTotalOrder R) (s : X) where
   -- of a rising list, those that are less come first
   pub lesser_first : (xs : List X) (d : X) → rises R xs ≡ true → ComeFirst (λ i. is_lt (R (get_or xs i d) s)) (length xs)
-  lesser_first xs d rising i j before within less =
-      ap is_lt (o.trans (get_or xs i d) (get_or xs j d) s (Rises-places R o xs i j d (Rises-from_rises R o xs rising) before within) (less_is (R (get_or xs j d) s) less))
+  lesser_first xs d rising i j before within less = ap is_lt (o.trans (get_or xs i d) (get_or xs j d) s (Rises-places R o xs i j d (Rises-from_rises R o xs rising) before within) (less_is (R (get_or xs j d) s) less))
 
   -- where the first k are less and no others, k is the rank
   pub rank_is : (xs : List X) (d : X) (k : ℕ) → k ≤ length xs → PassBelow (λ i. is_lt (R (get_or xs i d) s)) k (length xs) → k ≡ rank R s xs

@@ -124,8 +124,7 @@ module _ (t : Tables) (ok : AreTables t) (texts : List Text) (texts_rise : rises
 new_rise : (marks : List Bool) → RisesOn (is_marked marks) (slice_index (new_numbers marks))
 new_rise marks m n p q before =
     let x = marked_has marks m 0 false None (mark_within marks m p) p in
-    let y = marked_has marks n 0 false None (mark_within marks n q) q in
-    omega (arith, new_number marks m x.0 p x.1, new_number marks n y.0 q y.1, places_keep marks m n x.0 y.0 before x.1 y.1)
+    let y = marked_has marks n 0 false None (mark_within marks n q) q in omega (arith, new_number marks m x.0 p x.1, new_number marks n y.0 q y.1, places_keep marks m n x.0 y.0 before x.1 y.1)
 
 abbrev pub marked_among : Marks → Among
 marked_among marks = record { strings = is_marked marks.strings.items; types = is_marked marks.types.items; protos = is_marked marks.protos.items }

@@ -18,19 +18,14 @@ pub place_in : (range part place : Span) → Covers range part → part.start < 
 place_in range part place covers some start end =
     let c = covers some in
     record {
-      within = λ ps r h. record {
-        ordered = omega (arith, c.0, c.1, some, start, end);
-        within = omega (arith, c.0, c.1, some, start, end, r.ordered, r.within, length-take (range.end - range.start) (drop range.start ps), length-drop range.start ps);
-      };
+      within = λ ps r h. record { ordered = omega (arith, c.0, c.1, some, start, end); within = omega (arith, c.0, c.1, some, start, end, r.ordered, r.within, length-take (range.end - range.start) (drop range.start ps), length-drop range.start ps) };
       same = λ ps r h.
           let rest = drop range.start ps in
           let size : range.end - range.start ≡ place.start + (range.end - part.start) = omega (arith, c.0, c.1, some, start) in
           let at : range.start + place.start ≡ part.start = omega (arith, c.0, start) in
           let long : place.end - place.start ≡ part.end - part.start = omega (arith, c.0, c.1, some, start, end) in
-          ap (λ n. take (place.end - place.start) (drop place.start (take n rest))) size
-          ∙ ap (take (place.end - place.start)) (drop-take place.start (range.end - part.start) rest)
-          ∙ take-take (place.end - place.start) (range.end - part.start) (drop place.start rest) (omega (arith, c.0, c.1, some, start, end))
-          ∙ ap (λ n. take n (drop place.start rest)) long
+          ap (λ n. take (place.end - place.start) (drop place.start (take n rest))) size ∙ ap (take (place.end - place.start)) (drop-take place.start (range.end - part.start) rest)
+          ∙ take-take (place.end - place.start) (range.end - part.start) (drop place.start rest) (omega (arith, c.0, c.1, some, start, end)) ∙ ap (λ n. take n (drop place.start rest)) long
           ∙ ap (take (part.end - part.start)) (drop-drop place.start range.start ps ∙ ap (λ n. drop n ps) at);
     }
 
@@ -44,9 +39,7 @@ module _ (strings types ps moved : List ℕ) (range : Span) (in_range : HasSpan 
   module _ (protos rows more : List ProtoEntry) (i : ℕ) (d row : ProtoEntry) (lt : i < length protos) (h : HasSpan ps (get_or protos i d).parameters)
       (shorty : row.shorty ≡ slice_index strings (get_or protos i d).shorty) (back : row.return_type ≡ slice_index types (get_or protos i d).return_type) (place : IsPlaceWithin range (get_or protos i d).parameters row.parameters) (pushed : more ≡ rows ++ row ∷ []) where
     row_span : HasSpan moved row.parameters
-    row_span =
-        let w = place.within ps in_range h in
-        record { ordered = w.ordered; within = omega (arith, w.within, ap (λ (l : List ℕ). length l) images, length-map (span_of ps range) (slice_index types)) }
+    row_span = let w = place.within ps in_range h in record { ordered = w.ordered; within = omega (arith, w.within, ap (λ (l : List ℕ). length l) images, length-map (span_of ps range) (slice_index types)) }
 
     row_moved : numbers_of moved row ≡ moved_proto strings types ps (get_or protos i d)
     row_moved =
@@ -59,5 +52,4 @@ module _ (strings types ps moved : List ℕ) (range : Span) (in_range : HasSpan 
 
     pub rows_placed : map (numbers_of moved) rows ≡ map (moved_proto strings types ps) (take i protos) → map (numbers_of moved) more ≡ map (moved_proto strings types ps) (take (i + 1) protos)
     rows_placed all =
-        ap (map (numbers_of moved)) pushed ∙ map-append (numbers_of moved) rows (row ∷ []) ∙ (λ k. all k ++ row_moved k ∷ [])
-        ∙ sym (map_more (moved_proto strings types ps) protos i d lt)
+        ap (map (numbers_of moved)) pushed ∙ map-append (numbers_of moved) rows (row ∷ []) ∙ (λ k. all k ++ row_moved k ∷ []) ∙ sym (map_more (moved_proto strings types ps) protos i d lt)

@@ -6,10 +6,7 @@ use Rattle.dexpool.proofs.TypeLists.{listed_is}
 -- a list that was checked, whose shorty is the same
 pub known_checked : (b : List ℕ) (texts : List Text) (types : List ℕ) (o : ℕ) (known j : CheckedList) → IsChecked b texts types o known → IsPlaced b o j.span → known.shorty ≡ j.shorty → known.letter ≡ j.letter → IsChecked b texts types o j
 known_checked b texts types o known j h placed number letter =
-    record {
-      listed = record { parameters = h.listed.parameters; span = placed.span; is = placed.is };
-      shorty = ap (text_of texts) (sym number) ∙ h.shorty ∙ (λ i. letter i ∷ letters_of texts types ((h.listed.is ∙ sym placed.is) i));
-    }
+    record { listed = record { parameters = h.listed.parameters; span = placed.span; is = placed.is }; shorty = ap (text_of texts) (sym number) ∙ h.shorty ∙ (λ i. letter i ∷ letters_of texts types ((h.listed.is ∙ sym placed.is) i)) }
 
 listed_zip : (b : List ℕ) (o : ℕ) (ts : List Text) → OrNone TypeListAt [] b o ts → AllZip (TypeRow b) (listed b o) ts
 listed_zip b o ts (inl none) = subst (AllZip (TypeRow b) (listed b o)) (sym none.1) (subst (λ (n : ℕ). AllZip (TypeRow b) (listed b n) []) (sym none.0) tt)
@@ -44,20 +41,12 @@ module _ (b : List ℕ) (texts : List Text) (types letters : List ℕ) (names : 
 
   spelled_letters : (ns : List ℕ) → NoVoid letters ns → letters_in letters ns ≡ letters_of texts types ns
   spelled_letters [] h = refl
-  spelled_letters (n ∷ ns) h =
-      λ i. (letter_is n (names_type n (All-head (λ m. letter_in letters m ≢ 0x56) n ns h))) i ∷ (spelled_letters ns (All-tail (λ m. letter_in letters m ≢ 0x56) n ns h)) i
+  spelled_letters (n ∷ ns) h = λ i. (letter_is n (names_type n (All-head (λ m. letter_in letters m ≢ 0x56) n ns h))) i ∷ (spelled_letters ns (All-tail (λ m. letter_in letters m ≢ 0x56) n ns h)) i
 
   list_encoded : (o : ℕ) (s : Span) → IsPlaced b o s → NoVoid letters (listed b o) → OrNone TypeListAt [] b o (map (type_of texts types) (listed b o))
   list_encoded o s placed h = elim (cases_eq o 0) [
     | inl none ↦ inl (none, ap (λ (n : ℕ). map (type_of texts types) (listed b n)) none)
-    | inr some ↦ inr (
-      some,
-      record {
-        in_data = (placed.room some).in_data;
-        aligned = (placed.room some).aligned;
-        types = subst (λ (l : List ℕ). AllZip (TypeRow b) l (map (type_of texts types) (listed b o))) (listed_is b o some) (spelled_rows (listed b o) h);
-      },
-    )
+    | inr some ↦ inr (some, record { in_data = (placed.room some).in_data; aligned = (placed.room some).aligned; types = subst (λ (l : List ℕ). AllZip (TypeRow b) l (map (type_of texts types) (listed b o))) (listed_is b o some) (spelled_rows (listed b o) h) })
   ]
 
   -- a list whose letters are spelled

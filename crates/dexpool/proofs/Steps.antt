@@ -59,9 +59,8 @@ decided {X} {Y} Row b Item key key_of same item xs i x h is =
       },
       λ above holds.
           let last = last_is R xs x above in
-          let j = last.0 in
-          last_not R xs j x x last.1 above
-          (ap (λ (l : List ℕ). key_cmp l (key_of x)) (sym (same j (get_or xs j x) (h.each j x (omega (arith, last.1, h.count))))) ∙ ap (key_cmp (key b j)) (sym (same i x is)) ∙ (holds.follows j (omega (arith, last.1, h.count)))),
+          last_not R xs last.0 x x last.1 above
+          (ap (λ (l : List ℕ). key_cmp l (key_of x)) (sym (same last.0 (get_or xs last.0 x) (h.each last.0 x (omega (arith, last.1, h.count))))) ∙ ap (key_cmp (key b last.0)) (sym (same i x is)) ∙ (holds.follows last.0 (omega (arith, last.1, h.count)))),
     )
 
 -- ---- texts
@@ -93,11 +92,7 @@ pub text_row : (b : List ℕ) (texts : List Text) (n m : ℕ) → AreTexts b tex
 text_row b texts n m strings lt e = subst (λ k. StringRow b k (text_of texts n)) (sym e) (strings.each n [] (omega (arith, strings.count, lt)))
 
 pub type_encoded : (b : List ℕ) (texts : List Text) (i n : ℕ) (t : Text) → AreTexts b texts → i < table_size b TypeIds → n ≡ uint_at b (row_at b TypeIds i) → n < length texts → t ≡ get_or texts n t → IsDescriptor t → TypeRowAt texts b i n
-type_encoded b texts i n t strings row index lt at is = record {
-  index = sym index;
-  is = record { row = row; text = text_row b texts n _ strings lt (sym index); descriptor = subst IsDescriptor (at ∙ get_or_default texts n t [] lt) is };
-}
+type_encoded b texts i n t strings row index lt at is = record { index = sym index; is = record { row = row; text = text_row b texts n _ strings lt (sym index); descriptor = subst IsDescriptor (at ∙ get_or_default texts n t [] lt) is } }
 
 pub no_descriptor : (b : List ℕ) (texts : List Text) (i n : ℕ) (t s : Text) → AreTexts b texts → n ≡ uint_at b (row_at b TypeIds i) → n < length texts → t ≡ get_or texts n t → (IsDescriptor t → ⊥) → TypeRow b i s → ⊥
-no_descriptor b texts i n t s strings index lt at not h =
-    not (subst IsDescriptor (one_string b _ _ _ h.text (text_row b texts n _ strings lt (sym index)) ∙ sym (at ∙ get_or_default texts n t [] lt)) h.descriptor)
+no_descriptor b texts i n t s strings index lt at not h = not (subst IsDescriptor (one_string b _ _ _ h.text (text_row b texts n _ strings lt (sym index)) ∙ sym (at ∙ get_or_default texts n t [] lt)) h.descriptor)

@@ -17,8 +17,7 @@ span_is new old l s grown start end =
 
 module _ (old new more : List ℕ) (grown : new ≡ old ++ more) where
   kept_row : (p : ProtoEntry) → HasSpan old p.parameters → numbers_of new p ≡ numbers_of old p
-  kept_row p h =
-      λ i. record { shorty = p.shorty; return_type = p.return_type; parameters = (ap (λ (ps : List ℕ). span_of ps p.parameters) grown ∙ span_grown old more p.parameters h) i }
+  kept_row p h = λ i. record { shorty = p.shorty; return_type = p.return_type; parameters = (ap (λ (ps : List ℕ). span_of ps p.parameters) grown ∙ span_grown old more p.parameters h) i }
 
   -- earlier rows stay
   kept_rows : (ps : List ProtoEntry) → All (λ p. HasSpan old p.parameters) ps → map (numbers_of new) ps ≡ map (numbers_of old) ps

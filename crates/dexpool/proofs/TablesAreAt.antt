@@ -8,12 +8,7 @@ module _ (t : Tables) where
   -- ---- the numbers of rows in range
 
   pub entry_numbers : (p : ProtoEntry) → IsProtoEntry t p → IsEntryWithin (length t.strings.items) (length t.types.items) t.parameters p
-  entry_numbers p h = record {
-    shorty_in = h.shorty_in;
-    return_in = h.return_in;
-    span = h.span;
-    parameters_in = All-weaker (IsTypeOf IsValueType t) (λ k. k < length t.types.items) (λ n k. k.type_in) (span_of t.parameters p.parameters) h.parameters_in;
-  }
+  entry_numbers p h = record { shorty_in = h.shorty_in; return_in = h.return_in; span = h.span; parameters_in = All-weaker (IsTypeOf IsValueType t) (λ k. k < length t.types.items) (λ n k. k.type_in) (span_of t.parameters p.parameters) h.parameters_in }
 
   pub field_numbers : (f : FieldRow) → IsFieldRow t f → IsFieldWithin (length t.strings.items) (length t.types.items) f
   field_numbers f h = record { class_in = h.class_is.type_in; name_in = h.name_in; type_in = h.type_is.type_in }
@@ -65,20 +60,17 @@ module _ (t : Tables) where
     -- rows of methods
     pub method_rows_agree : (m n : MethodRow) → IsMethodRow t m → IsMethodRow t n → method_cmp m n
         ≡ symbols.method_cmp (method_of t.strings.items t.types.items t.parameters t.protos.items m) (method_of t.strings.items t.types.items t.parameters t.protos.items n)
-    method_rows_agree m n k l =
-        order.method_rows_agree t.strings.items h.texts_rise t.types.items types_in h.types_rise t.parameters t.protos.items protos_in h.protos_rise m n (method_numbers m k) (method_numbers n l)
+    method_rows_agree m n k l = order.method_rows_agree t.strings.items h.texts_rise t.types.items types_in h.types_rise t.parameters t.protos.items protos_in h.protos_rise m n (method_numbers m k) (method_numbers n l)
 
     -- the five lists of symbols rise
     pub are_rising : AreRising (symbols_in t)
     are_rising =
-        let texts = t.strings.items in
-        let types = t.types.items in
         record {
           texts_rise = h.texts_rise;
-          types_rise = sym (order.types_rise_equally texts h.texts_rise types types_in) ∙ h.types_rise;
-          protos_rise = sym (order.protos_rise_equally texts h.texts_rise types types_in h.types_rise t.parameters t.protos.items protos_in) ∙ h.protos_rise;
-          fields_rise = sym (order.fields_rise_equally texts h.texts_rise types types_in h.types_rise t.fields.items fields_in) ∙ h.fields_rise;
-          methods_rise = sym (order.methods_rise_equally texts h.texts_rise types types_in h.types_rise t.parameters t.protos.items protos_in h.protos_rise t.methods.items methods_in) ∙ h.methods_rise;
+          types_rise = sym (order.types_rise_equally t.strings.items h.texts_rise t.types.items types_in) ∙ h.types_rise;
+          protos_rise = sym (order.protos_rise_equally t.strings.items h.texts_rise t.types.items types_in h.types_rise t.parameters t.protos.items protos_in) ∙ h.protos_rise;
+          fields_rise = sym (order.fields_rise_equally t.strings.items h.texts_rise t.types.items types_in h.types_rise t.fields.items fields_in) ∙ h.fields_rise;
+          methods_rise = sym (order.methods_rise_equally t.strings.items h.texts_rise t.types.items types_in h.types_rise t.parameters t.protos.items protos_in h.protos_rise t.methods.items methods_in) ∙ h.methods_rise;
         }
 
     -- ---- the parts of symbols are there
@@ -120,10 +112,7 @@ module _ (t : Tables) where
     proto_formed p k =
         let type = type_of t.strings.items t.types.items in
         let ns = span_of t.parameters p.parameters in
-        record {
-          return_type = descriptor_of p.return_type k.return_in;
-          parameters = All-map IsValueType type ns (All-weaker (IsTypeOf IsValueType t) (λ n. IsValueType (type n)) (λ n i. i.is) ns k.parameters_in);
-        }
+        record { return_type = descriptor_of p.return_type k.return_in; parameters = All-map IsValueType type ns (All-weaker (IsTypeOf IsValueType t) (λ n. IsValueType (type n)) (λ n i. i.is) ns k.parameters_in) }
 
     field_formed : (f : FieldRow) → IsFieldRow t f → IsField (field_of t.strings.items t.types.items f)
     field_formed f k = record { class = k.class_is.is; name = k.name_is; type = k.type_is.is }
@@ -134,22 +123,18 @@ module _ (t : Tables) where
     -- ---- what the tables denote is a numbering
     pub are_numbering : IsNumbering (symbols_in t)
     are_numbering =
-        let texts = t.strings.items in
-        let types = t.types.items in
-        let ps = t.parameters in
-        let protos = t.protos.items in
         record {
           rising = are_rising;
-          types_formed = All-map IsDescriptor (text_of texts) types (All-weaker (IsTypeNumber t) (λ n. IsDescriptor (text_of texts n)) (λ n k. k.descriptor) types h.types_at_ranks);
-          protos_formed = All-map IsProto (proto_of texts types ps) protos (All-weaker (IsProtoEntry t) (λ p. IsProto (proto_of texts types ps p)) proto_formed protos h.protos_at_ranks);
-          fields_formed = All-map IsField (field_of texts types) t.fields.items (All-weaker (IsFieldRow t) (λ f. IsField (field_of texts types f)) field_formed t.fields.items h.fields_at_ranks);
-          methods_formed = All-map IsMethod (method_of texts types ps protos) t.methods.items (All-weaker (IsMethodRow t) (λ m. IsMethod (method_of texts types ps protos m)) method_formed t.methods.items h.methods_at_ranks);
-          types_named = λ x c. let s = Contains-map_source (text_of texts) types x c in
-              subst (Contains texts) s.2 (text_there s.0 (All-contains (IsTypeNumber t) types s.0 h.types_at_ranks s.1).text_in);
-          protos_named = All-map (HasProtoParts (symbols_in t)) (proto_of texts types ps) protos (All-weaker (IsProtoEntry t) (λ p. HasProtoParts (symbols_in t) (proto_of texts types ps p)) proto_parts protos h.protos_at_ranks);
-          fields_named = All-map (HasFieldParts (symbols_in t)) (field_of texts types) t.fields.items (All-weaker (IsFieldRow t) (λ f. HasFieldParts (symbols_in t) (field_of texts types f)) field_parts t.fields.items h.fields_at_ranks);
-          methods_named = All-map (HasMethodParts (symbols_in t)) (method_of texts types ps protos) t.methods.items
-              (All-weaker (IsMethodRow t) (λ m. HasMethodParts (symbols_in t) (method_of texts types ps protos m)) method_parts t.methods.items h.methods_at_ranks);
+          types_formed = All-map IsDescriptor (text_of t.strings.items) t.types.items (All-weaker (IsTypeNumber t) (λ n. IsDescriptor (text_of t.strings.items n)) (λ n k. k.descriptor) t.types.items h.types_at_ranks);
+          protos_formed = All-map IsProto (proto_of t.strings.items t.types.items t.parameters) t.protos.items (All-weaker (IsProtoEntry t) (λ p. IsProto (proto_of t.strings.items t.types.items t.parameters p)) proto_formed t.protos.items h.protos_at_ranks);
+          fields_formed = All-map IsField (field_of t.strings.items t.types.items) t.fields.items (All-weaker (IsFieldRow t) (λ f. IsField (field_of t.strings.items t.types.items f)) field_formed t.fields.items h.fields_at_ranks);
+          methods_formed = All-map IsMethod (method_of t.strings.items t.types.items t.parameters t.protos.items) t.methods.items (All-weaker (IsMethodRow t) (λ m. IsMethod (method_of t.strings.items t.types.items t.parameters t.protos.items m)) method_formed t.methods.items h.methods_at_ranks);
+          types_named = λ x c. let s = Contains-map_source (text_of t.strings.items) t.types.items x c in
+              subst (Contains t.strings.items) s.2 (text_there s.0 (All-contains (IsTypeNumber t) t.types.items s.0 h.types_at_ranks s.1).text_in);
+          protos_named = All-map (HasProtoParts (symbols_in t)) (proto_of t.strings.items t.types.items t.parameters) t.protos.items (All-weaker (IsProtoEntry t) (λ p. HasProtoParts (symbols_in t) (proto_of t.strings.items t.types.items t.parameters p)) proto_parts t.protos.items h.protos_at_ranks);
+          fields_named = All-map (HasFieldParts (symbols_in t)) (field_of t.strings.items t.types.items) t.fields.items (All-weaker (IsFieldRow t) (λ f. HasFieldParts (symbols_in t) (field_of t.strings.items t.types.items f)) field_parts t.fields.items h.fields_at_ranks);
+          methods_named = All-map (HasMethodParts (symbols_in t)) (method_of t.strings.items t.types.items t.parameters t.protos.items) t.methods.items
+              (All-weaker (IsMethodRow t) (λ m. HasMethodParts (symbols_in t) (method_of t.strings.items t.types.items t.parameters t.protos.items m)) method_parts t.methods.items h.methods_at_ranks);
         }
 
 -- rows in order and in range, of symbols that are well formed, make tables

@@ -3,9 +3,7 @@ use Rattle.dexpool.proofs.Common.{◌≡◌, ◌≢◌, ℕ, zero, suc, ◌+◌,
 
 ushorts_more : (b : List ℕ) (o k : ℕ) → ushorts_at b o (suc k) ≡ ushorts_at b o k ++ ushort_at b (o + 2 * k) ∷ []
 ushorts_more b o zero = let e : o ≡ o + 2 * 0 = omega arith in ap (λ (m : ℕ). ushort_at b m ∷ []) e
-ushorts_more b o (suc k) =
-    let e : o + 2 + 2 * k ≡ o + 2 * suc k = omega arith in
-    ap (λ (l : List ℕ). ushort_at b o ∷ l) (ushorts_more b (o + 2) k ∙ ap (λ (m : ℕ). ushorts_at b (o + 2) k ++ ushort_at b m ∷ []) e)
+ushorts_more b o (suc k) = let e : o + 2 + 2 * k ≡ o + 2 * suc k = omega arith in ap (λ (l : List ℕ). ushort_at b o ∷ l) (ushorts_more b (o + 2) k ∙ ap (λ (m : ℕ). ushorts_at b (o + 2) k ++ ushort_at b m ∷ []) e)
 
 -- one index more
 pub appended_more : (old xs ys b : List ℕ) (o k n : ℕ) → xs ≡ old ++ ushorts_at b o k → ys ≡ xs ++ n ∷ [] → n ≡ ushort_at b (o + 2 * k) → ys ≡ old ++ ushorts_at b o (k + 1)

@@ -60,9 +60,7 @@ one_each f (x ∷ xs) = ap (λ ys. f x ∷ ys) (one_each f xs)
 -- marks on each symbol that was visited
 pub all_marked : (us : List Use) (a b : Marks) → All (HasMark a) us → FoldsTo (λ p u q. HasMark p u → AreMarkedToo (u ∷ []) p q) a us b → AreMarkedToo us a b
 all_marked [] a b all h = subst (λ m. AreMarkedToo [] a m) h (none_marked a)
-all_marked (u ∷ us) a b all h =
-    let first = h.1 (All-head (HasMark a) u us all) in
-    marked_both (u ∷ []) us a h.0 b first (all_marked us h.0 b (still_all (u ∷ []) us a h.0 first (All-tail (HasMark a) u us all)) h.2)
+all_marked (u ∷ us) a b all h = let first = h.1 (All-head (HasMark a) u us all) in marked_both (u ∷ []) us a h.0 b first (all_marked us h.0 b (still_all (u ∷ []) us a h.0 first (All-tail (HasMark a) u us all)) h.2)
 
 -- whether each number that was visited has an image
 pub all_fit : (us : List Use) (a b : Fits) → FoldsTo (λ p u q. (q.remap.now ≡ p.remap.now) × (IsTrue q.fit ↔ IsTrue p.fit × IsMapped p.remap.now u.kind u.number)) a us b → IsTrue a.fit → IsTrue b.fit ↔ All (MapsUse a.remap.now) us
@@ -71,8 +69,7 @@ all_fit us a b h start = let both = all_fit_from us a b h in ((λ t. (both.0 t).
     all_fit_from : (us : List Use) (a b : Fits) → FoldsTo (λ p u q. (q.remap.now ≡ p.remap.now) × (IsTrue q.fit ↔ IsTrue p.fit × IsMapped p.remap.now u.kind u.number)) a us b → IsTrue b.fit ↔ IsTrue a.fit × All (MapsUse a.remap.now) us
     all_fit_from [] a b h = ((λ t. (subst (λ f. IsTrue f.fit) (sym h) t, All-nil (MapsUse a.remap.now))), (λ t. subst (λ f. IsTrue f.fit) h t.0))
     all_fit_from (u ∷ us) a b h =
-        let step = h.1 in
         let rest = all_fit_from us h.0 b h.2 in (
-          (λ t. let more = rest.0 t in let here = step.1.0 more.0 in (here.0, All-cons (MapsUse a.remap.now) u us here.1 (subst (λ r. All (MapsUse r) us) step.0 more.1))),
-          (λ t. rest.1 (step.1.1 (t.0, All-head (MapsUse a.remap.now) u us t.1), subst (λ r. All (MapsUse r) us) (sym step.0) (All-tail (MapsUse a.remap.now) u us t.1))),
+          (λ t. let more = rest.0 t in let here = h.1.1.0 more.0 in (here.0, All-cons (MapsUse a.remap.now) u us here.1 (subst (λ r. All (MapsUse r) us) h.1.0 more.1))),
+          (λ t. rest.1 (h.1.1.1 (t.0, All-head (MapsUse a.remap.now) u us t.1), subst (λ r. All (MapsUse r) us) (sym h.1.0) (All-tail (MapsUse a.remap.now) u us t.1))),
         )

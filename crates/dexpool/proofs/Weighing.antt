@@ -5,8 +5,7 @@ use Rattle.std.proofs.lemmas.List.Sums.{sum_by-cons}
 -- a sum over mapped members
 pub sum_by-mapped : {X Y : Type 0} (f : Y → ℕ) (g : X → Y) (h : X → ℕ) (xs : List X) → All (λ x. f (g x) ≡ h x) xs → sum_by f (map g xs) ≡ sum_by h xs
 sum_by-mapped f g h [] all = refl
-sum_by-mapped f g h (x ∷ xs) all =
-    omega (arith, sum_by-cons f (g x) (map g xs), sum_by-cons h x xs, All-head (λ x. f (g x) ≡ h x) x xs all, sum_by-mapped f g h xs (All-tail (λ x. f (g x) ≡ h x) x xs all))
+sum_by-mapped f g h (x ∷ xs) all = omega (arith, sum_by-cons f (g x) (map g xs), sum_by-cons h x xs, All-head (λ x. f (g x) ≡ h x) x xs all, sum_by-mapped f g h xs (All-tail (λ x. f (g x) ≡ h x) x xs all))
 
 -- a part of a list is as long as its ends say
 pub length-span : (ns : List ℕ) (p : ProtoEntry) → HasSpan ns p.parameters → length (span_of ns p.parameters) ≡ p.parameters.end - p.parameters.start
@@ -24,10 +23,4 @@ tables_weight t h =
     let are_encoded = proto_of t.strings.items t.types.items t.parameters in
     let protos : sum_by proto_weight (map are_encoded t.protos.items) ≡ sum_by weighs t.protos.items =
     sum_by-mapped proto_weight are_encoded weighs t.protos.items (All-weaker (IsProtoEntry t) (λ p. proto_weight (are_encoded p) ≡ weighs p) (λ p e. entry_weight t.strings.items t.types.items t.parameters p e.span) t.protos.items h.protos_at_ranks) in
-    omega (
-      arith,
-      protos,
-      length-map t.types.items (text_of t.strings.items),
-      length-map t.fields.items (field_of t.strings.items t.types.items),
-      length-map t.methods.items (method_of t.strings.items t.types.items t.parameters t.protos.items),
-    )
+    omega (arith, protos, length-map t.types.items (text_of t.strings.items), length-map t.fields.items (field_of t.strings.items t.types.items), length-map t.methods.items (method_of t.strings.items t.types.items t.parameters t.protos.items))

@@ -80,6 +80,7 @@ impl Images {
     }
 
     /// The images as they are stored: 2^32 - 1 for a number without one.
+    #[tactic(auto, using(crate::proofs::StoredImages::all_stored))]
     pub(crate) fn numbers(&self) -> &[u32]
         ensures { result.now ≡ map number_or_none self.now }
     {

@@ -105,6 +105,7 @@ impl<'a> Numbering<'a> {
     }
 
     /// Does nothing: its clause states what holds of every numbering.
+    #[tactic(auto, using(crate::proofs::TablesAreAt::are_numbering))]
     pub fn is_numbering(&self)
         ensures { IsNumbering self.now }
     {

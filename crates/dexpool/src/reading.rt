@@ -69,6 +69,7 @@ pub(crate) trait TableReader {
 }
 
 // Returns whether the row is greater than the last one, if there is one.
+#[tactic(auto, using(crate::proofs::Steps::above_is))]
 fn is_above<R: TableReader>(reader: &R, rows: &[R::Row], row: &R::Row) -> bool
     requires reader { R.can_read reader.now }
     requires rows { (k : ℕ) (d : R.Row) → k < length rows.now → R.is_row reader.now (R.file reader.now) k (slice_index_or rows.now k d) }

@@ -53,6 +53,7 @@ pub(crate) fn covering(protos: &[ProtoEntry]) -> Span
 }
 
 // The place of a part in a list that has the numbers of `range` only, which covers the part.
+#[tactic(auto, using(crate::proofs::SharedLists::place_in))]
 fn place_within(range: Span, part: Span) -> Span
     requires { Covers range part }
     ensures { IsPlaceWithin range part result }

@@ -24,6 +24,7 @@ fn letter_at(names: &Names<'_, '_>, i: usize) -> u16
 }
 
 // The byte that spells the letter of the type of a row.
+#[tactic(auto, using(crate::proofs::FirstUnits::letter_ascii))]
 fn byte_at(names: &Names<'_, '_>, i: usize) -> u8
     requires names { AreNames names.now.frame.now names.now.strings.now names.now.types.now }
     requires row { i < length names.now.types.now }

@@ -67,6 +67,7 @@ impl Visitor for Marks {
 /// Marks each symbol that occurs in the item.
 ///
 /// Condition: there is a mark for each.
+#[tactic(auto, using(crate::proofs::Visits::all_marked))]
 pub fn mark<T: Symbols>(item: &T, marks: &mut Marks)
     requires { All (HasMark marks.old) (T.uses item.now) }
     ensures { AreMarkedToo (T.uses item.now) marks.old marks.new }

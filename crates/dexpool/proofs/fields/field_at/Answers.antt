@@ -1,5 +1,5 @@
 use Rattle.dexpool.proofs.Common.{subst, false≢true, StringRow, TypeRow}
-use Rattle.dexpool.proofs.FieldRows.{formed_field}
+use Rattle.dexpool.proofs.ReadTables.{formed_field}
 use Rattle.dexpool.proofs.fields.field_at.Goals as goal
 
 pub returns-in_err-class : goal.returns-in_err-class

@@ -4,11 +4,9 @@ use Rattle.dexpool.proofs.fields.field_numbers.Goals as goal
 
 pub returns : goal.returns
 returns c =
-    let b = c.args.frame.now in
-    let at = row_at b FieldIds c.args.i in
-    let row = c.row-row.result.now in
+    let at = row_at c.args.frame.now FieldIds c.args.i in
     record {
-      class = sym (c.from.ensures ∙ c.u16_at.ensures ∙ ushort_at_row b row at 8 0 at c.row-row.ensures.bytes (omega arith) (omega arith));
-      type = sym (c.from-2.ensures ∙ c.u16_at-2.ensures ∙ ushort_at_row b row at 8 2 _ c.row-row.ensures.bytes (omega arith) refl);
-      name = sym (c.u32_at.ensures ∙ uint_at_row b row at 8 4 _ c.row-row.ensures.bytes (omega arith) refl);
+      class = sym (c.from.ensures ∙ c.u16_at.ensures ∙ ushort_at_row c.args.frame.now c.row-row.result.now at 8 0 at c.row-row.ensures.bytes (omega arith) (omega arith));
+      type = sym (c.from-2.ensures ∙ c.u16_at-2.ensures ∙ ushort_at_row c.args.frame.now c.row-row.result.now at 8 2 _ c.row-row.ensures.bytes (omega arith) refl);
+      name = sym (c.u32_at.ensures ∙ uint_at_row c.args.frame.now c.row-row.result.now at 8 4 _ c.row-row.ensures.bytes (omega arith) refl);
     }

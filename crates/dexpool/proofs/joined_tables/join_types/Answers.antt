@@ -34,8 +34,7 @@ join_rows-requires c = rw c.deref-2.ensures.value c.loop-i.invariant.sorted
 
 pub returns : goal.returns
 returns c =
-    let texts = c.args.strings.now.rows.items in
-    let are_encoded = zip_all (λ (part : Mentions) xs. Denote (λ (row : TypeRow). text_of texts row.descriptor) (λ (row : TypeRow). row.descriptor < length texts) part.types xs) (λ part. part.now) (λ xs. xs.items)
+    let are_encoded = zip_all (λ (part : Mentions) xs. Denote (λ (row : TypeRow). text_of c.args.strings.now.rows.items row.descriptor) (λ (row : TypeRow). row.descriptor < length c.args.strings.now.rows.items) part.types xs) (λ part. part.now) (λ xs. xs.items)
     c.args.parts.now c.loop-i.rows.items c.deref-2.result.now c.loop-i.i c.loop-i-test.false c.deref-2.ensures.value c.loop-i.invariant.are_encoded in
-    types_joined (map (λ part. part.now) c.args.parts.now) c.requires.numberings texts (map (λ image. image.items) c.args.strings.now.images.items) c.requires.strings (map (λ rows. rows.items) c.deref-2.result.now) are_encoded
+    types_joined (map (λ part. part.now) c.args.parts.now) c.requires.numberings c.args.strings.now.rows.items (map (λ image. image.items) c.args.strings.now.images.items) c.requires.strings (map (λ rows. rows.items) c.deref-2.result.now) are_encoded
     c.in_ok-joined.joined.rows.items (map (λ image. image.items) c.in_ok-joined.joined.images.items) c.in_ok-descriptors.field-0.items c.in_ok-joined.ensures (c.in_ok-descriptors.ensures ∙ ap (map (λ (row : TypeRow). row.descriptor)) c.deref-3.ensures.value)

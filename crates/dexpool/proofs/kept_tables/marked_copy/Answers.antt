@@ -5,14 +5,11 @@ use Rattle.dexpool.proofs.kept_tables.marked_copy.Goals as goal
 
 pub loop-i-preserved : goal.loop-i-preserved
 loop-i-preserved g c =
-    let rows = c.args.rows.now in
     let marks = c.args.marks.now in
     let i = c.loop-i.i in
-    let copy = c.loop-i.copy.items in
     elim c.if-marks-i.branch [
       | then-marks-i+in_ok-push w ↦
-          let row = w.index-rows-i.result in
-          let grown : w.push.new.self.items ≡ copy ++ get_or rows i row ∷ [] = rw (w.in_ok-push.ensures.items, w.copied.ensures, ← w.index-rows-i.is) refl in
-          rw w.copy-is (keeps marks rows i row (omega arith) c.requires copy w.push.new.self.items w.if-marks-i.true grown c.loop-i.invariant)
-      | else-marks-i w ↦ rw w.copy-is (leaves marks rows i (any_of rows i (omega arith)) (omega arith) c.requires copy w.if-marks-i.false c.loop-i.invariant)
+          let grown : w.push.new.self.items ≡ c.loop-i.copy.items ++ get_or c.args.rows.now i w.index-rows-i.result ∷ [] = rw (w.in_ok-push.ensures.items, w.copied.ensures, ← w.index-rows-i.is) refl in
+          rw w.copy-is (keeps marks c.args.rows.now i w.index-rows-i.result (omega arith) c.requires c.loop-i.copy.items w.push.new.self.items w.if-marks-i.true grown c.loop-i.invariant)
+      | else-marks-i w ↦ rw w.copy-is (leaves marks c.args.rows.now i (any_of c.args.rows.now i (omega arith)) (omega arith) c.requires c.loop-i.copy.items w.if-marks-i.false c.loop-i.invariant)
     ]

@@ -5,12 +5,9 @@ use Rattle.dexpool.proofs.kept_tables.places_of.Goals as goal
 
 pub loop-is_marked-preserved : goal.loop-is_marked-preserved
 loop-is_marked-preserved c =
-    let marks = c.args.marks.now in
-    let i = c.loop-is_marked.is_marked-index in
     let n = c.loop-is_marked.count in
-    let so_far = c.loop-is_marked.images in
     let lt = c.loop-is_marked-test.true in
     elim c.if-is_marked.branch [
-      | then-is_marked+in_ok-push_image w ↦ rw (w.images-is, w.count-is) (places_if marks i n (n + 1) false so_far w.push_image.new.self lt w.if-is_marked.true refl w.in_ok-push_image.ensures.image c.loop-is_marked.invariant)
-      | else-is_marked+in_ok-push_none w ↦ rw (w.images-is, w.count-is) (places_else marks i n false so_far w.push_none.new.self lt w.if-is_marked.false w.in_ok-push_none.ensures c.loop-is_marked.invariant)
+      | then-is_marked+in_ok-push_image w ↦ rw (w.images-is, w.count-is) (places_if c.args.marks.now c.loop-is_marked.is_marked-index n (n + 1) false c.loop-is_marked.images w.push_image.new.self lt w.if-is_marked.true refl w.in_ok-push_image.ensures.image c.loop-is_marked.invariant)
+      | else-is_marked+in_ok-push_none w ↦ rw (w.images-is, w.count-is) (places_else c.args.marks.now c.loop-is_marked.is_marked-index n false c.loop-is_marked.images w.push_none.new.self lt w.if-is_marked.false w.in_ok-push_none.ensures c.loop-is_marked.invariant)
     ]

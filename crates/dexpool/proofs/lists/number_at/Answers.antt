@@ -2,6 +2,4 @@ use Rattle.dexpool.proofs.Common.{◌≡◌, ◌∙◌, ◌+◌, ◌*◌, ◌/�
 use Rattle.dexpool.proofs.lists.number_at.Goals as goal
 
 pub returns : goal.returns
-returns c =
-    let b = c.args.bytes.now in
-    let first : 2 * c.args.i ≡ 0 + 2 * c.args.i = omega arith in c.u16_at.ensures ∙ ap (ushort_at b) first ∙ sym (short_of b 0 (length b / 2) c.args.i 0 c.requires)
+returns c = let first : 2 * c.args.i ≡ 0 + 2 * c.args.i = omega arith in c.u16_at.ensures ∙ ap (ushort_at c.args.bytes.now) first ∙ sym (short_of c.args.bytes.now 0 (length c.args.bytes.now / 2) c.args.i 0 c.requires)

@@ -1,5 +1,5 @@
 use Rattle.dexpool.proofs.Common.{subst, refl, arith, false≢true, StringRow, TypeRow, file_numbers}
-use Rattle.dexpool.proofs.MethodRows.{method_names, no_proto_row, method_has_row}
+use Rattle.dexpool.proofs.ReadTables.{method_names, no_proto_row, method_has_row}
 use Rattle.dexpool.proofs.methods.method_at.Goals as goal
 
 pub returns-in_err-class : goal.returns-in_err-class

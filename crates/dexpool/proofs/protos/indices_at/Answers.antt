@@ -4,11 +4,9 @@ use Rattle.dexpool.proofs.protos.indices_at.Goals as goal
 
 pub returns : goal.returns
 returns c =
-    let b = c.args.frame.now in
-    let at = row_at b ProtoIds c.args.i in
-    let row = c.row-row.result.now in
+    let at = row_at c.args.frame.now ProtoIds c.args.i in
     record {
-      shorty_is = sym (c.u32_at.ensures ∙ uint_at_row b row at 12 0 at c.row-row.ensures.bytes (omega arith) (omega arith));
-      return_is = sym (c.u32_at-2.ensures ∙ uint_at_row b row at 12 4 _ c.row-row.ensures.bytes (omega arith) refl);
-      off_is = sym (c.u32_at-3.ensures ∙ uint_at_row b row at 12 8 _ c.row-row.ensures.bytes (omega arith) refl);
+      shorty_is = sym (c.u32_at.ensures ∙ uint_at_row c.args.frame.now c.row-row.result.now at 12 0 at c.row-row.ensures.bytes (omega arith) (omega arith));
+      return_is = sym (c.u32_at-2.ensures ∙ uint_at_row c.args.frame.now c.row-row.result.now at 12 4 _ c.row-row.ensures.bytes (omega arith) refl);
+      off_is = sym (c.u32_at-3.ensures ∙ uint_at_row c.args.frame.now c.row-row.result.now at 12 8 _ c.row-row.ensures.bytes (omega arith) refl);
     }

@@ -1,6 +1,6 @@
 use Rattle.dexpool.proofs.Common.{◌∷◌, ℕ, [], refl, sym, subst, ◌∙◌, ap, OrNone, shorty, StringRow, TypeRow, TypeListAt, IsAscii, span_of, letters_of, file_numbers}
 use Rattle.dexpool.proofs.FirstUnits.{letter_ascii}
-use Rattle.dexpool.proofs.ProtoRows.{shorty_same, is_at_there}
+use Rattle.dexpool.proofs.ReadTables.{shorty_same, is_at_there}
 use Rattle.dexpool.proofs.protos.proto_at.Goals as goal
 
 pub returns-in-None-clause-proto : goal.returns-in-None-clause-proto
@@ -14,11 +14,8 @@ returns-in-None-place_at-clause-proto c = λ holds. let p = holds.item in let h 
 
 pub returns-then-not-has_shorty-clause-proto : goal.returns-then-not-has_shorty-clause-proto
 returns-then-not-has_shorty-clause-proto c = λ holds.
-    let p = holds.item in
-    let h = holds.is in
-    let b = c.args.reader.now.names.now.frame.now in
-    c.if-not-has_shorty.ensures.no refl p.parameters (subst (λ o. OrNone TypeListAt [] b o p.parameters) c.indices_at-indices.ensures.off_is h.parameters) h.values
-    (shorty_same b c.args.i _ _ c.indices_at-indices.result.off c.letter.result p c.in-Some.shorty.now c.in-Some-typ.return_type.now c.indices_at-indices.ensures h c.in-Some.ensures.row c.in-Some-typ.ensures.row c.letter.ensures)
+    c.if-not-has_shorty.ensures.no refl holds.item.parameters (subst (λ o. OrNone TypeListAt [] c.args.reader.now.names.now.frame.now o holds.item.parameters) c.indices_at-indices.ensures.off_is holds.is.parameters) holds.is.values
+    (shorty_same c.args.reader.now.names.now.frame.now c.args.i _ _ c.indices_at-indices.result.off c.letter.result holds.item c.in-Some.shorty.now c.in-Some-typ.return_type.now c.indices_at-indices.ensures holds.is c.in-Some.ensures.row c.in-Some-typ.ensures.row c.letter.ensures)
 
 pub has_shorty-requires-clause-letter : goal.has_shorty-requires-clause-letter
 has_shorty-requires-clause-letter c = subst IsAscii (sym c.letter.ensures) (letter_ascii c.in-Some-typ.return_type.now c.in-Some-typ.ensures.row.descriptor)
@@ -28,10 +25,7 @@ note-requires-clause-checked c = c.if-not-has_shorty.ensures.yes refl
 
 pub returns-clause-proto : goal.returns-clause-proto
 returns-clause-proto c =
-    let b = c.args.reader.now.names.now.frame.now in
-    let texts = c.args.reader.now.names.now.strings.now in
-    let types = c.args.reader.now.names.now.types.now in
     let checked = c.if-not-has_shorty.ensures.yes refl in
-    is_at_there b texts types c.args.i c.indices_at-indices.result.off _ c.in-Some.shorty.now c.in-Some-typ.return_type.now
+    is_at_there c.args.reader.now.names.now.frame.now c.args.reader.now.names.now.strings.now c.args.reader.now.names.now.types.now c.args.i c.indices_at-indices.result.off _ c.in-Some.shorty.now c.in-Some-typ.return_type.now
     c.requires.row c.indices_at-indices.ensures c.in-Some.ensures c.in-Some-typ.ensures checked.listed
-    (c.in-Some.ensures.is ∙ checked.shorty ∙ ap (λ (l : ℕ). l ∷ letters_of texts types (span_of (file_numbers b) c.in-Some-place_at.span)) c.letter.ensures)
+    (c.in-Some.ensures.is ∙ checked.shorty ∙ ap (λ (l : ℕ). l ∷ letters_of c.args.reader.now.names.now.strings.now c.args.reader.now.names.now.types.now (span_of (file_numbers c.args.reader.now.names.now.frame.now) c.in-Some-place_at.span)) c.letter.ensures)

@@ -6,6 +6,5 @@ use Rattle.dexpool.proofs.reading.read_table.Goals as goal
 pub returns-in-None-clause-err : goal.returns-in-None-clause-err
 returns-in-None-clause-err g c =
     let b = g.R.TableReader.file c.args.reader.now in
-    let i = c.loop-i.i in
-    let is = c.refused.ensures ∙ ap (λ (x : Condition). Refused (record { number = number x; place = i })) c.rows-condition.ensures.condition in
-    subst (IsFault b) (sym is) (refused b g.R.TableReader.condition i (c.law.ensures.condition b i) c.requires.before (omega (arith, c.rows-condition.ensures.count)) c.loop-i.invariant.rows.held (rw c.in-None.is at c.in_ok-row.ensures.row))
+    let is = c.refused.ensures ∙ ap (λ (x : Condition). Refused (record { number = number x; place = c.loop-i.i })) c.rows-condition.ensures.condition in
+    subst (IsFault b) (sym is) (refused b g.R.TableReader.condition c.loop-i.i (c.law.ensures.condition b c.loop-i.i) c.requires.before (omega (arith, c.rows-condition.ensures.count)) c.loop-i.invariant.rows.held (rw c.in-None.is at c.in_ok-row.ensures.row))

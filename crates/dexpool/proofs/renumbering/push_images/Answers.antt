@@ -3,8 +3,6 @@ use Rattle.dexpool.proofs.renumbering.push_images.Goals as goal
 
 pub loop-i-preserved : goal.loop-i-preserved
 loop-i-preserved c =
-    let old = c.args.to.now.items in
-    let numbers = c.args.numbers.now in
     let image = slice_index c.args.images.now in
-    c.in_ok-push.ensures.items ∙ (λ k. c.loop-i.invariant k ++ image (c.at.ensures k) ∷ []) ∙ append_assoc old (map image (take c.loop-i.i numbers)) (image (slice_index numbers c.loop-i.i) ∷ [])
-    ∙ ap (λ more. old ++ more) (sym (map_more image numbers c.loop-i.i 0 (omega (arith, c.loop-i-test.true, c.len-i-end.ensures))))
+    c.in_ok-push.ensures.items ∙ (λ k. c.loop-i.invariant k ++ image (c.at.ensures k) ∷ []) ∙ append_assoc c.args.to.now.items (map image (take c.loop-i.i c.args.numbers.now)) (image (slice_index c.args.numbers.now c.loop-i.i) ∷ [])
+    ∙ ap (λ more. c.args.to.now.items ++ more) (sym (map_more image c.args.numbers.now c.loop-i.i 0 (omega (arith, c.loop-i-test.true, c.len-i-end.ensures))))

@@ -17,29 +17,24 @@ renumbered-requires-clause-return_type c = (still_holds c.args.rows.items c.loop
 
 pub loop-i-preserved : goal.loop-i-preserved
 loop-i-preserved c =
-    let i = c.loop-i.i in
     let strings = c.args.strings.now in
-    let types = c.args.types.now in
-    let ps = c.args.parameters.now in
     let protos = c.args.rows.items in
     let rows = c.loop-i.rows.items in
     let h = c.loop-i.invariant in
-    let lt : i < length protos = omega (arith, c.loop-i-test.true, c.len-i-end.ensures, c.args.rows.ok.0) in
+    let lt : c.loop-i.i < length protos = omega (arith, c.loop-i-test.true, c.len-i-end.ensures, c.args.rows.ok.0) in
     let p = c.index-entry.result.now in
     let moved = c.renumbered.result in
-    let old = c.loop-i.moved.items in
-    let new = c.push_images.new.to.items in
-    let more = map (slice_index types) c.part.result in
-    let entry : ProtoEntry = record { shorty = slice_index strings p.shorty; return_type = slice_index types p.return_type; parameters = record { start = c.len-start.result; end = c.len-end.result } } in
+    let more = map (slice_index c.args.types.now) c.part.result in
+    let entry : ProtoEntry = record { shorty = slice_index strings p.shorty; return_type = slice_index c.args.types.now p.return_type; parameters = record { start = c.len-start.result; end = c.len-end.result } } in
     let numbers : ProtoNumbers = record { shorty = entry.shorty; return_type = entry.return_type; parameters = more } in
-    let row : numbers ≡ moved_proto strings types ps p = λ k. record { shorty = entry.shorty; return_type = entry.return_type; parameters = map (slice_index types) (c.part.ensures k) } in
-    let pushed : take (i + 1) (set rows i moved) ≡ take i rows ++ entry ∷ [] = take_more_set rows i moved (omega (arith, lt, h.size)) ∙ ap (λ (q : ProtoEntry). take i rows ++ q ∷ []) c.renumbered.ensures in
-    let start : c.len-start.result ≡ length old = omega (arith, c.len-start.ensures, c.loop-i.moved.ok.0) in
-    let end : c.len-end.result ≡ length new = omega (arith, c.len-end.ensures, c.push_images.new.to.ok.0) in
+    let row : numbers ≡ moved_proto strings c.args.types.now c.args.parameters.now p = λ k. record { shorty = entry.shorty; return_type = entry.return_type; parameters = map (slice_index c.args.types.now) (c.part.ensures k) } in
+    let pushed : take (c.loop-i.i + 1) (set rows c.loop-i.i moved) ≡ take c.loop-i.i rows ++ entry ∷ [] = take_more_set rows c.loop-i.i moved (omega (arith, lt, h.size)) ∙ ap (λ (q : ProtoEntry). take c.loop-i.i rows ++ q ∷ []) c.renumbered.ensures in
+    let start : c.len-start.result ≡ length c.loop-i.moved.items = omega (arith, c.len-start.ensures, c.loop-i.moved.ok.0) in
+    let end : c.len-end.result ≡ length c.push_images.new.to.items = omega (arith, c.len-end.ensures, c.push_images.new.to.ok.0) in
     record {
-      so_far = rows_more old new more c.in_ok-push_images.ensures (take i rows) (take (i + 1) (set rows i moved)) entry h.spans pushed start end
-          ∙ (λ k. h.so_far k ++ (row ∙ ap (moved_proto strings types ps) (c.index-entry.ensures ∙ same_at protos rows i h.rest p)) k ∷ []) ∙ sym (map_more (moved_proto strings types ps) protos i p lt);
-      spans = spans_more old new more c.in_ok-push_images.ensures (take i rows) (take (i + 1) (set rows i moved)) entry h.spans pushed start end;
-      rest = rest_set protos rows i h.rest moved;
-      size = length-set rows i moved ∙ h.size;
+      so_far = rows_more c.loop-i.moved.items c.push_images.new.to.items more c.in_ok-push_images.ensures (take c.loop-i.i rows) (take (c.loop-i.i + 1) (set rows c.loop-i.i moved)) entry h.spans pushed start end
+          ∙ (λ k. h.so_far k ++ (row ∙ ap (moved_proto strings c.args.types.now c.args.parameters.now) (c.index-entry.ensures ∙ same_at protos rows c.loop-i.i h.rest p)) k ∷ []) ∙ sym (map_more (moved_proto strings c.args.types.now c.args.parameters.now) protos c.loop-i.i p lt);
+      spans = spans_more c.loop-i.moved.items c.push_images.new.to.items more c.in_ok-push_images.ensures (take c.loop-i.i rows) (take (c.loop-i.i + 1) (set rows c.loop-i.i moved)) entry h.spans pushed start end;
+      rest = rest_set protos rows c.loop-i.i h.rest moved;
+      size = length-set rows c.loop-i.i moved ∙ h.size;
     }

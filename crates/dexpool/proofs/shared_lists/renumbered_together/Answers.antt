@@ -14,27 +14,24 @@ renumbered-requires-clause-return_type c = (still_holds c.args.rows.items c.loop
 
 pub loop-i-preserved : goal.loop-i-preserved
 loop-i-preserved c =
-    let strings = c.args.lower.strings.now in
     let types = c.args.lower.types.now in
-    let ps = c.args.parameters.now in
     let protos = c.args.rows.items in
-    let i = c.loop-i.i in
     let rows = c.loop-i.rows.items in
     let h = c.loop-i.invariant in
-    let lt : i < length protos = omega (arith, c.loop-i-test.true, c.len-i-end.ensures, c.args.rows.ok.0) in
+    let lt : c.loop-i.i < length protos = omega (arith, c.loop-i-test.true, c.len-i-end.ensures, c.args.rows.ok.0) in
     let p = c.index-entry.result.now in
     let moved = c.renumbered.result in
-    let is = c.index-entry.ensures ∙ same_at protos rows i h.rest p in
-    let shorty = ap (λ (q : ProtoEntry). q.shorty) c.renumbered.ensures ∙ ap (λ (q : ProtoEntry). slice_index strings q.shorty) is in
+    let is = c.index-entry.ensures ∙ same_at protos rows c.loop-i.i h.rest p in
+    let shorty = ap (λ (q : ProtoEntry). q.shorty) c.renumbered.ensures ∙ ap (λ (q : ProtoEntry). slice_index c.args.lower.strings.now q.shorty) is in
     let back = ap (λ (q : ProtoEntry). q.return_type) c.renumbered.ensures ∙ ap (λ (q : ProtoEntry). slice_index types q.return_type) is in
     let place = subst (λ (q : ProtoEntry). IsPlaceWithin c.args.range q.parameters moved.parameters) is
     (subst (λ (s : Span). IsPlaceWithin c.args.range p.parameters s) (sym (ap (λ (q : ProtoEntry). q.parameters) c.renumbered.ensures)) c.place_within-place.ensures) in
-    let pushed = take_more_set rows i moved (omega (arith, lt, h.size)) in
+    let pushed = take_more_set rows c.loop-i.i moved (omega (arith, lt, h.size)) in
     let images = c.in_ok-moved.ensures ∙ ap (map (slice_index types)) c.part.ensures in
-    let span = (c.requires.protos i p lt).span in
+    let span = (c.requires.protos c.loop-i.i p lt).span in
     record {
-      so_far = rows_placed strings types ps c.in_ok-moved.moved.items c.args.range c.requires.range images protos (take i rows) (take (i + 1) (set rows i moved)) i p moved lt span shorty back place pushed h.so_far;
-      spans = spans_placed strings types ps c.in_ok-moved.moved.items c.args.range c.requires.range images protos (take i rows) (take (i + 1) (set rows i moved)) i p moved lt span shorty back place pushed h.spans;
-      rest = rest_set protos rows i h.rest moved;
-      size = length-set rows i moved ∙ h.size;
+      so_far = rows_placed c.args.lower.strings.now types c.args.parameters.now c.in_ok-moved.moved.items c.args.range c.requires.range images protos (take c.loop-i.i rows) (take (c.loop-i.i + 1) (set rows c.loop-i.i moved)) c.loop-i.i p moved lt span shorty back place pushed h.so_far;
+      spans = spans_placed c.args.lower.strings.now types c.args.parameters.now c.in_ok-moved.moved.items c.args.range c.requires.range images protos (take c.loop-i.i rows) (take (c.loop-i.i + 1) (set rows c.loop-i.i moved)) c.loop-i.i p moved lt span shorty back place pushed h.spans;
+      rest = rest_set protos rows c.loop-i.i h.rest moved;
+      size = length-set rows c.loop-i.i moved ∙ h.size;
     }

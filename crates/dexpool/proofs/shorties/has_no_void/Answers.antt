@@ -5,13 +5,12 @@ use Rattle.dexpool.proofs.shorties.has_no_void.Goals.{then-unit-eq-VOID, else-un
 
 pub loop-unit-preserved : goal.loop-unit-preserved
 loop-unit-preserved c =
-    let units = c.args.units.now in
     let i = c.loop-unit.unit-index in
     elim c.if-unit-eq-VOID.branch [
-      | then-unit-eq-VOID w ↦ subst (λ (found : Bool). All IsNotVoid units ↔ ((found ≡ false) × All IsNotVoid (drop (i + 1) units))) (sym w.has_void-is)
-          (void_here units i c.loop-unit.has_void c.loop-unit.invariant c.loop-unit-test.true w.if-unit-eq-VOID.true)
-      | else-unit-eq-VOID w ↦ subst (λ (found : Bool). All IsNotVoid units ↔ ((found ≡ false) × All IsNotVoid (drop (i + 1) units))) (sym w.has_void-is)
-          (no_void_here units i c.loop-unit.has_void c.loop-unit.invariant c.loop-unit-test.true w.if-unit-eq-VOID.false)
+      | then-unit-eq-VOID w ↦ subst (λ (found : Bool). All IsNotVoid c.args.units.now ↔ ((found ≡ false) × All IsNotVoid (drop (i + 1) c.args.units.now))) (sym w.has_void-is)
+          (void_here c.args.units.now i c.loop-unit.has_void c.loop-unit.invariant c.loop-unit-test.true w.if-unit-eq-VOID.true)
+      | else-unit-eq-VOID w ↦ subst (λ (found : Bool). All IsNotVoid c.args.units.now ↔ ((found ≡ false) × All IsNotVoid (drop (i + 1) c.args.units.now))) (sym w.has_void-is)
+          (no_void_here c.args.units.now i c.loop-unit.has_void c.loop-unit.invariant c.loop-unit-test.true w.if-unit-eq-VOID.false)
     ]
 
 pub returns : goal.returns

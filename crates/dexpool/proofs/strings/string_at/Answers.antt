@@ -10,8 +10,7 @@ returns-then-at-data_off c = λ holds. omega (arith, holds.is.in_data, at_is c.a
 
 pub returns-then-bytes-at : goal.returns-then-bytes-at
 returns-then-bytes-at c = λ holds.
-    let h = holds.is in
-    no_text_after c.args.frame.now _ h.encodes.0 holds.text (omega (arith, c.if-bytes-at.true, at_is c.args.frame.now c.row.result.now c.args.i _ c.u32_at-at.ensures c.row.ensures.bytes, ap (λ (b : List ℕ). length b) c.bytes-bytes.ensures.bytes)) h.encodes.1
+    no_text_after c.args.frame.now _ holds.is.encodes.0 holds.text (omega (arith, c.if-bytes-at.true, at_is c.args.frame.now c.row.result.now c.args.i _ c.u32_at-at.ensures c.row.ensures.bytes, ap (λ (b : List ℕ). length b) c.bytes-bytes.ensures.bytes)) holds.is.encodes.1
 
 pub returns-in-Ok : goal.returns-in-Ok
 returns-in-Ok c =

@@ -3,8 +3,7 @@ use Rattle.dexpool.proofs.symbols.copied.Goals as goal
 
 pub loop-name-preserved : goal.loop-name-preserved
 loop-name-preserved c =
-    c.in_ok-push.ensures.items ∙ (λ k. c.loop-name.invariant k ++ (c.in_ok-copy-2.ensures ∙ c.name-item.is) k ∷ [])
-    ∙ sym (take_more c.args.names.now c.loop-name.name-index c.name-item.result c.loop-name-test.true)
+    c.in_ok-push.ensures.items ∙ (λ k. c.loop-name.invariant k ++ (c.in_ok-copy-2.ensures ∙ c.name-item.is) k ∷ []) ∙ sym (take_more c.args.names.now c.loop-name.name-index c.name-item.result c.loop-name-test.true)
 
 pub returns : goal.returns
 returns c = c.loop-name.invariant ∙ take_all c.loop-name.name-index c.args.names.now c.loop-name-test.false

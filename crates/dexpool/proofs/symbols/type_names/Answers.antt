@@ -4,8 +4,7 @@ use Rattle.dexpool.proofs.symbols.type_names.Goals as goal
 pub loop-i-preserved : goal.loop-i-preserved
 loop-i-preserved c =
     let t = c.args.tables.now in
-    c.in_ok-push.ensures.items
-    ∙ (λ k. c.loop-i.invariant k ++ (c.in_ok-type_name.ensures ∙ ap (type_of t.strings.items t.types.items) c.at.ensures) k ∷ [])
+    c.in_ok-push.ensures.items ∙ (λ k. c.loop-i.invariant k ++ (c.in_ok-type_name.ensures ∙ ap (type_of t.strings.items t.types.items) c.at.ensures) k ∷ [])
     ∙ sym (map_more (type_of t.strings.items t.types.items) c.args.types.now c.loop-i.i 0 (omega (arith, c.loop-i-test.true, c.len-i-end.ensures)))
 
 pub returns : goal.returns

@@ -4,9 +4,8 @@ use Rattle.dexpool.proofs.checked_lists.ProtoReader.has_shorty.Goals as goal
 
 pub returns-then-known-checked-2-clause-yes : goal.returns-then-known-checked-2-clause-yes
 returns-then-known-checked-2-clause-yes c = λ e.
-    let known = c.in-Some.known.now in
-    known_checked c.args.self.now.names.now.frame.now c.args.self.now.names.now.strings.now c.args.self.now.names.now.types.now c.args.off known c.args.checked
-    (c.requires.lists.checked c.args.off known (sym c.in-Some.ensures.value)) c.requires.placed c.if-known-checked.true c.if-known-checked-2.true
+    known_checked c.args.self.now.names.now.frame.now c.args.self.now.names.now.strings.now c.args.self.now.names.now.types.now c.args.off c.in-Some.known.now c.args.checked
+    (c.requires.lists.checked c.args.off c.in-Some.known.now (sym c.in-Some.ensures.value)) c.requires.placed c.if-known-checked.true c.if-known-checked-2.true
 
 pub returns-in-Some-ascii-clause-yes : goal.returns-in-Some-ascii-clause-yes
 returns-in-Some-ascii-clause-yes c = λ e.

@@ -8,12 +8,10 @@ one_value j k e = cc
 pub add-requires-clause-lists : goal.add-requires-clause-lists
 add-requires-clause-lists c = record {
   checked = λ o j e.
-      let b = c.args.self.now.names.now.frame.now in
-      let texts = c.args.self.now.names.now.strings.now in
       let types = c.args.self.now.names.now.types.now in
       elim (cases_eq c.args.off o) [
-        | inl same ↦ subst (λ (n : ℕ). IsChecked b texts types n j) same
-            (subst (IsChecked b texts types c.args.off) (one_value j c.args.checked (sym (subst (λ (n : ℕ). get nat_eq c.insert.new.self n ≡ Some j) (sym same) e) ∙ c.in_ok-insert.ensures.updates.1)) c.requires.checked)
+        | inl same ↦ subst (λ (n : ℕ). IsChecked c.args.self.now.names.now.frame.now c.args.self.now.names.now.strings.now types n j) same
+            (subst (IsChecked c.args.self.now.names.now.frame.now c.args.self.now.names.now.strings.now types c.args.off) (one_value j c.args.checked (sym (subst (λ (n : ℕ). get nat_eq c.insert.new.self n ≡ Some j) (sym same) e) ∙ c.in_ok-insert.ensures.updates.1)) c.requires.checked)
         | inr apart ↦ c.requires.lists.checked o j (sym (c.in_ok-insert.ensures.updates.2 o (ne_eqb c.args.off o apart)) ∙ e)
       ];
   letters_are = c.requires.lists.letters_are;

@@ -11,11 +11,9 @@ of-requires-clause-within c =
 
 pub returns-in-Some : goal.returns-in-Some
 returns-in-Some c =
-    let letters = c.args.self.now.letters.now in
     let numbers = file_numbers c.args.self.now.names.now.frame.now in
-    let span = c.args.list.span in
-    shorty_spelled letters c.args.units.now c.args.list.letter (span_of numbers span) c.of.result.now
-    (c.of.ensures ∙ ap (λ (found : List ℕ). span_of found span) (c.deref.ensures.value ∙ (rw c.in-Some.is at c.requires.lists.letters_are)) ∙ part_letters letters numbers span) c.is_shorty.result c.is_shorty.ensures
+    shorty_spelled c.args.self.now.letters.now c.args.units.now c.args.list.letter (span_of numbers c.args.list.span) c.of.result.now
+    (c.of.ensures ∙ ap (λ (found : List ℕ). span_of found c.args.list.span) (c.deref.ensures.value ∙ (rw c.in-Some.is at c.requires.lists.letters_are)) ∙ part_letters c.args.self.now.letters.now numbers c.args.list.span) c.is_shorty.result c.is_shorty.ensures
 
 pub returns-in-None : goal.returns-in-None
 returns-in-None c = subst (λ (ns : List ℕ). IsTrue c.is_spelled.result ↔ IsSpelled c.args.self.now.letters.now c.args.units.now c.args.list.letter ns)

@@ -1,4 +1,4 @@
-use Rattle.dexpool.proofs.FieldRows.{field_decided}
+use Rattle.dexpool.proofs.ReadTables.{field_decided}
 use Rattle.dexpool.proofs.fields.NamesTableReader.law.Goals as goal
 
 pub returns-clause-next : goal.returns-clause-next

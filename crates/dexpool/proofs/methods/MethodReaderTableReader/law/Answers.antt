@@ -1,5 +1,5 @@
 use Rattle.dexpool.proofs.Common.{file_numbers}
-use Rattle.dexpool.proofs.MethodRows.{method_decided}
+use Rattle.dexpool.proofs.ReadTables.{method_decided}
 use Rattle.dexpool.proofs.methods.MethodReaderTableReader.law.Goals as goal
 
 pub returns-clause-next : goal.returns-clause-next

@@ -7,7 +7,5 @@ none = record { class = []; name = []; type = [] }
 
 pub returns : goal.returns
 returns c =
-    let xs = c.args.self.now.fields in
-    let s = c.args.field.now in
-    rank_by_halving field_cmp field_total s xs none c.count_less.result c.count.result c.count.ensures c.count_less.ensures.within c.is_numbering.ensures.rising.fields_rise
-    (c.count_less.ensures.less (λ i. is_lt (field_cmp (get_or xs i none) s)) (λ i o lt p. search (rules, of_calls)))
+    rank_by_halving field_cmp field_total c.args.field.now c.args.self.now.fields none c.count_less.result c.count.result c.count.ensures c.count_less.ensures.within c.is_numbering.ensures.rising.fields_rise
+    (c.count_less.ensures.less (λ i. is_lt (field_cmp (get_or c.args.self.now.fields i none) c.args.field.now)) (λ i o lt p. search (rules, of_calls)))

@@ -7,7 +7,5 @@ none = record { return_type = []; parameters = [] }
 
 pub returns : goal.returns
 returns c =
-    let xs = c.args.self.now.protos in
-    let s = c.args.proto.now in
-    rank_by_halving proto_cmp proto_total s xs none c.count_less.result c.count.result c.count.ensures c.count_less.ensures.within c.is_numbering.ensures.rising.protos_rise
-    (c.count_less.ensures.less (λ i. is_lt (proto_cmp (get_or xs i none) s)) (λ i o lt p. search (rules, of_calls)))
+    rank_by_halving proto_cmp proto_total c.args.proto.now c.args.self.now.protos none c.count_less.result c.count.result c.count.ensures c.count_less.ensures.within c.is_numbering.ensures.rising.protos_rise
+    (c.count_less.ensures.less (λ i. is_lt (proto_cmp (get_or c.args.self.now.protos i none) c.args.proto.now)) (λ i o lt p. search (rules, of_calls)))

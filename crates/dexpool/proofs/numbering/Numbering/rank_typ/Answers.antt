@@ -4,7 +4,5 @@ use Rattle.dexpool.proofs.numbering.Numbering.rank_typ.Goals as goal
 
 pub returns : goal.returns
 returns c =
-    let ts = c.args.self.now.types in
-    let s = c.args.descriptor.now in
-    rank_by_halving text_cmp text_total s ts [] c.count_less.result c.count.result c.count.ensures c.count_less.ensures.within c.is_numbering.ensures.rising.types_rise
-    (c.count_less.ensures.less (λ i. is_lt (text_cmp (get_or ts i []) s)) (λ i o lt p. search (rules, of_calls)))
+    rank_by_halving text_cmp text_total c.args.descriptor.now c.args.self.now.types [] c.count_less.result c.count.result c.count.ensures c.count_less.ensures.within c.is_numbering.ensures.rising.types_rise
+    (c.count_less.ensures.less (λ i. is_lt (text_cmp (get_or c.args.self.now.types i []) c.args.descriptor.now)) (λ i o lt p. search (rules, of_calls)))

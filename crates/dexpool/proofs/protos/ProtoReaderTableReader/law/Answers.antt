@@ -1,5 +1,5 @@
 use Rattle.dexpool.proofs.Common.{file_numbers}
-use Rattle.dexpool.proofs.ProtoRows.{proto_decided}
+use Rattle.dexpool.proofs.ReadTables.{proto_decided}
 use Rattle.dexpool.proofs.protos.ProtoReaderTableReader.law.Goals as goal
 
 pub returns-clause-next : goal.returns-clause-next

@@ -161,7 +161,12 @@ new_at es i lt h k d le same =
 pub next_at : {b : List ℕ} (es : List MapEntry) (i : ℕ) → i < length es → AreInOrder b es → IsNext b es i
 next_at {b = b} es i lt h =
     let s = All-get_or IsKnown es i none lt h.known in
-    record { known = subst IsCode (sym s.1) (code_of s.0); new = new_at es i lt h.once; above = above_at es i lt h.rise; placed = All-get_or (IsPlaced b) es i none lt h.others }
+    record {
+      known = subst IsCode (sym s.1) (code_of s.0);
+      new = new_at es i lt h.once;
+      above = above_at es i lt h.rise;
+      placed = All-get_or (IsPlaced b) es i none lt h.others;
+    }
 
 -- ---- the first entry
 
@@ -232,7 +237,12 @@ has_map place right = record {
 }
 
 pub are_right : {b : List ℕ} → HasMap b → AreRight b (map_entries b)
-are_right h = record { order = record { known = h.known; once = h.once; rise = h.rise; others = h.others }; header = record { begins = h.header }; tables = have_tables h.tables; itself = record { itself = h.itself } }
+are_right h = record {
+  order = record { known = h.known; once = h.once; rise = h.rise; others = h.others };
+  header = record { begins = h.header };
+  tables = have_tables h.tables;
+  itself = record { itself = h.itself };
+}
 
 pub map_is_right : {b b' : List ℕ} {es : List MapEntry} (r : Bool) → IsInPlace b → b' ≡ b → es ≡ map_entries b → (IsTrue r ↔ AreRight b' es) → IsTrue r ↔ HasMap b
 map_is_right {b = b} {es = es} r place e f h =

@@ -14,7 +14,12 @@ pub record IndicesBuilt (us : List ℕ) (count at : ℕ) (is : List Index) : Typ
   pub whole : (cs : List Cut) → AreCut 0 us cs [] → is ++ indices_at us rest ≡ indices_at us cs
 
 pub none_built : (us : List ℕ) (count : ℕ) (is : List Index) → is ≡ [] → HaveIndices us count → IndicesBuilt us count 0 is
-none_built us count is none h = subst (IndicesBuilt us count 0) (sym none) record { rest = h.cuts; ahead = h.cut; left = zero-add (length (indices_at us h.cuts)) ∙ h.counted; whole = λ cs cut. ap (indices_at us) (whole_once us h.cuts cs h.cut cut) }
+none_built us count is none h = subst (IndicesBuilt us count 0) (sym none) record {
+  rest = h.cuts;
+  ahead = h.cut;
+  left = zero-add (length (indices_at us h.cuts)) ∙ h.counted;
+  whole = λ cs cut. ap (indices_at us) (whole_once us h.cuts cs h.cut cut);
+}
 
 -- the piece that is next
 pub record NextPiece (us : List ℕ) (count at : ℕ) (is : List Index) : Type 0 where
@@ -31,7 +36,15 @@ next_piece us count at is h more = by_rest h.rest h.ahead h.left h.whole
   where
     by_rest : (rest : List Cut) → AreCut at (drop at us) rest [] → length is + length (indices_at us rest) ≡ count → ((cs : List Cut) → AreCut 0 us cs [] → is ++ indices_at us rest ≡ indices_at us cs) → NextPiece us count at is
     by_rest [] ahead left whole = absurd (omega (arith, more, left))
-    by_rest (c ∷ cs) ahead left whole = record { piece = c; rest = cs; unit = ahead.0; size = ahead.1; ahead = subst (λ (xs : List ℕ). AreCut (at + c.units) xs cs []) (drop-drop c.units at us) ahead.2; left = left; whole = whole }
+    by_rest (c ∷ cs) ahead left whole = record {
+      piece = c;
+      rest = cs;
+      unit = ahead.0;
+      size = ahead.1;
+      ahead = subst (λ (xs : List ℕ). AreCut (at + c.units) xs cs []) (drop-drop c.units at us) ahead.2;
+      left = left;
+      whole = whole;
+    }
 
 -- it begins within the units, which do not end before it does
 pub next_within : (us : List ℕ) (count at size : ℕ) (is : List Index) → NextPiece us count at is → piece_size at (drop at us) ≡ Some size → at + size ≤ length us
@@ -112,4 +125,8 @@ checked_have us m count h = record { cuts = h.cuts; cut = h.code.cut; counted = 
 
 pub built_read : (us : List ℕ) (m : Mentions) (count : ℕ) (is : List Index) → IsChecked us m count → AreTheIndices us is → AreCodeIndices us m is
 built_read us m count is h are =
-    let these : is ≡ indices_at us h.cuts = are h.cuts h.code.cut in record { cuts = h.cuts; code = h.code; read = record { are = these; in_range = h.in_range; fit = subst (All (FitsAt us)) (sym these) h.fit } }
+    let these : is ≡ indices_at us h.cuts = are h.cuts h.code.cut in record {
+      cuts = h.cuts;
+      code = h.code;
+      read = record { are = these; in_range = h.in_range; fit = subst (All (FitsAt us)) (sym these) h.fit };
+    }

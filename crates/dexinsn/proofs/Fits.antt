@@ -317,5 +317,13 @@ short_denoted m (p ∷ ps) (q ∷ qs) n h c = elim (Contains-append_cases (short
       let f = meant_piece m p q n h.0 l in (f.0, f.1, record { units = f.2; piece = subst (λ x. Contains (q ∷ qs) x) f.3 (Contains-first q qs); short = f.4 })
   | inr l ↦
       let f = short_denoted m ps qs n h.1 l in
-      let has : HasConstString qs f.0 = f.2 in (f.0, f.1, record { units = has.units; piece = Contains-later q (symbolic.Instruction has.units (Some (TextSymbol f.0))) qs has.piece; short = has.short })
+      let has : HasConstString qs f.0 = f.2 in (
+        f.0,
+        f.1,
+        record {
+          units = has.units;
+          piece = Contains-later q (symbolic.Instruction has.units (Some (TextSymbol f.0))) qs has.piece;
+          short = has.short;
+        },
+      )
 ]

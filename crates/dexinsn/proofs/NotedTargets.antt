@@ -88,7 +88,13 @@ checked_indices us m indices h = record { cuts = h.cuts; code = h.code; read = r
 pub shape_there : (b : List ℕ) (off : ℕ) (m : Mentions) (bytes : List ℕ) (s : PiecesShape) → AreUnitsAt b off bytes → RegistersAt b off s.registers s.ins s.outs → s.units ≡ length (units_in bytes) → IsChecked (units_in bytes) m s.indices → IsShapeAt b off m s
 shape_there b off m bytes s at registers count h =
     let l : length (units_in bytes) ≡ uint_at b (off + 12) = ap length at.units ∙ length-ushorts_at b (off + 16) (uint_at b (off + 12)) in
-    record { room = at.room; registers = registers; units = sym (count ∙ l); few = omega (arith, at.few, count, l); checked = subst (λ (us : List ℕ). IsChecked us m s.indices) at.units h }
+    record {
+      room = at.room;
+      registers = registers;
+      units = sym (count ∙ l);
+      few = omega (arith, at.few, count, l);
+      checked = subst (λ (us : List ℕ). IsChecked us m s.indices) at.units h;
+    }
 
 -- pieces of that shape
 pub pieces_there : (b : List ℕ) (off : ℕ) (m : Mentions) (bytes : List ℕ) (s : PiecesShape) → ArePools b m → AreUnitsAt b off bytes → RegistersAt b off s.registers s.ins s.outs → s.units ≡ length (units_in bytes) → IsChecked (units_in bytes) m s.indices → HasPiecesOf b off m s

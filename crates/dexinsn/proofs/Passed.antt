@@ -56,7 +56,11 @@ bits_grow test us cs c words new passes inside long here others before = record 
 
 -- with the same bits in other words
 bits_same : (test : ℕ → Bool) (us : List ℕ) (cs : List Cut) (words new : List ℕ) → length new ≡ length words → ((k : ℕ) → HasBit new k ↔ HasBit words k) → AreBitsOf test us cs words → AreBitsOf test us cs new
-bits_same test us cs words new long same before = record { room = long ∙ before.room; each = λ k. (λ has. (before.each k).0 ((same k).0 has), λ e. (same k).1 ((before.each k).1 e)); inside = λ k has. before.inside k ((same k).0 has) }
+bits_same test us cs words new long same before = record {
+  room = long ∙ before.room;
+  each = λ k. (λ has. (before.each k).0 ((same k).0 has), λ e. (same k).1 ((before.each k).1 e));
+  inside = λ k has. before.inside k ((same k).0 has);
+}
 
 -- a piece has a bit if its first unit passes the test
 pub bits_put : (test : ℕ → Bool) (us : List ℕ) (cs : List Cut) (c : Cut) (words new : List ℕ) (bit : Bool) → bit ≡ test (slice_index us c.unit) → c.unit < length us → length new ≡ length words → (bit ≡ true → HasBit new c.unit)
@@ -118,7 +122,11 @@ all_cut us m starts noted indices h = subst (λ (rest : List ℕ). AreCut 0 us h
 
 -- no bit is set yet
 pub none_bits : (test : ℕ → Bool) (us words : List ℕ) (n : ℕ) → n ≡ length us / 64 + 2 → words ≡ replicate n 0 → AreBitsOf test us [] words
-none_bits test us words n room is = subst (AreBitsOf test us []) (sym is) record { room = length-replicate {A = ℕ} n 0 ∙ room; each = λ k. (λ has. absurd (none_set n k has), λ e. absurd cc); inside = λ k has. absurd (none_set n k has) }
+none_bits test us words n room is = subst (AreBitsOf test us []) (sym is) record {
+  room = length-replicate {A = ℕ} n 0 ∙ room;
+  each = λ k. (λ has. absurd (none_set n k has), λ e. absurd cc);
+  inside = λ k has. absurd (none_set n k has);
+}
 
 -- ---- cuts that are kept
 

@@ -102,7 +102,12 @@ step_by : (o : Option Pool) (us vs : List ℕ) (c : Cut) (places : List ℕ) (is
     → ((js : List Index) → map (λ (i : Index). i.unit) js ≡ places → Follow us (c.unit + c.units) js) → AgreeBeside us vs c.unit is → Step o us vs c is
 step_by None us vs c places is piece e same on h =
     let s = beside_split us vs c.unit (c.unit + c.units) is (omega arith) (on is same) h in
-    record { first = s.0 c.unit (omega arith) (omega (arith, (piece_size-fits c.unit (drop c.unit us) c.units piece).0)); whole = λ none. s.0; following = λ pool some. absurd cc; later = s.1 }
+    record {
+      first = s.0 c.unit (omega arith) (omega (arith, (piece_size-fits c.unit (drop c.unit us) c.units piece).0));
+      whole = λ none. s.0;
+      following = λ pool some. absurd cc;
+      later = s.1;
+    }
 step_by (Some pool) us vs c places [] piece e same on h = absurd cc
 step_by (Some pool) us vs c places (i ∷ is) piece e same on h =
     let here : i.unit ≡ c.unit = cc in
@@ -308,7 +313,11 @@ same_by r q (Some pool) (Some other_pool) us vs c d ps ts places more (i ∷ is)
 equivalent_from : (r q : Maps) (us vs : List ℕ) (at : ℕ) (cs ds : List Cut) (is js : List Index) → AreCut at (drop at us) cs [] → AreCut at (drop at vs) ds [] → map (λ (i : Index). i.unit) is ≡ index_places at (map (cut_units us) cs) → map (λ (i : Index). i.unit) js ≡ index_places at (map (cut_units vs) ds)
     → Same r q (map (cut_units us) cs) (map (cut_units vs) ds) is js → PiecesEqualMapped r q us vs at is js
 equivalent_from r q us vs at [] [] [] [] cut other same mate e =
-    let n : length (drop at us) ≡ 0 = ap length cut in record { left = n ∙ sym (ap length other); agree = λ k le lt. absurd (omega (arith, n, length-drop at us)); are_mapped = tt }
+    let n : length (drop at us) ≡ 0 = ap length cut in record {
+      left = n ∙ sym (ap length other);
+      agree = λ k le lt. absurd (omega (arith, n, length-drop at us));
+      are_mapped = tt;
+    }
 equivalent_from r q us vs at [] [] (i ∷ is) js cut other same mate e = absurd cc
 equivalent_from r q us vs at [] [] [] (j ∷ js) cut other same mate e = absurd cc
 equivalent_from r q us vs at [] (d ∷ ds) is js cut other same mate e = absurd cc
@@ -334,4 +343,8 @@ equivalent_from r q us vs at (c ∷ cs) (d ∷ ds) is js cut other same mate e =
 
 pub equivalent_from_same : (r q : Maps) (us vs : List ℕ) (is js : List Index) → AreStored us is → AreStored vs js → Same r q (parts_in us) (parts_in vs) is js → AreEquivalent r q us vs is js
 equivalent_from_same r q us vs is js s t e =
-    let a : PiecesEqualMapped r q us vs 0 is js = equivalent_from r q us vs 0 (cuts_in us) (cuts_in vs) is js s.cut t.cut s.places t.places e in record { count = a.left; agree = a.agree; are_mapped = a.are_mapped }
+    let a : PiecesEqualMapped r q us vs 0 is js = equivalent_from r q us vs 0 (cuts_in us) (cuts_in vs) is js s.cut t.cut s.places t.places e in record {
+      count = a.left;
+      agree = a.agree;
+      are_mapped = a.are_mapped;
+    }

@@ -18,7 +18,13 @@ row_says : (rows : List Row) (d : Row) → AreRows rows → (op : ℕ) → op < 
 row_says rows d table op small = sym (get_or-map meant rows op d) ∙ ap (λ all. get_or all op (meant d)) table.each ∙ get_or-map-range_with_len row_meant 0 256 op op (meant d) small (zero-add op)
 
 pub row_is : (rows : List Row) (d : Row) → AreRows rows → (op : ℕ) → op < 256 → IsRowOf op (get_or rows op d)
-row_is rows d table op small = let says = row_says rows d table op small in record { format = ap (λ x. x.0) says; index = ap (λ x. x.1) says; units = ap (λ x. x.2) says; branches = ap (λ x. x.3) says; greatest = ap (λ x. x.4) says }
+row_is rows d table op small = let says = row_says rows d table op small in record {
+  format = ap (λ x. x.0) says;
+  index = ap (λ x. x.1) says;
+  units = ap (λ x. x.2) says;
+  branches = ap (λ x. x.3) says;
+  greatest = ap (λ x. x.4) says;
+}
 
 -- the text at an opcode is its mnemonic
 pub mnemonic_is : (texts : List (Bor (List ℕ))) (d : Bor (List ℕ)) → AreMnemonics texts → (op : ℕ) → op < 256 → (get_or texts op d).now ≡ mnemonic_of op

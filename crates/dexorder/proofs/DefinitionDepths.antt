@@ -16,11 +16,14 @@ module _ (D : List Definition) (classes : List (List ℕ)) (h : AreClassesOf D c
   same_under zero i lt = refl
   same_under (suc n) i lt =
       let both = h.parents i lt in
-      same_from_decides (is_under classes (suc n) i) (is_below D (suc n) (name_at D i)) (λ e. list_all-from_members (is_below D n) (above D (name_at D i)) (λ name c.
-      let s = Contains-map_source (name_at D) (parents_of classes i) name ((both name).1 c) in
-      ap (is_below D n) (sym s.2) ∙ sym (same_under n s.0 (parent_within classes h.within i s.0 lt s.1)) ∙ list_all-member (is_under classes n) (parents_of classes i) s.0 e s.1), λ e. list_all-from_members (is_under classes n) (parents_of classes i) (λ p c.
-      same_under n p (parent_within classes h.within i p lt c)
-      ∙ list_all-member (is_below D n) (above D (name_at D i)) (name_at D p) e ((both (name_at D p)).0 (Contains-map (name_at D) (parents_of classes i) p c)))) (λ e. e, λ e. e)
+      same_from_decides (is_under classes (suc n) i) (is_below D (suc n) (name_at D i)) (
+        λ e. list_all-from_members (is_below D n) (above D (name_at D i)) (λ name c.
+            let s = Contains-map_source (name_at D) (parents_of classes i) name ((both name).1 c) in
+            ap (is_below D n) (sym s.2) ∙ sym (same_under n s.0 (parent_within classes h.within i s.0 lt s.1)) ∙ list_all-member (is_under classes n) (parents_of classes i) s.0 e s.1),
+        λ e. list_all-from_members (is_under classes n) (parents_of classes i) (λ p c.
+            same_under n p (parent_within classes h.within i p lt c)
+            ∙ list_all-member (is_below D n) (above D (name_at D i)) (name_at D p) e ((both (name_at D p)).0 (Contains-map (name_at D) (parents_of classes i) p c))),
+      ) (λ e. e, λ e. e)
 
   -- if a class has a depth, its definition has the same depth
   pub has_depth : (i d : ℕ) → i < length classes → IsDepth classes i d → HasDepth D (name_at D i)

@@ -83,17 +83,26 @@ module _ (classes : List (List ℕ)) (within : AreWithin classes) where
   lesser (suc d) i lt h =
       let s = parent_greatest classes i d h in
       let less = parent_within i s.0 lt s.1 in
-      let r = lesser d s.0 less s.2 in
-      (s.0 ∷ r.0, ap suc r.1, AreDistinct-cons s.0 r.0 (λ c. both_ways (is_under classes d s.0) s.2.not_under (r.3 s.0 c).1) r.2, λ x c. elim (Contains-cons_cases s.0 x r.0 c) [
-        | inl e ↦ subst (λ y. (y < length classes) × (is_under classes (suc d) y ≡ true)) e (less, s.2.under)
-        | inr l ↦ ((r.3 x l).0, is_under-suc classes d x (r.3 x l).1)
-      ])
+      let r = lesser d s.0 less s.2 in (
+        s.0 ∷ r.0,
+        ap suc r.1,
+        AreDistinct-cons s.0 r.0 (λ c. both_ways (is_under classes d s.0) s.2.not_under (r.3 s.0 c).1) r.2,
+        λ x c. elim (Contains-cons_cases s.0 x r.0 c) [
+          | inl e ↦ subst (λ y. (y < length classes) × (is_under classes (suc d) y ≡ true)) e (less, s.2.under)
+          | inr l ↦ ((r.3 x l).0, is_under-suc classes d x (r.3 x l).1)
+        ],
+      )
 
   -- so a depth is less than the number of classes
   pub depth_less : (i d : ℕ) → i < length classes → IsDepth classes i d → d < length classes
   depth_less i d lt h =
       let r = lesser d i lt h in
-      omega (arith, r.1, length-range_with_len 0 (length classes), length-among (i ∷ r.0) (range_with_len 0 (length classes)) (AreDistinct-cons i r.0 (λ c. both_ways (is_under classes d i) h.not_under (r.3 i c).1) r.2) (λ x c. elim (Contains-cons_cases i x r.0 c) [
-        | inl e ↦ Contains-range 0 (length classes) x (omega arith) (omega (arith, e))
-        | inr l ↦ Contains-range 0 (length classes) x (omega arith) (omega (arith, (r.3 x l).0))
-      ]))
+      omega (
+        arith,
+        r.1,
+        length-range_with_len 0 (length classes),
+        length-among (i ∷ r.0) (range_with_len 0 (length classes)) (AreDistinct-cons i r.0 (λ c. both_ways (is_under classes d i) h.not_under (r.3 i c).1) r.2) (λ x c. elim (Contains-cons_cases i x r.0 c) [
+          | inl e ↦ Contains-range 0 (length classes) x (omega arith) (omega (arith, e))
+          | inr l ↦ Contains-range 0 (length classes) x (omega arith) (omega (arith, (r.3 x l).0))
+        ]),
+      )

@@ -64,7 +64,12 @@ module _ {R : Type 0} (old : List R) (marks : List Bool) (i count : ℕ) (rows :
       }
 
   pub cut_past : get_or marks i false ≡ false → IsCutTo old marks (i + 1) count rows
-  cut_past unmarked = record { so_far = leaves marks old i any lt sized (take count rows) unmarked h.so_far; rest = rest_more old rows i h.rest; size = h.size; within = omega (arith, h.within) }
+  cut_past unmarked = record {
+    so_far = leaves marks old i any lt sized (take count rows) unmarked h.so_far;
+    rest = rest_more old rows i h.rest;
+    size = h.size;
+    within = omega (arith, h.within);
+  }
 
 -- ---- places
 

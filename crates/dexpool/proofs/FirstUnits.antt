@@ -25,7 +25,12 @@ known_letter (suc (suc (suc (suc (suc (suc (suc (suc i)))))))) l lt e = absurd (
 
 primitive_first : (t : Text) → IsPrimitive t → IsOther (first_of t)
 primitive_first t h = let e : first_of t ≡ h.letter = ap first_of h.is in
-    let o = known_letter h.known.0 h.letter h.known.1 h.known.2 in record { void = λ x. o.void (sym e ∙ x); class = λ x. o.class (sym e ∙ x); array = λ x. o.array (sym e ∙ x); ascii = subst IsAscii (sym e) o.ascii }
+    let o = known_letter h.known.0 h.letter h.known.1 h.known.2 in record {
+      void = λ x. o.void (sym e ∙ x);
+      class = λ x. o.class (sym e ∙ x);
+      array = λ x. o.array (sym e ∙ x);
+      ascii = subst IsAscii (sym e) o.ascii;
+    }
 
 void_first : (t : Text) → IsVoid t → first_of t ≡ 0x56
 void_first t h = ap first_of h

@@ -29,11 +29,29 @@ some_same : (m n : ℕ) → Some m ≡ Some n → m ≡ n
 some_same m n e = cc
 
 is_at_later : {R : Type 0} (mark : Bool) (marks : List Bool) (row : R) (rows : List R) (i n m place : ℕ) → (mark ≡ true → m ≡ n + 1) → (mark ≡ false → m ≡ n) → IsKeptAt marks rows i m place → IsKeptAt (mark ∷ marks) (row ∷ rows) (suc i) n place
-is_at_later true marks row rows i n m place up same h = record { among = suc h.among; place_is = omega (arith, h.place_is, up refl); marked = h.marked; within = omega (arith, h.within); same = h.same }
-is_at_later false marks row rows i n m place up same h = record { among = h.among; place_is = omega (arith, h.place_is, same refl); marked = h.marked; within = h.within; same = h.same }
+is_at_later true marks row rows i n m place up same h = record {
+  among = suc h.among;
+  place_is = omega (arith, h.place_is, up refl);
+  marked = h.marked;
+  within = omega (arith, h.within);
+  same = h.same;
+}
+is_at_later false marks row rows i n m place up same h = record {
+  among = h.among;
+  place_is = omega (arith, h.place_is, same refl);
+  marked = h.marked;
+  within = h.within;
+  same = h.same;
+}
 
 pub is_at : {R : Type 0} (marks : List Bool) (rows : List R) (i n place : ℕ) (o : Option ℕ) → length marks ≡ length rows → i < length marks → get_or (places n marks) i o ≡ Some place → IsKeptAt marks rows i n place
-is_at (true ∷ marks) (row ∷ rows) zero n place o e lt is = record { among = 0; place_is = omega (arith, some_same n place is); marked = λ d. refl; within = omega arith; same = λ d. refl }
+is_at (true ∷ marks) (row ∷ rows) zero n place o e lt is = record {
+  among = 0;
+  place_is = omega (arith, some_same n place is);
+  marked = λ d. refl;
+  within = omega arith;
+  same = λ d. refl;
+}
 is_at (true ∷ marks) (row ∷ rows) (suc i) n place o e lt is = is_at_later true marks row rows i n (suc n) place (λ t. omega arith) (λ f. absurd cc) (is_at marks rows i (suc n) place o (omega arith) (omega arith) is)
 is_at (false ∷ marks) (row ∷ rows) zero n place o e lt is = absurd cc
 is_at (false ∷ marks) (row ∷ rows) (suc i) n place o e lt is = is_at_later false marks row rows i n n place (λ t. absurd cc) (λ f. refl) (is_at marks rows i n place o (omega arith) (omega arith) is)

@@ -32,7 +32,13 @@ module _ (m : Mentions) (marks : Marks) (count : AreMarksOf m marks) where
   numbering_kept all =
       let fs = list_kept marks.fields.items m.fields count.fields_count all.fields_marked in
       let xs = list_kept marks.methods.items m.methods count.methods_count all.methods_marked in
-      λ i. record { texts = (list_kept marks.strings.items m.texts count.strings_count all.strings_marked) i; types = (list_kept marks.types.items m.types count.types_count all.types_marked) i; protos = (list_kept marks.protos.items m.protos count.protos_count all.protos_marked) i; fields = fs i; methods = xs i }
+      λ i. record {
+        texts = (list_kept marks.strings.items m.texts count.strings_count all.strings_marked) i;
+        types = (list_kept marks.types.items m.types count.types_count all.types_marked) i;
+        protos = (list_kept marks.protos.items m.protos count.protos_count all.protos_marked) i;
+        fields = fs i;
+        methods = xs i;
+      }
 
   have_all_marks : kept_symbols marks m ≡ m → HaveAllMarks marks
   have_all_marks e = record {

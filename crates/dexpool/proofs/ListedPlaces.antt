@@ -11,4 +11,8 @@ some_placed b o n s room ne start end =
     let aligned : 2 * s.start ≡ o + 4 = omega (arith, room.aligned, start) in
     let within : HasSpan (file_numbers b) s = record { ordered = omega (arith, end); within = omega (arith, end, aligned, room.in_data.within, room.count, length-ushorts_at b 0 (length b / 2)) } in
     let count : s.end - s.start ≡ uint_at b o = omega (arith, end, room.count) in
-    record { room = λ some. subst (HasRoom b o) room.count room; span = within; is = part_of_file b s within ∙ (λ i. ushorts_at b (aligned i) (count i)) ∙ sym (listed_is b o ne) }
+    record {
+      room = λ some. subst (HasRoom b o) room.count room;
+      span = within;
+      is = part_of_file b s within ∙ (λ i. ushorts_at b (aligned i) (count i)) ∙ sym (listed_is b o ne);
+    }

@@ -24,7 +24,11 @@ module _ (b : List ℕ) (texts : List Text) (types ps : List ℕ) (protos : List
   are_pools = record {
     texts_are = record { count = h.names.texts_are.count; each = h.names.texts_are.each };
     types_are = mapped _ _ _ (text_of texts) 0 b types _ (λ k z s. s.is) h.names.types_are;
-    protos_are = mapped _ _ _ (proto_of texts types ps) (record { shorty = 0; return_type = 0; parameters = record { start = 0; end = 0 } }) b protos _ (λ k z s. s.is) h.protos_are;
+    protos_are = mapped _ _ _ (proto_of texts types ps) (record {
+      shorty = 0;
+      return_type = 0;
+      parameters = record { start = 0; end = 0 };
+    }) b protos _ (λ k z s. s.is) h.protos_are;
     fields_are = mapped _ _ _ (field_of texts types) (record { class = 0; name = 0; typ = 0 }) b fields _ (λ k z s. s.is) h.fields_are;
     methods_are = mapped _ _ _ (method_of texts types ps protos) (record { class = 0; name = 0; proto = 0 }) b methods _ (λ k z s. s.is) h.methods_are;
   }
@@ -61,7 +65,11 @@ module _ (texts : List Text) (types ps : List ℕ) (protos : List ProtoEntry) (b
           class = subst (λ k. TypeRow b k of.class) (sym n.class) (subst (TypeRow b m.class) c.is c.row);
           proto = subst (λ k. rows.ProtoRow b k of.proto) (sym n.proto) proto;
           name = subst (λ k. StringRow b k of.name) (sym n.name) (subst (StringRow b m.name) s.is s.row);
-          formed = record { class = subst IsReferenceType c.is formed.class_is; name = subst IsMemberName s.is formed.name_is; proto = record { return_type = proto.return_type.descriptor; parameters = proto.values } };
+          formed = record {
+            class = subst IsReferenceType c.is formed.class_is;
+            name = subst IsMemberName s.is formed.name_is;
+            proto = record { return_type = proto.return_type.descriptor; parameters = proto.values };
+          };
         };
       }
 
@@ -205,9 +213,21 @@ read_tables b t h =
     record {
       texts_rise = texts_rise b t.strings.items h.names.texts_are;
       types_rise = rows_rise (TypeRowAt t.strings.items) HasType b type_row_key (λ n. n ∷ []) (type_key_is t.strings.items b) (λ k r. r.follows) t.types.items _ 0 h.names.types_are;
-      protos_rise = rows_rise (ProtoRowAt t.strings.items t.types.items ps) HasProto b proto_row_key (proto_key ps) (proto_key_is t.strings.items t.types.items ps b) (λ k r. r.follows) t.protos.items _ (record { shorty = 0; return_type = 0; parameters = record { start = 0; end = 0 } }) h.protos_are;
-      fields_rise = rows_rise (FieldRowAt t.strings.items t.types.items) HasField b field_row_key field_key (field_key_is t.strings.items t.types.items b) (λ k r. r.follows) t.fields.items _ (record { class = 0; name = 0; typ = 0 }) h.fields_are;
-      methods_rise = rows_rise (MethodRowAt t.strings.items t.types.items ps t.protos.items) HasMethod b method_row_key method_key (method_key_is t.strings.items t.types.items ps t.protos.items b) (λ k r. r.follows) t.methods.items _ (record { class = 0; name = 0; proto = 0 }) h.methods_are;
+      protos_rise = rows_rise (ProtoRowAt t.strings.items t.types.items ps) HasProto b proto_row_key (proto_key ps) (proto_key_is t.strings.items t.types.items ps b) (λ k r. r.follows) t.protos.items _ (record {
+        shorty = 0;
+        return_type = 0;
+        parameters = record { start = 0; end = 0 };
+      }) h.protos_are;
+      fields_rise = rows_rise (FieldRowAt t.strings.items t.types.items) HasField b field_row_key field_key (field_key_is t.strings.items t.types.items b) (λ k r. r.follows) t.fields.items _ (record {
+        class = 0;
+        name = 0;
+        typ = 0;
+      }) h.fields_are;
+      methods_rise = rows_rise (MethodRowAt t.strings.items t.types.items ps t.protos.items) HasMethod b method_row_key method_key (method_key_is t.strings.items t.types.items ps t.protos.items b) (λ k r. r.follows) t.methods.items _ (record {
+        class = 0;
+        name = 0;
+        proto = 0;
+      }) h.methods_are;
       types_at_ranks = λ k d lt. type_number b t h.names k (get_or t.types.items k d) (h.names.types_are.each k d (omega (arith, lt, h.names.types_are.count)));
       protos_at_ranks = λ k d lt. proto_entry b t h.names k (get_or t.protos.items k d) (h.protos_are.each k d (omega (arith, lt, h.protos_are.count)));
       fields_at_ranks = λ k d lt. field_row b t h.names k (get_or t.fields.items k d) (h.fields_are.each k d (omega (arith, lt, h.fields_are.count)));

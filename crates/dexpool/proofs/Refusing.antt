@@ -22,4 +22,8 @@ hold_next b c before holds d lt = elim (cases_lt (number d) (number c)) [
 -- the first row at which a condition of the pools fails
 pub refused : (b : List ℕ) (c : Condition) (r : ℕ) → IsOfPools c b r → HoldBelow (number c) b → r < rows_checked c b
     → ((k : ℕ) → k < r → Holds c b k) → (Holds c b r → ⊥) → IsPoolRefusal b (record { number = number c; place = r })
-refused b c r of before row rows fails = record { refused = (c, r, refl, of.reported, inl (omega (arith, of.most), record { before = before; row = row; rows = rows; fails = fails })); least = of.least; most = of.most }
+refused b c r of before row rows fails = record {
+  refused = (c, r, refl, of.reported, inl (omega (arith, of.most), record { before = before; row = row; rows = rows; fails = fails }));
+  least = of.least;
+  most = of.most;
+}

@@ -14,7 +14,11 @@ module _ (t : Tables) (h : AreTables t) where
 
   -- the entry's numbers are those of its proto's parts
   pub entry_encoded : (p : ProtoEntry) → IsProtoEntry t p → DenotesProto (symbols_in t) (record { shorty = p.shorty; return_type = p.return_type; parameters = span_of t.parameters p.parameters }) (proto_of t.strings.items t.types.items t.parameters p)
-  entry_encoded p k = record { shorty_is = subst (IsAt t.strings.items p.shorty) k.shorty_is (text_at p.shorty k.shorty_in); return_is = type_at p.return_type k.return_in; parameters_are = types_at (span_of t.parameters p.parameters) k.parameters_in }
+  entry_encoded p k = record {
+    shorty_is = subst (IsAt t.strings.items p.shorty) k.shorty_is (text_at p.shorty k.shorty_in);
+    return_is = type_at p.return_type k.return_in;
+    parameters_are = types_at (span_of t.parameters p.parameters) k.parameters_in;
+  }
 
   -- and so those of the proto of its row
   pub row_encoded : (i : ℕ) (p : ProtoEntry) (r : ProtoNumbers) (d : Proto) → i < length (symbols_in t).protos → p ≡ get_or t.protos.items i p → r ≡ record { shorty = p.shorty; return_type = p.return_type; parameters = span_of t.parameters p.parameters }

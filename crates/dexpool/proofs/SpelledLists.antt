@@ -46,7 +46,14 @@ module _ (b : List ℕ) (texts : List Text) (types letters : List ℕ) (names : 
   list_encoded : (o : ℕ) (s : Span) → IsPlaced b o s → NoVoid letters (listed b o) → OrNone TypeListAt [] b o (map (type_of texts types) (listed b o))
   list_encoded o s placed h = elim (cases_eq o 0) [
     | inl none ↦ inl (none, ap (λ (n : ℕ). map (type_of texts types) (listed b n)) none)
-    | inr some ↦ inr (some, record { in_data = (placed.room some).in_data; aligned = (placed.room some).aligned; types = subst (λ (l : List ℕ). AllZip (TypeRow b) l (map (type_of texts types) (listed b o))) (listed_is b o some) (spelled_rows (listed b o) h) })
+    | inr some ↦ inr (
+      some,
+      record {
+        in_data = (placed.room some).in_data;
+        aligned = (placed.room some).aligned;
+        types = subst (λ (l : List ℕ). AllZip (TypeRow b) l (map (type_of texts types) (listed b o))) (listed_is b o some) (spelled_rows (listed b o) h);
+      },
+    )
   ]
 
   -- a list whose letters are spelled
@@ -54,7 +61,11 @@ module _ (b : List ℕ) (texts : List Text) (types letters : List ℕ) (names : 
   spelled_checked o j text ns placed is part h =
       let no_void : NoVoid letters (listed b o) = subst (NoVoid letters) (part ∙ placed.is) h.no_void in
       record {
-        listed = record { parameters = record { list = list_encoded o j.span placed no_void; values = spelled_values (listed b o) no_void }; span = placed.span; is = placed.is };
+        listed = record {
+          parameters = record { list = list_encoded o j.span placed no_void; values = spelled_values (listed b o) no_void };
+          span = placed.span;
+          is = placed.is;
+        };
         shorty = sym is ∙ h.text_is ∙ ap (λ (l : List ℕ). j.letter ∷ l) (spelled_letters ns h.no_void ∙ ap (letters_of texts types) part);
       }
 

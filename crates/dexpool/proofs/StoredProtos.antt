@@ -17,7 +17,11 @@ span_is new old l s grown start end =
 
 module _ (old new more : List ℕ) (grown : new ≡ old ++ more) where
   kept_row : (p : ProtoEntry) → HasSpan old p.parameters → numbers_of new p ≡ numbers_of old p
-  kept_row p h = λ i. record { shorty = p.shorty; return_type = p.return_type; parameters = (ap (λ (ps : List ℕ). span_of ps p.parameters) grown ∙ span_grown old more p.parameters h) i }
+  kept_row p h = λ i. record {
+    shorty = p.shorty;
+    return_type = p.return_type;
+    parameters = (ap (λ (ps : List ℕ). span_of ps p.parameters) grown ∙ span_grown old more p.parameters h) i;
+  }
 
   -- earlier rows stay
   kept_rows : (ps : List ProtoEntry) → All (λ p. HasSpan old p.parameters) ps → map (numbers_of new) ps ≡ map (numbers_of old) ps
@@ -27,7 +31,11 @@ module _ (old new more : List ℕ) (grown : new ≡ old ++ more) where
   module _ (ps qs : List ProtoEntry) (p : ProtoEntry) (spans : All (λ q. HasSpan old q.parameters) ps) (pushed : qs ≡ ps ++ p ∷ []) (start : p.parameters.start ≡ length old) (end : p.parameters.end ≡ length new) where
     pub rows_more : map (numbers_of new) qs ≡ map (numbers_of old) ps ++ record { shorty = p.shorty; return_type = p.return_type; parameters = more } ∷ []
     rows_more =
-        let row : numbers_of new p ≡ record { shorty = p.shorty; return_type = p.return_type; parameters = more } = λ i. record { shorty = p.shorty; return_type = p.return_type; parameters = (span_is new old more p.parameters grown start end) i } in
+        let row : numbers_of new p ≡ record { shorty = p.shorty; return_type = p.return_type; parameters = more } = λ i. record {
+          shorty = p.shorty;
+          return_type = p.return_type;
+          parameters = (span_is new old more p.parameters grown start end) i;
+        } in
         ap (map (numbers_of new)) pushed ∙ map-append (numbers_of new) ps (p ∷ []) ∙ (λ i. kept_rows ps spans i ++ row i ∷ [])
 
     pub spans_more : All (λ q. HasSpan new q.parameters) qs

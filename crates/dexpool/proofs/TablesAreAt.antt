@@ -8,7 +8,12 @@ module _ (t : Tables) where
   -- ---- the numbers of rows in range
 
   pub entry_numbers : (p : ProtoEntry) → IsProtoEntry t p → IsEntryWithin (length t.strings.items) (length t.types.items) t.parameters p
-  entry_numbers p h = record { shorty_in = h.shorty_in; return_in = h.return_in; span = h.span; parameters_in = All-weaker (IsTypeOf IsValueType t) (λ k. k < length t.types.items) (λ n k. k.type_in) (span_of t.parameters p.parameters) h.parameters_in }
+  entry_numbers p h = record {
+    shorty_in = h.shorty_in;
+    return_in = h.return_in;
+    span = h.span;
+    parameters_in = All-weaker (IsTypeOf IsValueType t) (λ k. k < length t.types.items) (λ n k. k.type_in) (span_of t.parameters p.parameters) h.parameters_in;
+  }
 
   pub field_numbers : (f : FieldRow) → IsFieldRow t f → IsFieldWithin (length t.strings.items) (length t.types.items) f
   field_numbers f h = record { class_in = h.class_is.type_in; name_in = h.name_in; type_in = h.type_is.type_in }

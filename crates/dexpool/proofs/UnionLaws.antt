@@ -32,7 +32,13 @@ module _ {K : Type 0} (R : K → K → Ordering) (o : IsTotalOrder R) where
       down x c =
           let w = source (flat_map (λ D. D) Ds) x c in
           let s = Contains-flat_map_source (λ (D : List Definition). D) Ds w.definition w.member in
-          Contains-flat_map of (map mentions Ds) (mentions s.0) x (Contains-map mentions Ds s.0 s.1) (listed s.0 x (record { definition = w.definition; symbol = w.symbol; member = s.2; occurs = w.occurs; part = w.part }))
+          Contains-flat_map of (map mentions Ds) (mentions s.0) x (Contains-map mentions Ds s.0 s.1) (listed s.0 x (record {
+            definition = w.definition;
+            symbol = w.symbol;
+            member = s.2;
+            occurs = w.occurs;
+            part = w.part;
+          }))
 
       -- a symbol of a part occurs in the whole
       up : (x : K) → Contains (flat_map of (map mentions Ds)) x → Contains (of (mentions (flat_map (λ D. D) Ds))) x
@@ -40,7 +46,13 @@ module _ {K : Type 0} (R : K → K → Ordering) (o : IsTotalOrder R) where
           let s = Contains-flat_map_source of (map mentions Ds) x c in
           let d = Contains-map_source mentions Ds s.0 s.1 in
           let w = source d.0 x (subst (λ m. Contains (of m) x) (sym d.2) s.2) in
-          listed (flat_map (λ D. D) Ds) x (record { definition = w.definition; symbol = w.symbol; member = Contains-flat_map (λ (D : List Definition). D) Ds d.0 w.definition d.1 w.member; occurs = w.occurs; part = w.part })
+          listed (flat_map (λ D. D) Ds) x (record {
+            definition = w.definition;
+            symbol = w.symbol;
+            member = Contains-flat_map (λ (D : List Definition). D) Ds d.0 w.definition d.1 w.member;
+            occurs = w.occurs;
+            part = w.part;
+          })
 
       joined : of (mentions (flat_map (λ D. D) Ds)) ≡ in_order R (flat_map of (map mentions Ds))
       joined = Rises-same R o (of (mentions (flat_map (λ D. D) Ds))) (in_order R (flat_map of (map mentions Ds)))

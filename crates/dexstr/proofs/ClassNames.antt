@@ -91,7 +91,12 @@ class_from s e =
     record {
       name = join_with_byte 0x2f (ends.part ∷ ends.parts);
       is = ends.is;
-      named = record { parts = ends.part ∷ ends.parts; some = omega arith; names = All-cons IsMemberName ends.part ends.parts (record { some = ends.some refl; units = ends.units }) ends.names; joined = refl };
+      named = record {
+        parts = ends.part ∷ ends.parts;
+        some = omega arith;
+        names = All-cons IsMemberName ends.part ends.parts (record { some = ends.some refl; units = ends.units }) ends.names;
+        joined = refl;
+      };
     }
 
 class_parts : (parts : List Text) → 0 < length parts → All IsMemberName parts → ends_class false (join_with_byte 0x2f parts ++ 0x3b ∷ []) ≡ true

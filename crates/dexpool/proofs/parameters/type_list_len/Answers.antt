@@ -13,4 +13,8 @@ returns-then-not-is_in_data-2 c = λ n h.
 pub returns : goal.returns
 returns c =
     let count = count_is c.args.frame.now c.rest.result.now c.args.off _ c.u32_at-count.ensures c.rest.ensures in
-    record { count = count; in_data = subst (λ m. IsInData c.args.frame.now c.args.off (4 + 2 * m)) (c.from.ensures ∙ count) (c.if-not-is_in_data-2.ensures.0 refl); aligned = omega arith }
+    record {
+      count = count;
+      in_data = subst (λ m. IsInData c.args.frame.now c.args.off (4 + 2 * m)) (c.from.ensures ∙ count) (c.if-not-is_in_data-2.ensures.0 refl);
+      aligned = omega arith;
+    }

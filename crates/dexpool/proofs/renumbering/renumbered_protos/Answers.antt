@@ -25,9 +25,17 @@ loop-i-preserved c =
     let p = c.index-entry.result.now in
     let moved = c.renumbered.result in
     let more = map (slice_index c.args.types.now) c.part.result in
-    let entry : ProtoEntry = record { shorty = slice_index strings p.shorty; return_type = slice_index c.args.types.now p.return_type; parameters = record { start = c.len-start.result; end = c.len-end.result } } in
+    let entry : ProtoEntry = record {
+      shorty = slice_index strings p.shorty;
+      return_type = slice_index c.args.types.now p.return_type;
+      parameters = record { start = c.len-start.result; end = c.len-end.result };
+    } in
     let numbers : ProtoNumbers = record { shorty = entry.shorty; return_type = entry.return_type; parameters = more } in
-    let row : numbers ≡ moved_proto strings c.args.types.now c.args.parameters.now p = λ k. record { shorty = entry.shorty; return_type = entry.return_type; parameters = map (slice_index c.args.types.now) (c.part.ensures k) } in
+    let row : numbers ≡ moved_proto strings c.args.types.now c.args.parameters.now p = λ k. record {
+      shorty = entry.shorty;
+      return_type = entry.return_type;
+      parameters = map (slice_index c.args.types.now) (c.part.ensures k);
+    } in
     let pushed : take (c.loop-i.i + 1) (set rows c.loop-i.i moved) ≡ take c.loop-i.i rows ++ entry ∷ [] = take_more_set rows c.loop-i.i moved (omega (arith, lt, h.size)) ∙ ap (λ (q : ProtoEntry). take c.loop-i.i rows ++ q ∷ []) c.renumbered.ensures in
     let start : c.len-start.result ≡ length c.loop-i.moved.items = omega (arith, c.len-start.ensures, c.loop-i.moved.ok.0) in
     let end : c.len-end.result ≡ length c.push_images.new.to.items = omega (arith, c.len-end.ensures, c.push_images.new.to.ok.0) in

@@ -11,4 +11,10 @@ invariant_of-result c = record {
 }
 
 pub returns : goal.returns
-returns c = λ i. record { texts = c.in_ok-total.ensures i; types = c.in_ok-total-2.ensures i; protos = c.in_ok-total-3.ensures i; fields = c.in_ok-total-4.ensures i; methods = c.in_ok-total-5.ensures i }
+returns c = λ i. record {
+  texts = c.in_ok-total.ensures i;
+  types = c.in_ok-total-2.ensures i;
+  protos = c.in_ok-total-3.ensures i;
+  fields = c.in_ok-total-4.ensures i;
+  methods = c.in_ok-total-5.ensures i;
+}

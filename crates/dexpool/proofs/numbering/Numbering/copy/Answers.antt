@@ -3,7 +3,14 @@ use Rattle.dexpool.proofs.SameTables.{HaveSameRows, same_symbols, same_tables}
 use Rattle.dexpool.proofs.numbering.Numbering.copy.Goals as goal
 
 abbrev copies : (c : goal.In_ok-from_slice-4) → Tables
-copies c = record { strings = c.in_ok-copied.field-0; types = c.in_ok-from_slice.field-0; protos = c.in_ok-from_slice-2.field-0; parameters = c.in_ok-copy.field-0; fields = c.in_ok-from_slice-3.field-0; methods = c.in_ok-from_slice-4.field-0 }
+copies c = record {
+  strings = c.in_ok-copied.field-0;
+  types = c.in_ok-from_slice.field-0;
+  protos = c.in_ok-from_slice-2.field-0;
+  parameters = c.in_ok-copy.field-0;
+  fields = c.in_ok-from_slice-3.field-0;
+  methods = c.in_ok-from_slice-4.field-0;
+}
 
 same_rows : (c : goal.In_ok-from_slice-4) → HaveSameRows c.self.inside.tables (copies c)
 same_rows c = record {

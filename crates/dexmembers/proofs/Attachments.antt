@@ -61,9 +61,9 @@ fields_attached {xs} {ys} {es} {fs} sets p q rise h =
     ap (map (field_of sets)) (h (subst (λ (l : List (ℕ × ℕ)). EntriesRise l) (sym q) rise) ∙ (λ i. map (held_field (q i)) (p i))) ∙ fields_looked_up sets fs ys
 
 -- the methods
-pub methods_attached : {xs ys : List MethodRead} {es fs ls ks : List (ℕ × ℕ)} {held : List HeldMethod} (t : NumberedTable) (cs : List (Option NumberedItem)) → xs ≡ ys → es ≡ fs → ls ≡ ks → EntriesRise fs → EntriesRise ks → length cs ≡ length ys
-    → (EntriesRise es → EntriesRise ls → length cs ≡ length xs → held ≡ zip_with (held_method es ls) xs cs)
+pub methods_attached : {xs ys : List MethodRead} {es fs ls ks : List (ℕ × ℕ)} {held : List HeldMethod} (t : NumberedTable) (cs : List (Option NumberedItem)) → xs ≡ ys → es ≡ fs → ls ≡ ks → EntriesRise fs → EntriesRise ks
+    → (EntriesRise es → EntriesRise ls → held ≡ zip_with (held_method es ls) xs cs)
     → map (method_of t) held ≡ zip_with (method_with (map (λ (e : ℕ × ℕ). (e.0, set_at t.sets (Some e.1))) fs) (map (λ (e : ℕ × ℕ). (e.0, sets_at t (Some e.1))) ks)) ys cs
-methods_attached {xs} {ys} {es} {fs} {ls} {ks} t cs p q e rise rise' many h =
-    ap (map (method_of t)) (h (subst (λ (l : List (ℕ × ℕ)). EntriesRise l) (sym q) rise) (subst (λ (l : List (ℕ × ℕ)). EntriesRise l) (sym e) rise') (many ∙ ap length (sym p)) ∙ (λ i. zip_with (held_method (q i) (e i)) (p i) cs))
+methods_attached {xs} {ys} {es} {fs} {ls} {ks} t cs p q e rise rise' h =
+    ap (map (method_of t)) (h (subst (λ (l : List (ℕ × ℕ)). EntriesRise l) (sym q) rise) (subst (λ (l : List (ℕ × ℕ)). EntriesRise l) (sym e) rise') ∙ (λ i. zip_with (held_method (q i) (e i)) (p i) cs))
     ∙ methods_looked_up t fs ks ys cs

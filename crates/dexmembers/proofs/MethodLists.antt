@@ -1,8 +1,8 @@
 -- Methods as they are stored, with their code beside them.
-use Rattle.dexmembers.proofs.Common.{◌≡◌, ◌⊎◌, ℕ, zero, suc, ◌<◌, List, [], ◌∷◌, ◌++◌, get_or, length, map, refl, sym, ap, ◌∙◌, subst, arith, inl, inr, Option, Some, None, All, IfSome, option_map, cases_lt, length-map, length-append, get_or-map, map-append, All-map, All-push, All-head, All-tail, Contains, Contains-first, Contains-append_left, Contains-append_right, Maps, NumberedItem, HasPlaces, renumbered_item, IsPlaceIn, map_both, Bor, MatchOption}
+use Rattle.dexmembers.proofs.Common.{◌≡◌, ◌⊎◌, ℕ, zero, suc, ◌<◌, List, [], ◌∷◌, ◌++◌, get_or, length, map, refl, sym, ap, ◌∙◌, subst, arith, inl, inr, Option, Some, None, All, IfSome, option_map, cases_lt, length-map, length-append, get_or-map, map-append, All-push, All-head, All-tail, Contains, Contains-first, Contains-append_left, Contains-append_right, Maps, NumberedItem, HasPlaces, renumbered_item, IsPlaceIn, map_both, Bor, MatchOption}
 use Rattle.std.proofs.lemmas.Option.{slice_get-get_or}
-use Rattle.dexmembers.specs.{StoredMethod, HaveCodes, code_at, held_in, held_with, remapped_method, remapped_stored, IsHeldMethodMapped, IsStoredMethodMapped, stripped_code, stripped_held}
-use Rattle.dexmembers.specs.internal.Attaching.{IsKept}
+use Rattle.dexmembers.specs.{StoredMethod, ArePlacesOf, code_places, code_at, held_in, held_with, remapped_method, remapped_stored, IsHeldMethodMapped, IsStoredMethodMapped, stripped_code, stripped_held}
+use Rattle.dexmembers.specs.internal.MethodCodes.{IsKept}
 use Rattle.dexmembers.proofs.RenumberingLists.{all_seen, both_ways}
 
 -- ---- code at a place
@@ -27,12 +27,7 @@ place_more : (codes more : List NumberedItem) (place : Option ℕ) → IsPlaceIn
 place_more codes more None lt = tt
 place_more codes more (Some i) lt = omega (arith, lt, length-append codes more)
 
--- ---- one method more
-
--- maps that agree on each member
-map_agree : {X Y : Type 0} (f g : X → Y) (xs : List X) → All (λ x. f x ≡ g x) xs → map f xs ≡ map g xs
-map_agree f g [] h = refl
-map_agree f g (x ∷ xs) h = λ i. All-head (λ y. f y ≡ g y) x xs h i ∷ map_agree f g xs (All-tail (λ y. f y ≡ g y) x xs h) i
+-- ---- the code of one method more
 
 -- what is kept of code that is put at the end, or of none
 record Keeps (code : Option NumberedItem) (codes new : List NumberedItem) (place : Option ℕ) : Type 0 where
@@ -52,29 +47,34 @@ keeps (Some code) codes new place h =
       named = λ i lt. elim (cases_lt i (length codes)) [ inl less ↦ inl less | inr ge ↦ inr (ap Some (omega arith)) ];
     })
 
-module _ (codes new : List NumberedItem) (xs : List StoredMethod) (x : StoredMethod) (code : Option NumberedItem) (h : HaveCodes codes xs) (kept : IsKept code codes new x.code) where
-  pub codes_more : HaveCodes new (xs ++ x ∷ [])
-  codes_more =
-      let k = keeps code codes new x.code kept in
+-- maps that agree on each member
+map_agree : {X Y : Type 0} (f g : X → Y) (xs : List X) → All (λ x. f x ≡ g x) xs → map f xs ≡ map g xs
+map_agree f g [] h = refl
+map_agree f g (x ∷ xs) h = λ i. All-head (λ y. f y ≡ g y) x xs h i ∷ map_agree f g xs (All-tail (λ y. f y ≡ g y) x xs h) i
+
+module _ (codes new : List NumberedItem) (places : List (Option ℕ)) (place : Option ℕ) (code : Option NumberedItem) (h : ArePlacesOf codes places) (kept : IsKept code codes new place) where
+  pub places_more : ArePlacesOf new (places ++ place ∷ [])
+  places_more =
+      let k = keeps code codes new place kept in
       record {
-        held = All-push (λ (y : StoredMethod). IsPlaceIn new y.code) xs x (λ i d lt. (k.still (get_or xs i d).code (h.held i d lt)).0) k.held;
-        named = λ i lt. subst (λ (l : List (Option ℕ)). Contains l (Some i)) (sym (map-append (λ (y : StoredMethod). y.code) xs (x ∷ []))) (elim (k.named i lt) [
-          | inl old ↦ Contains-append_left (map (λ (y : StoredMethod). y.code) xs) (x.code ∷ []) (Some i) (h.named i old)
-          | inr is ↦ Contains-append_right (map (λ (y : StoredMethod). y.code) xs) (x.code ∷ []) (Some i) (subst (Contains (x.code ∷ [])) is (Contains-first x.code []))
-        ]);
+        held = All-push (IsPlaceIn new) places place (λ i d lt. (k.still (get_or places i d) (h.held i d lt)).0) k.held;
+        named = λ i lt. elim (k.named i lt) [
+          | inl old ↦ Contains-append_left places (place ∷ []) (Some i) (h.named i old)
+          | inr is ↦ Contains-append_right places (place ∷ []) (Some i) (subst (Contains (place ∷ [])) is (Contains-first place []))
+        ];
       }
 
-  pub held_more : map (held_in new) (xs ++ x ∷ []) ≡ map (held_in codes) xs ++ held_with x code ∷ []
-  held_more =
-      let k = keeps code codes new x.code kept in
-      let old = map_agree (held_in new) (held_in codes) xs (λ i d lt. ap (held_with (get_or xs i d)) (k.still (get_or xs i d).code (h.held i d lt)).1) in
-      map-append (held_in new) xs (x ∷ []) ∙ (λ i. old i ++ held_with x (k.is i) ∷ [])
+  pub codes_more : map (code_at new) (places ++ place ∷ []) ≡ map (code_at codes) places ++ code ∷ []
+  codes_more =
+      let k = keeps code codes new place kept in
+      let old = map_agree (code_at new) (code_at codes) places (λ i d lt. (k.still (get_or places i d) (h.held i d lt)).1) in
+      map-append (code_at new) places (place ∷ []) ∙ (λ i. old i ++ k.is i ∷ [])
 
 -- ---- with other numbers, and without debug programs
 
 module _ (r : Maps) (codes : List NumberedItem) (xs : List StoredMethod) where
   -- each code is some method's, so its numbers have images
-  pub codes_mapped : HaveCodes codes xs → All (IsHeldMethodMapped r) (map (held_in codes) xs) → All (HasPlaces r) codes
+  pub codes_mapped : ArePlacesOf codes (code_places xs) → All (IsHeldMethodMapped r) (map (held_in codes) xs) → All (HasPlaces r) codes
   codes_mapped h mapped = λ i d lt.
       let none : StoredMethod = record { number = 0; flags = 0; code = None; set = None; list = None } in
       let named = h.named i lt in
@@ -97,20 +97,15 @@ place_replaced : (codes new : List NumberedItem) → length new ≡ length codes
 place_replaced codes new size None lt = tt
 place_replaced codes new size (Some i) lt = omega arith
 
--- where each code is replaced, methods have the same places
-pub codes_replaced : (f : NumberedItem → NumberedItem) (codes : List NumberedItem) (xs : List StoredMethod) → HaveCodes codes xs → HaveCodes (map f codes) xs
-codes_replaced f codes xs h =
+-- where each code is replaced, the places stay
+pub codes_replaced : (f : NumberedItem → NumberedItem) (codes : List NumberedItem) (places : List (Option ℕ)) → ArePlacesOf codes places → ArePlacesOf (map f codes) places
+codes_replaced f codes places h =
     let size = length-map codes f in
-    record { held = λ k d lt. place_replaced codes (map f codes) size (get_or xs k d).code (h.held k d lt); named = λ i lt. h.named i (omega arith) }
+    record { held = λ k d lt. place_replaced codes (map f codes) size (get_or places k d) (h.held k d lt); named = λ i lt. h.named i (omega arith) }
 
--- and so have methods with other numbers
-pub methods_replaced : (r : Maps) (codes : List NumberedItem) (xs : List StoredMethod) → HaveCodes codes xs → HaveCodes codes (map (remapped_stored r) xs)
-methods_replaced r codes xs h =
-    let places = map_both (remapped_stored r) (λ (y : StoredMethod). y.code) (λ (y : StoredMethod). y.code) xs (λ k d lt. refl) in
-    record {
-      held = All-map (λ (y : StoredMethod). IsPlaceIn codes y.code) (remapped_stored r) xs h.held;
-      named = λ i lt. subst (λ (l : List (Option ℕ)). Contains l (Some i)) (sym places) (h.named i lt);
-    }
+-- and so they do for methods with other numbers
+pub methods_replaced : (r : Maps) (codes : List NumberedItem) (xs : List StoredMethod) → ArePlacesOf codes (code_places xs) → ArePlacesOf codes (code_places (map (remapped_stored r) xs))
+methods_replaced r codes xs h = subst (ArePlacesOf codes) (sym (map_both (remapped_stored r) (λ (y : StoredMethod). y.code) (λ (y : StoredMethod). y.code) xs (λ k d lt. refl))) h
 
 -- what is borrowed, if something is
 pub borrowed_code : {X : Type 0} (code : Option (Bor X)) (is : Option X) → MatchOption code (is ≡ None) (λ c. is ≡ Some c.now) → option_map (λ c. c.now) code ≡ is

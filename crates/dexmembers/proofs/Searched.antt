@@ -1,5 +1,5 @@
 -- Entries by number: a search among them, and lists that are put together member by member.
-use Rattle.dexmembers.proofs.Common.{◌≡◌, ◌≢◌, ℕ, zero, suc, ◌+◌, ◌<◌, ◌≤◌, Bool, true, false, cond, List, [], ◌∷◌, ◌++◌, length, get_or, map, refl, sym, ap, ◌∙◌, subst, arith, inl, inr, Option, Some, None, Ordering, Less, Equal, Greater, IsTrue, Result, Ok, Err, MatchOption, take, drop, option_to_list, Contains, HoldsAt, IsSome, option_flatten, nat_cmp, is_eq, ordering_index, nat_cmp_total, nat_cmp-IsAntisymmetric, cases_lt, tied_itself, get_or-map, get_or_default, length-map, length-drop, length-append, take_more, drop_more, map-append, zip_with, Contains-first, Contains-later, less_number, Rises, Rises-from_rises, Rises-places}
+use Rattle.dexmembers.proofs.Common.{◌≡◌, ◌≢◌, ℕ, zero, suc, ◌+◌, ◌<◌, ◌≤◌, Bool, true, false, cond, List, [], ◌∷◌, ◌++◌, length, get_or, map, refl, sym, ap, ◌∙◌, subst, arith, inl, inr, Option, Some, None, Ordering, Less, Equal, Greater, IsTrue, Result, Ok, Err, MatchOption, take, Contains, HoldsAt, nat_cmp, is_eq, ordering_index, nat_cmp_total, nat_cmp-IsAntisymmetric, cases_lt, tied_itself, get_or-map, get_or_default, length-map, take_more, map-append, zip_with, Contains-first, Contains-later, less_number, Rises, Rises-from_rises, Rises-places}
 use Rattle.std.specs.List.Sorted.{IsNonDecreasingBy, IsPartitionPoint, IsSearchInRange, IsBinarySearchResult}
 use Rattle.std.specs.Result.{result_ok, is_ok}
 use Rattle.std.specs.FinMap.Entries.{find}
@@ -120,28 +120,6 @@ pub zip_more : {A B C : Type 0} (f : A → B → C) (xs : List A) (ys : List B) 
 zip_more f xs ys i x y lt lt' e g =
     let more : i + 1 ≡ suc i = omega arith in
     ap (λ (n : ℕ). zip_with f (take n xs) (take n ys)) more ∙ zip_next f xs ys i x y lt lt' e g
-
--- the first of the rest is the next
-pub rest_first : {B : Type 0} (ys : List B) (i : ℕ) (y : B) (rest : List B) → i < length ys → drop i ys ≡ y ∷ rest → (drop (i + 1) ys ≡ rest) × ((d : B) → get_or ys i d ≡ y)
-rest_first ys i y rest lt e = (
-  ap (drop 1) (sym (drop_more ys i y lt) ∙ e),
-  λ d. ap (λ (l : List _). get_or l 0 d) (sym (drop_more ys i d lt) ∙ e),
-)
-
--- what comes next of the rest
-pub rest_next : {B : Type 0} (ys : List (Option B)) (i len : ℕ) (o : Option (Option B)) (x : Option B) (all rest : List (Option B)) → i < length ys → all ≡ drop i ys → all ≡ option_to_list o ++ rest → len ≡ length all → (0 < len → IsSome o) → x ≡ option_flatten o
-    → (rest ≡ drop (i + 1) ys) × ((d : Option B) → get_or ys i d ≡ x)
-rest_next ys i len (Some y) x all rest lt here e size some is = let r = rest_first ys i y rest lt (sym here ∙ e) in (sym r.0, λ d. r.1 d ∙ sym is)
-rest_next {B} ys i len None x all rest lt here e size some is =
-    let n : length (drop i ys) ≡ length all = ap length (sym here) in
-    let m : 0 < len = omega (arith, n, lt, length-drop {A = Option B} i ys, size) in
-    absurd (let e : false ≡ true = some m in cc)
-
--- as many are left
-pub rest_size : {B : Type 0} (o : Option B) (all rest : List B) (before after : ℕ) → all ≡ option_to_list o ++ rest → after + length (option_to_list o) ≡ before → before ≡ length all → after ≡ length rest
-rest_size o all rest before after e len size =
-    let n : length all ≡ length (option_to_list o) + length rest = ap length e ∙ length-append (option_to_list o) rest in
-    omega (arith, n, len, size)
 
 -- whether a search by a key finds something
 pub index_searched : {T : Type 0} (key : T → ℕ) (xs : List T) (n : ℕ) (r : Result ℕ ℕ) → IsSearchInRange r (length xs) → IsBinarySearchResult (λ (x : T). nat_cmp (key x) n) xs r

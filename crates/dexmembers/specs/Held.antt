@@ -42,10 +42,14 @@ held_with x code = record { number = x.number; flags = x.flags; code = code; set
 abbrev pub held_in : List NumberedItem → StoredMethod → HeldMethod
 held_in codes x = held_with x (code_at codes x.code)
 
--- each place of code is one of the list's, and each of the list is some method's
-pub record HaveCodes (codes : List NumberedItem) (xs : List StoredMethod) : Type 0 where
-  pub held : All (λ x. IsPlaceIn codes x.code) xs
-  pub named : (i : ℕ) → i < length codes → Contains (map (λ x. x.code) xs) (Some i)
+-- the places of the methods' code
+abbrev pub code_places : List StoredMethod → List (Option ℕ)
+code_places xs = map (λ x. x.code) xs
+
+-- each place is one of the code's, and each code has one
+pub record ArePlacesOf (codes : List NumberedItem) (places : List (Option ℕ)) : Type 0 where
+  pub held : All (IsPlaceIn codes) places
+  pub named : (i : ℕ) → i < length codes → Contains places (Some i)
 
 -- the field, with its set among these
 abbrev pub field_of : List NumberedSet → HeldField → NumberedField

@@ -1,14 +1,14 @@
 //! Fields and methods put together: what class data says of them, with their code and the places of the sets of a
 //! directory.
 
-ghost use Rattle.std.specs.Prelude.{◌≡◌, ℕ, ◌<◌, IfOk, IfSome, MatchOption};
-ghost use Rattle.dexmembers.specs.internal.Attaching.{place_for, EntriesRise, HasNumberAt, AreHeldFields, AttachesMethods, HaveFieldSetsBelow, HaveListsBelow, HaveSetsBelow, IsKept, LacksNumber, PlacesBelow};
+ghost use Rattle.std.specs.Prelude.{◌≡◌, ℕ, ◌<◌, length, IfOk, IfSome, MatchOption};
+ghost use Rattle.dexmembers.specs.internal.Attaching.{place_for, EntriesRise, HasNumberAt, AreHeldFields, AttachesMethods, HaveFieldSetsBelow, HaveListsBelow, HaveSetsBelow, LacksNumber, PlacesBelow};
 
 use crate::class_data::{EncodedField, EncodedMethod};
 use crate::members::DeclaredField;
+use crate::method_codes::MethodCodes;
 use crate::method_list::{DeclaredMethod, MethodList};
 use crate::places::Place;
-use dexcode::Code;
 use dexflags::{FieldFlags, MethodFlags};
 use std::alloc::{AllocError, Global};
 
@@ -53,48 +53,35 @@ pub(crate) fn attach_fields(
     Ok(fields)
 }
 
-// Puts the code, if there is some, at the end of the others, and returns its place.
-fn keep_code<'a>(code: Option<Code<'a>>, codes: &mut Vec<Code<'a>>) -> Result<Place, AllocError>
-    ensures { IfOk result (IsKept code.entry codes.old.items codes.new.items) }
-{
-    let Some(code) = code else {
-        return Place::of(None);
-    };
-    let Ok(place) = u32::try_from(codes.len()) else {
-        return Err(AllocError);
-    };
-    codes.push(code)?;
-    Place::of(Some(place))
-}
-
 /// The methods of a list of class data, with their code and the places of their sets and lists of sets in a directory.
+///
+/// Condition: there is code or none for each method.
 ///
 /// Source: "encoded_method format", "method_annotation format", "parameter_annotation format".
 pub(crate) fn attach_methods<'a>(
     alloc: Global,
     listed: &[EncodedMethod],
-    codes: Vec<Option<Code<'a>>>,
+    codes: MethodCodes<'a>,
     sets: &[(u32, u32)],
     lists: &[(u32, u32)],
 ) -> Result<MethodList<'a>, AllocError>
-    ensures methods { AttachesMethods sets.now lists.now listed.now codes.entry.items result }
+    requires { length codes ≡ length listed.now }
+    ensures methods { AttachesMethods sets.now lists.now listed.now codes.entry result }
     ensures sets_held { (limit : ℕ) → PlacesBelow limit sets.now
         → IfOk result (HaveSetsBelow limit) }
     ensures lists_held { (limit : ℕ) → PlacesBelow limit lists.now
         → IfOk result (HaveListsBelow limit) }
 {
-    let with_code = codes.iter().filter(|code| code.is_some()).count();
+    let MethodCodes { places, code_items } = codes;
     let mut methods = Vec::with_capacity(alloc, listed.len())?;
-    let mut code_items = Vec::with_capacity(alloc, with_code)?;
-    let mut codes = codes.into_iter();
-    for method in listed {
-        let code = keep_code(codes.next().flatten(), &mut code_items)?;
+    for i in 0..listed.len() {
+        let method = &listed[i];
         let set = Place::of(place_for(sets, method.index))?;
         let list = Place::of(place_for(lists, method.index))?;
         methods.push(DeclaredMethod {
             number: method.index,
             flags: MethodFlags::from_bits_retain(method.flags),
-            code,
+            code: places[i],
             set,
             list,
         })?;

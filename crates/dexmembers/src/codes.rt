@@ -1,6 +1,6 @@
 //! The code of methods.
 
-ghost use Rattle.std.specs.Prelude.{◌≡◌, ◌+◌, [], ◌∷◌, IfOk, IfErr, IfSome};
+ghost use Rattle.std.specs.Prelude.{◌≡◌, ◌+◌, [], ◌∷◌, length, IfOk, IfErr, IfSome};
 ghost use Rattle.dexcode.specs.Checking.{one_code_weight};
 ghost use Rattle.dexcode.specs.Numbered.{ForDenoted};
 ghost use Rattle.dexmembers.specs.Weighing.{numbered_whole_weight, codes_weight};
@@ -9,6 +9,7 @@ ghost use Rattle.dexmembers.specs.internal.MethodCodes.{IsCodeOrNone, IsCodeOrNo
 
 use crate::class_data::EncodedMethod;
 use crate::encoded_lists::room;
+use crate::method_codes::MethodCodes;
 use crate::row_reader::{RowReader, too_heavy};
 use dexcode::{Code, debug_unindexed_law, read_code_in};
 use dexinsn::Scratch;
@@ -40,7 +41,7 @@ fn left_after_any(left: u64, code: &Option<Code<'_>>) -> Option<u64>
 }
 
 /// The code of methods, and its weight.
-pub(crate) type WeighedCodes<'a> = (Vec<Option<Code<'a>>>, u64);
+pub(crate) type WeighedCodes<'a> = (MethodCodes<'a>, u64);
 
 impl<'f> RowReader<'_, 'f, '_> {
     // Reads the code at an offset, or none at 0.
@@ -71,12 +72,14 @@ impl<'f> RowReader<'_, 'f, '_> {
         scratch: &mut Scratch,
     ) -> Result<WeighedCodes<'f>, ItemFault>
         ensures read { IsFile self.now → IfOk result (CodesWithin self.now methods.now) }
-        ensures weight { IfOk result (λ codes. codes.1 ≡ codes_weight codes.0.items) }
+        ensures many { IfOk result (λ codes. length codes.0 ≡ length methods.now) }
+        ensures weight { IfOk result (λ codes. codes.1 ≡ codes_weight codes.0) }
         ensures refused { IsFile self.now
             → IfErr result (IsCodesFaultWithin self.now.frame.now methods.now self.now.most) }
     {
         self.pools.numbering().is_numbering();
-        let mut codes = Vec::with_capacity(self.alloc, room(methods.len()))?;
+        let with_code = methods.iter().filter(|method| method.code_off != 0).count();
+        let mut codes = MethodCodes::with_room(self.alloc, room(methods.len()), room(with_code))?;
         let mut left = self.most;
         for method in methods {
             let code = self.code_or_none(method.code_off, scratch)?;
@@ -84,7 +87,7 @@ impl<'f> RowReader<'_, 'f, '_> {
                 Some(rest) => left = rest,
                 None => return Err(too_heavy()),
             }
-            codes.push(code)?;
+            codes = codes.with(code)?;
         }
         Ok((codes, self.most - left))
     }

@@ -23,6 +23,7 @@ mod encodings;
 mod field_views;
 mod marking;
 mod members;
+mod method_codes;
 mod method_list;
 mod method_views;
 mod naming;

@@ -65,7 +65,7 @@ impl<'a> Model for MethodList<'a> {
     ghost use Rattle.std.specs.Prelude.{List, map};
     ghost use Rattle.std.specs.Coded.{codes};
     ghost use Rattle.dexval.specs.Stored.{elements_code};
-    ghost use Rattle.dexmembers.specs.Held.{HeldMethod, held_in, HaveCodes};
+    ghost use Rattle.dexmembers.specs.Held.{HeldMethod, held_in, code_places, ArePlacesOf};
 
     ghost Value = { List HeldMethod };
 
@@ -73,7 +73,7 @@ impl<'a> Model for MethodList<'a> {
 
     ghost view = { λ x. map (held_in x.code_items.items) x.methods.items };
 
-    ghost invariant = { λ x. HaveCodes x.code_items.items x.methods.items };
+    ghost invariant = { λ x. ArePlacesOf x.code_items.items (code_places x.methods.items) };
 }
 
 /// The code at a place, if there is one.

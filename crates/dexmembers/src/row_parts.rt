@@ -2,14 +2,14 @@
 
 ghost use Rattle.std.specs.Prelude.{IfOk};
 ghost use Rattle.dexmembers.specs.Contents.{AreHeld};
-ghost use Rattle.dexmembers.specs.internal.RowParts.{IsHeldDirectory, CanAttach, HasCodesWeight, IsAttached, ReadsParts, RefusesParts};
+ghost use Rattle.dexmembers.specs.internal.RowParts.{IsHeldDirectory, CanAttach, HaveCodes, HasCodesWeight, IsAttached, ReadsParts, RefusesParts};
 
 use crate::attaching::{attach_fields, attach_methods};
 use crate::class_data::ClassData;
 use crate::class_def::ClassDef;
 use crate::members::Contents;
+use crate::method_codes::MethodCodes;
 use crate::row_reader::RowReader;
-use dexcode::Code;
 use dexinsn::Scratch;
 use dexpool::ItemFault;
 use dexval::{SharedDirectory, Value};
@@ -20,8 +20,8 @@ use std::alloc::{AllocError, Global};
 #[derive(Drop)]
 pub(crate) struct Parts<'a> {
     pub(crate) directory: SharedDirectory,
-    pub(crate) direct_codes: Vec<Option<Code<'a>>>,
-    pub(crate) virtual_codes: Vec<Option<Code<'a>>>,
+    pub(crate) direct_codes: MethodCodes<'a>,
+    pub(crate) virtual_codes: MethodCodes<'a>,
     /// What the code weighs together, or 2^64 - 1 where that is more.
     pub(crate) codes_weight: u64,
     pub(crate) static_values: Vec<Value>,
@@ -44,6 +44,7 @@ impl<'f> RowReader<'_, 'f, '_> {
     ) -> Result<Parts<'f>, ItemFault>
         ensures read { ReadsParts self.now row.now declared.now result }
         ensures held { IfOk result (λ x. IsHeldDirectory x.directory) }
+        ensures codes { IfOk result (HaveCodes declared.now) }
         ensures weight { IfOk result HasCodesWeight }
         ensures refused { RefusesParts self.now row.now declared.now result }
     {
@@ -67,7 +68,7 @@ impl<'f> RowReader<'_, 'f, '_> {
 
 /// The members of class data with their parts.
 ///
-/// Condition: the places of the directory are its table's. Error: the memory for a list was refused.
+/// Condition: the places of the directory are its table's, and there is code or none for each method. Error: the memory for a list was refused.
 ///
 /// Source: "class_data_item", "annotations_directory_item".
 pub(crate) fn attach<'a>(
@@ -75,7 +76,8 @@ pub(crate) fn attach<'a>(
     declared: &ClassData,
     parts: Parts<'a>,
 ) -> Result<Contents<'a>, AllocError>
-    requires { IsHeldDirectory parts.directory }
+    requires places { IsHeldDirectory parts.directory }
+    requires codes { HaveCodes declared.now parts }
     ensures attached { CanAttach declared.now parts.entry
         → IfOk result (IsAttached declared.now parts.entry) }
     ensures held { IfOk result AreHeld }

@@ -1,5 +1,5 @@
 -- Members put together: what class data, a directory and the code of methods make.
-use Rattle.std.specs.Prelude.{◌≡◌, ℕ, ◌<◌, List, [], ◌∷◌, ◌++◌, map, length, slice_index_or, Option, Some, None, All, IfOk, IfSome, Result}
+use Rattle.std.specs.Prelude.{◌≡◌, ℕ, ◌<◌, List, map, length, slice_index_or, Option, All, IfOk, IfSome, Result}
 use Rattle.std.specs.FinMap.Entries.{find}
 use Rattle.std.specs.Ordering.{nat_cmp}
 use Rattle.std.specs.Global.{Vec}
@@ -49,10 +49,9 @@ held_method sets lists x code = record { number = x.index; flags = x.flags; code
 abbrev pub AreHeldFields : List (ℕ × ℕ) → List FieldRead → Vec HeldField → Type 0
 AreHeldFields sets listed fields = fields.items ≡ map (held_field sets) listed
 
--- where both lists of entries rise, and there is code or none for each method, these are the methods of a list of class
--- data
+-- where both lists of entries rise, these are the methods of a list of class data
 abbrev pub AttachesMethods : List (ℕ × ℕ) → List (ℕ × ℕ) → List MethodRead → List (Option NumberedItem) → Result (List HeldMethod) AllocError → Type 0
-AttachesMethods sets lists listed codes result = EntriesRise sets → EntriesRise lists → length codes ≡ length listed → IfOk result (λ methods. methods ≡ zip_with (held_method sets lists) listed codes)
+AttachesMethods sets lists listed codes result = EntriesRise sets → EntriesRise lists → IfOk result (λ methods. methods ≡ zip_with (held_method sets lists) listed codes)
 
 -- the places of the fields' sets are below a limit
 abbrev pub HaveFieldSetsBelow : ℕ → Vec HeldField → Type 0
@@ -65,11 +64,6 @@ HaveSetsBelow limit methods = All (λ x. IfSome x.set (λ place. place < limit))
 -- those of their lists of sets
 abbrev pub HaveListsBelow : ℕ → List HeldMethod → Type 0
 HaveListsBelow limit methods = All (λ x. IfSome x.list (λ place. place < limit)) methods
-
--- where there is code, it is the last of the new list, at the place; otherwise the list is the old one, and there is no place
-abbrev pub IsKept : Option NumberedItem → List NumberedItem → List NumberedItem → Option ℕ → Type 0
-IsKept None old new place = (new ≡ old) × (place ≡ None)
-IsKept (Some code) old new place = (new ≡ old ++ code ∷ []) × (place ≡ Some (length old))
 
 -- ---- with sets
 

@@ -1,7 +1,6 @@
 -- The code of methods as it is read, one after the other.
-use Rattle.std.specs.Prelude.{◌≢◌, ◌⊎◌, ℕ, ◌<◌, ◌≤◌, List, Option, None, sum_by, option_to_list, ◌≡◌, ◌+◌, MatchOption}
+use Rattle.std.specs.Prelude.{◌≢◌, ◌⊎◌, ℕ, ◌<◌, ◌≤◌, List, [], ◌∷◌, ◌++◌, length, Option, Some, None, sum_by, option_to_list, ◌≡◌, ◌+◌, MatchOption}
 use Rattle.std.specs.List.{AllZip, Contains}
-use Rattle.std.specs.Global.{Vec}
 use Rattle.dexspec.specs.Lists.{OrNone, SomeAt, BothOrNone}
 use Rattle.dexspec.specs.Code.{Code, CodeAt}
 use Rattle.dexspec.specs.Mentions.{Mentions}
@@ -72,5 +71,12 @@ IsCodesFaultWithin b xs most (Refused number) = HasRefusedCode b xs number ⊎ (
 -- ---- as it is read
 
 -- the code of the methods, with its weight
-abbrev pub CodesWithin : RowReader → List EncodedMethod → Vec (Option NumberedItem) × ℕ → Type 0
-CodesWithin reader xs codes = AreCodesOf reader.frame.now reader.pools.now xs reader.most codes.0.items
+abbrev pub CodesWithin : RowReader → List EncodedMethod → List (Option NumberedItem) × ℕ → Type 0
+CodesWithin reader xs codes = AreCodesOf reader.frame.now reader.pools.now xs reader.most codes.0
+
+-- ---- as it is kept
+
+-- where there is code, it is the last of the new list, at the place; otherwise the list is the old one, and there is no place
+abbrev pub IsKept : Option NumberedItem → List NumberedItem → List NumberedItem → Option ℕ → Type 0
+IsKept None old new place = (new ≡ old) × (place ≡ None)
+IsKept (Some code) old new place = (new ≡ old ++ code ∷ []) × (place ≡ Some (length old))

@@ -113,7 +113,7 @@ IsPartFault b r most (Refused n) = IsMembersFault b r (Refused n) ⊎ ((n ≡ 23
 -- what the class row has beside its class data
 abbrev pub ReadsParts : RowReader → ClassDef → DataRead → Result Parts ItemFault → Type 0
 ReadsParts reader row d result = (r : ℕ) → IsClassDef reader.frame.now r row → IsFile reader → IsDataOf reader.frame.now r reader.pools.now d
-    → IfOk result (λ x. ArePartsOf reader.frame.now r reader.pools.now d reader.most x.directory x.direct_codes.items x.virtual_codes.items (values_of_list (map value_of x.static_values.items)))
+    → IfOk result (λ x. ArePartsOf reader.frame.now r reader.pools.now d reader.most x.directory x.direct_codes x.virtual_codes (values_of_list (map value_of x.static_values.items)))
 
 -- what is refused is a part of the class row
 abbrev pub RefusesParts : RowReader → ClassDef → DataRead → Result Parts ItemFault → Type 0
@@ -121,12 +121,17 @@ RefusesParts reader row d result = (r : ℕ) → IsClassDef reader.frame.now r r
 
 -- the weight of code is that of both lists, or 2^64 - 1 where that is more
 abbrev pub HasCodesWeight : Parts → Type 0
-HasCodesWeight x = x.codes_weight ≡ min (2 ^ 64 - 1) (codes_weight x.direct_codes.items + codes_weight x.virtual_codes.items)
+HasCodesWeight x = x.codes_weight ≡ min (2 ^ 64 - 1) (codes_weight x.direct_codes + codes_weight x.virtual_codes)
 
 -- the parts can be put together with the class data
 abbrev pub CanAttach : DataRead → Parts → Type 0
-CanAttach d x = AreAttachable d x.directory x.direct_codes.items x.virtual_codes.items
+CanAttach d x = AreAttachable d x.directory x.direct_codes x.virtual_codes
+
+-- there is code or none for each method
+pub record HaveCodes (d : DataRead) (x : Parts) : Type 0 where
+  pub direct_many : length x.direct_codes ≡ length d.direct_methods.items
+  pub virtual_many : length x.virtual_codes ≡ length d.virtual_methods.items
 
 -- they are put together
 abbrev pub IsAttached : DataRead → Parts → Contents → Type 0
-IsAttached d x contents = contents_in contents ≡ attached d (shared_directory_of x.directory) x.direct_codes.items x.virtual_codes.items (values_of_list (map value_of x.static_values.items))
+IsAttached d x contents = contents_in contents ≡ attached d (shared_directory_of x.directory) x.direct_codes x.virtual_codes (values_of_list (map value_of x.static_values.items))

@@ -28,9 +28,9 @@ returns-clause-read c = λ r row pools class.
     let is = c.in_ok-declared.ensures.read r row pools class in
     let parts = c.in_ok-parts.ensures.read r row pools is in
     let made = contents_in c.in_ok-unweighed.unweighed in
-    let attachable = parts_attachable b r m rising d is c.from.result p.directory p.direct_codes.items p.virtual_codes.items vs parts in
+    let attachable = parts_attachable b r m rising d is c.from.result p.directory p.direct_codes p.virtual_codes vs parts in
     subst (λ (n : ℕ). IfOk c.within.result (AreReadWithin b r m n)) c.from.ensures
-    (parts_returned b r m rising d is c.from.result p.directory p.direct_codes.items p.virtual_codes.items vs parts (c.code_meaning_law.ensures.known m) (c.code_meaning_law.ensures.meant m) made (c.in_ok-unweighed.ensures.attached attachable) p.codes_weight c.in_ok-parts.ensures.weight c.within.result (λ n up known e. subst (λ (k : ℕ). AreWithin made (members_weight (members_in n made)) k c.within.result) (sym c.from.ensures) (c.within.ensures n up known e))).0
+    (parts_returned b r m rising d is c.from.result p.directory p.direct_codes p.virtual_codes vs parts (c.code_meaning_law.ensures.known m) (c.code_meaning_law.ensures.meant m) made (c.in_ok-unweighed.ensures.attached attachable) p.codes_weight c.in_ok-parts.ensures.weight c.within.result (λ n up known e. subst (λ (k : ℕ). AreWithin made (members_weight (members_in n made)) k c.within.result) (sym c.from.ensures) (c.within.ensures n up known e))).0
 
 pub returns-clause-refused : goal.returns-clause-refused
 returns-clause-refused c = λ r row pools class.
@@ -43,6 +43,6 @@ returns-clause-refused c = λ r row pools class.
     let is = c.in_ok-declared.ensures.read r row pools class in
     let parts = c.in_ok-parts.ensures.read r row pools is in
     let made = contents_in c.in_ok-unweighed.unweighed in
-    let attachable = parts_attachable b r m rising d is c.from.result p.directory p.direct_codes.items p.virtual_codes.items vs parts in
+    let attachable = parts_attachable b r m rising d is c.from.result p.directory p.direct_codes p.virtual_codes vs parts in
     subst (λ (n : ℕ). IfErr c.within.result (IsPartFault b r n)) c.from.ensures
-    (parts_returned b r m rising d is c.from.result p.directory p.direct_codes.items p.virtual_codes.items vs parts (c.code_meaning_law.ensures.known m) (c.code_meaning_law.ensures.meant m) made (c.in_ok-unweighed.ensures.attached attachable) p.codes_weight c.in_ok-parts.ensures.weight c.within.result (λ n up known e. subst (λ (k : ℕ). AreWithin made (members_weight (members_in n made)) k c.within.result) (sym c.from.ensures) (c.within.ensures n up known e))).1
+    (parts_returned b r m rising d is c.from.result p.directory p.direct_codes p.virtual_codes vs parts (c.code_meaning_law.ensures.known m) (c.code_meaning_law.ensures.meant m) made (c.in_ok-unweighed.ensures.attached attachable) p.codes_weight c.in_ok-parts.ensures.weight c.within.result (λ n up known e. subst (λ (k : ℕ). AreWithin made (members_weight (members_in n made)) k c.within.result) (sym c.from.ensures) (c.within.ensures n up known e))).1

@@ -8,8 +8,8 @@ returns-clause-attached c = λ h.
     let a = c.args.parts.directory in
     let statics = fields_attached a.table.sets c.deref.ensures.value c.deref-2.ensures.value h.entered.fields_entered c.in_ok-static_fields.ensures.fields in
     let instances = fields_attached a.table.sets c.deref-3.ensures.value c.deref-4.ensures.value h.entered.fields_entered c.in_ok-instance_fields.ensures.fields in
-    let directs = methods_attached a.table c.args.parts.direct_codes.items c.deref-5.ensures.value c.deref-6.ensures.value c.deref-7.ensures.value h.entered.methods_entered h.entered.parameters_entered h.direct_many c.in_ok-direct_methods.ensures.methods in
-    let virtuals = methods_attached a.table c.args.parts.virtual_codes.items c.deref-8.ensures.value c.deref-9.ensures.value c.deref-10.ensures.value h.entered.methods_entered h.entered.parameters_entered h.virtual_many c.in_ok-virtual_methods.ensures.methods in
+    let directs = methods_attached a.table c.args.parts.direct_codes c.deref-5.ensures.value c.deref-6.ensures.value c.deref-7.ensures.value h.entered.methods_entered h.entered.parameters_entered c.in_ok-direct_methods.ensures.methods in
+    let virtuals = methods_attached a.table c.args.parts.virtual_codes c.deref-8.ensures.value c.deref-9.ensures.value c.deref-10.ensures.value h.entered.methods_entered h.entered.parameters_entered c.in_ok-virtual_methods.ensures.methods in
     λ i. record {
       annotations = set_at a.table.sets a.own;
       static_fields = statics i;
@@ -24,11 +24,11 @@ returns-clause-held c =
     let a = c.args.parts.directory in
     let sets = length a.table.sets in
     let lists = length a.table.lists in
-    let fields = c.requires.fields_held in
-    let methods = c.requires.methods_held in
-    let parameters = c.requires.parameters_held in
+    let fields = c.requires.places.fields_held in
+    let methods = c.requires.places.methods_held in
+    let parameters = c.requires.places.parameters_held in
     record {
-      own_held = c.requires.own_held;
+      own_held = c.requires.places.own_held;
       static_fields_held = fields_held a.table.sets _ (c.in_ok-static_fields.ensures.held sets (few_places c.deref-2.ensures.value fields));
       instance_fields_held = fields_held a.table.sets _ (c.in_ok-instance_fields.ensures.held sets (few_places c.deref-4.ensures.value fields));
       direct_methods_held = methods_held a.table _ (c.in_ok-direct_methods.ensures.sets_held sets (few_places c.deref-6.ensures.value methods)) (c.in_ok-direct_methods.ensures.lists_held lists (few_places c.deref-7.ensures.value parameters));

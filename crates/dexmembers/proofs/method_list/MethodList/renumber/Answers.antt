@@ -1,5 +1,5 @@
 use Rattle.dexmembers.proofs.Common.{◌∙◌, sym, ap, subst, All, map, renumbered_item}
-use Rattle.dexmembers.specs.{IsHeldMethodMapped, held_in, remapped_method}
+use Rattle.dexmembers.specs.{code_places, IsHeldMethodMapped, held_in, remapped_method}
 use Rattle.dexmembers.proofs.MethodLists.{codes_mapped, numbers_mapped, list_remapped, codes_replaced, methods_replaced}
 use Rattle.dexmembers.proofs.method_list.MethodList.renumber.Goals as goal
 
@@ -13,7 +13,7 @@ pub invariant_of-self : goal.invariant_of-self
 invariant_of-self c =
     let x = c.self.inside in
     let r = c.args.remap.now in
-    rw (c.renumber_all.ensures, c.renumber_codes.ensures) (methods_replaced r (map (renumbered_item r) x.code_items.items) x.methods.items (codes_replaced (renumbered_item r) x.code_items.items x.methods.items c.self.invariant))
+    rw (c.renumber_all.ensures, c.renumber_codes.ensures) (methods_replaced r (map (renumbered_item r) x.code_items.items) x.methods.items (codes_replaced (renumbered_item r) x.code_items.items (code_places x.methods.items) c.self.invariant))
 
 pub returns : goal.returns
 returns c =

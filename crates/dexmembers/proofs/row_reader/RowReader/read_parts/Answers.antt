@@ -40,7 +40,7 @@ returns-clause-read c = λ r row pools is.
     let most = c.args.self.now.most in
     record {
       annotations = c.in_ok-directory.ensures.read r (sym row.annotations_are) pools is;
-      direct_codes = subst (λ (l : List EncodedMethod). AreCodesOf b m l most c.in_ok-direct.direct.0.items) c.deref.ensures.value (c.in_ok-direct.ensures.read pools);
-      virtual_codes = subst (λ (l : List EncodedMethod). AreCodesOf b m l most c.in_ok-virtuals.virtuals.0.items) c.deref-2.ensures.value (c.in_ok-virtuals.ensures.read pools);
+      direct_codes = subst (λ (l : List EncodedMethod). AreCodesOf b m l most c.in_ok-direct.direct.0) c.deref.ensures.value (c.in_ok-direct.ensures.read pools);
+      virtual_codes = subst (λ (l : List EncodedMethod). AreCodesOf b m l most c.in_ok-virtuals.virtuals.0) c.deref-2.ensures.value (c.in_ok-virtuals.ensures.read pools);
       values = subst (λ (n : ℕ). AreValuesOf b r m n most (values_of_list (map value_of c.in_ok-static_values.static_values.items))) (c.len-fields.ensures ∙ c.args.declared.now.static_fields.ok.0) (c.in_ok-static_values.ensures.read r (sym row.static_values_are) pools);
     }

@@ -1,9 +1,8 @@
 -- Plans grouped level by level: the groups as they are made, the files that they name, and how deep they are.
-use Rattle.dexruns.proofs.Common.{◌≡◌, ℕ, zero, suc, ◌+◌, ◌*◌, ◌^◌, ◌<◌, ◌≤◌, List, [], ◌∷◌, ◌++◌, length, get_or, take, drop, map, refl, sym, ap, ◌∙◌, subst, inl, inr, arith, add-one, length-append, All, range_with_len, Contains, append_assoc, append-nil, drop-append-le, drop-take, length-take-le, take_all, take_more, cases_lt, div_ceil_times, drop_of_length-le, take-add, Plan, Leaf, Node, leaves, all_leaves, plan_depth, plans_depth, IsPlanFor, plans_of}
+use Rattle.dexruns.proofs.Common.{◌≡◌, ℕ, zero, suc, ◌+◌, ◌*◌, ◌^◌, ◌<◌, ◌≤◌, List, [], ◌∷◌, ◌++◌, length, get_or, take, drop, map, refl, sym, ap, ◌∙◌, subst, inl, inr, arith, add-one, length-append, All, range_with_len, Contains, append_assoc, append-nil, drop-append-le, drop-take, length-take-le, take_all, take_more, cases_lt, div_ceil_times, drop_of_length-le, take-add, Plan, Leaf, Node, leaves, all_leaves, plan_depth, plans_depth, IsPlanFor, plans_of, leaf_plans, group, in_groups, grouped_often, IsGrouped}
 use Rattle.std.specs.Int.{div_ceil}
 use Rattle.std.proofs.lemmas.List.FromFn.{get_or-range_with_len, length-map-range_with_len, length-range_with_len, map-range_with_len_more}
 use Rattle.std.proofs.Math.Nat.{eq-or-lt_of_le, lt_of_mul-lt-mul_right, mul-le-mul_left, mul-le-mul_right, pow-le-pow_right, two-pow-succ}
-use Rattle.dexruns.specs.{leaf_plans, group, in_groups, grouped_often, IsGrouped}
 
 -- ---- the groups as they are made
 
@@ -17,10 +16,9 @@ pub record IsCut (fan : ℕ) (ps groups last : List Plan) (n : ℕ) : Type 0 whe
 -- one plan more is in the last group
 pub one_more : (fan : ℕ) (ps groups last : List Plan) (n : ℕ) (p : Plan) → IsCut fan ps groups last n → length last < fan → n < length ps → p ≡ get_or ps n p → IsCut fan ps groups (last ++ p ∷ []) (n + 1)
 one_more fan ps groups last n p cut few lt e =
-    let following : fan * length groups ≤ length (take n ps) = omega (arith, cut.count, length-take-le n ps (omega arith)) in
     record {
       full = cut.full;
-      rest = ap (λ (l : List Plan). l ++ p ∷ []) cut.rest ∙ sym (drop-append-le (fan * length groups) (take n ps) (p ∷ []) following)
+      rest = ap (λ (l : List Plan). l ++ p ∷ []) cut.rest ∙ sym (drop-append-le (fan * length groups) (take n ps) (p ∷ []) (omega (arith, cut.count, length-take-le n ps (omega arith))))
           ∙ ap (λ (x : Plan). drop (fan * length groups) (take n ps ++ x ∷ [])) e ∙ ap (drop (fan * length groups)) (sym (take_more ps n p lt));
       count = omega (arith, cut.count, length-append last (p ∷ []));
       few = omega (arith, few, length-append last (p ∷ []));
@@ -35,8 +33,7 @@ groups_more : (fan : ℕ) (ps : List Plan) (k : ℕ) → map (group fan ps) (ran
 groups_more fan ps k = ap (λ (n : ℕ). map (group fan ps) (range_with_len 0 n)) (sym (add-one k)) ∙ map-range_with_len_more (group fan ps) 0 k k (omega arith)
 
 -- the next group is closed
-closed : (fan : ℕ) (ps groups : List Plan) (p : Plan) → groups ≡ map (group fan ps) (range_with_len 0 (length groups)) → p ≡ group fan ps (length groups) →
-    groups ++ p ∷ [] ≡ map (group fan ps) (range_with_len 0 (suc (length groups)))
+closed : (fan : ℕ) (ps groups : List Plan) (p : Plan) → groups ≡ map (group fan ps) (range_with_len 0 (length groups)) → p ≡ group fan ps (length groups) → groups ++ p ∷ [] ≡ map (group fan ps) (range_with_len 0 (suc (length groups)))
 closed fan ps groups p full e = ap (λ (l : List Plan). l ++ p ∷ []) full ∙ ap (λ (x : Plan). map (group fan ps) (range_with_len 0 (length groups)) ++ x ∷ []) e ∙ sym (groups_more fan ps (length groups))
 
 one_longer : (xs : List Plan) (p : Plan) → length (xs ++ p ∷ []) ≡ suc (length xs)
@@ -93,11 +90,10 @@ halved fan a (suc k) two e = let h = half fan a (omega (arith, two)) k two e in 
 
 pub last_closed : (fan : ℕ) (ps groups last : List Plan) → IsCut fan ps groups last (length ps) → 0 < length last → groups ++ Node (plans_of last) ∷ [] ≡ in_groups fan ps
 last_closed fan ps groups last cut pos =
-    let some : 0 < fan = omega (arith, cut.few, pos) in
     let left : last ≡ drop (fan * length groups) ps = cut.rest ∙ ap (drop (fan * length groups)) (take_all (length ps) ps (omega arith)) in
     let parts : last ≡ take fan (drop (fan * length groups) ps) = left ∙ sym (take_all fan (drop (fan * length groups) ps) (subst (λ (l : List Plan). length l ≤ fan) left cut.few)) in
     closed fan ps groups (Node (plans_of last)) cut.full (ap (λ (l : List Plan). Node (plans_of l)) parts)
-    ∙ ap (λ (k : ℕ). map (group fan ps) (range_with_len 0 k)) (sym (many fan (length ps) some (length groups) (length last) cut.count pos cut.few))
+    ∙ ap (λ (k : ℕ). map (group fan ps) (range_with_len 0 k)) (sym (many fan (length ps) (omega (arith, cut.few, pos)) (length groups) (length last) cut.count pos cut.few))
 
 pub nothing_open : (fan : ℕ) (ps groups : List Plan) → 0 < fan → IsCut fan ps groups [] (length ps) → length ps ≡ 0 → groups ≡ in_groups fan ps
 nothing_open fan ps groups some cut none =
@@ -135,9 +131,7 @@ groups_leaves fan ps (suc k) =
     ∙ ap (λ (n : ℕ). all_leaves (plans_of (take n ps))) {x = fan * k + fan} {y = fan * suc k} (omega arith)
 
 in_groups_leaves : (fan : ℕ) (ps : List Plan) → 0 < fan → all_leaves (plans_of (in_groups fan ps)) ≡ all_leaves (plans_of ps)
-in_groups_leaves fan ps some =
-    let enough : length ps ≤ fan * div_ceil (length ps) fan = omega (arith, within fan (length ps) some) in
-    groups_leaves fan ps (div_ceil (length ps) fan) ∙ ap (λ (l : List Plan). all_leaves (plans_of l)) (take_all (fan * div_ceil (length ps) fan) ps enough)
+in_groups_leaves fan ps some = groups_leaves fan ps (div_ceil (length ps) fan) ∙ ap (λ (l : List Plan). all_leaves (plans_of l)) (take_all (fan * div_ceil (length ps) fan) ps (omega (arith, within fan (length ps) some)))
 
 often_leaves : (fan files : ℕ) → 0 < fan → (k : ℕ) → all_leaves (plans_of (grouped_often fan files k)) ≡ range_with_len 0 files
 often_leaves fan files some zero = leaves_of_leaves (range_with_len 0 files)
@@ -146,14 +140,12 @@ often_leaves fan files some (suc k) = in_groups_leaves fan (grouped_often fan fi
 -- ---- how deep plans are
 
 take_depth : (n : ℕ) (ps : List Plan) → plans_depth (plans_of (take n ps)) ≤ plans_depth (plans_of ps)
-take_depth zero ps = omega arith
-take_depth (suc n) [] = omega arith
 take_depth (suc n) (p ∷ ps) = omega (arith, take_depth n ps)
+take_depth _ _ = omega arith
 
 drop_depth : (n : ℕ) (ps : List Plan) → plans_depth (plans_of (drop n ps)) ≤ plans_depth (plans_of ps)
-drop_depth zero ps = omega arith
-drop_depth (suc n) [] = omega arith
 drop_depth (suc n) (p ∷ ps) = omega (arith, drop_depth n ps)
+drop_depth _ _ = omega arith
 
 groups_depth : (fan : ℕ) (ps : List Plan) (ks : List ℕ) → plans_depth (plans_of (map (group fan ps) ks)) ≤ plans_depth (plans_of ps) + 1
 groups_depth fan ps [] = omega arith
@@ -183,8 +175,7 @@ few_rounds fan files zero two some small fewer = omega arith
 few_rounds fan files (suc k) two some small fewer = elim (cases_lt k 63) [
   | inl near ↦ omega (arith, near)
   | inr far ↦
-      let several : 2 ≤ length (grouped_often fan files k) = omega (arith, fewer k (omega arith)) in
-      let times : 2 * 2 ^ k ≤ length (grouped_often fan files k) * 2 ^ k = mul-le-mul_right (2 ^ k) several in
+      let times : 2 * 2 ^ k ≤ length (grouped_often fan files k) * 2 ^ k = mul-le-mul_right (2 ^ k) (omega (arith, fewer k (omega arith))) in
       let large : 2 ^ 63 ≤ 2 ^ k = pow-le-pow_right (omega arith) far in
       absurd (omega (arith, times, large, small, often_halved fan files two some k))
 ]
@@ -198,11 +189,7 @@ each_named : (files i : ℕ) → i < files → Contains (range_with_len 0 files)
 each_named files i lt = (i, omega (arith, lt, length-range_with_len 0 files), omega (arith, get_or-range_with_len 0 files i i lt))
 
 plan_of_all : (files : ℕ) (plan : Plan) → leaves plan ≡ range_with_len 0 files → plan_depth plan ≤ 64 → IsPlanFor files plan
-plan_of_all files plan all shallow = record {
-  known = subst (All (λ i. i < files)) (sym all) (each_known files);
-  named = λ i lt. subst (λ (l : List ℕ). Contains l i) (sym all) (each_named files i lt);
-  shallow = shallow;
-}
+plan_of_all files plan all shallow = record { known = subst (All (λ i. i < files)) (sym all) (each_known files); named = λ i lt. subst (λ (l : List ℕ). Contains l i) (sym all) (each_named files i lt); shallow = shallow }
 
 pub grouped_plan : (fan files : ℕ) (plan : Plan) → 2 ≤ fan → 1 ≤ files → files < 2 ^ 63 → IsGrouped fan files plan → IsPlanFor files plan
 grouped_plan fan files plan two some small grouped =
@@ -244,8 +231,6 @@ last_round fan files plan h = record { rounds = h.rounds; left = h.left; fewer =
 pub groups_fewer : (fan : ℕ) (ps : List Plan) → 2 ≤ fan → 1 < length ps → (length (in_groups fan ps) < length ps) × (0 < length (in_groups fan ps))
 groups_fewer fan ps two several =
     let count = length-map-range_with_len (group fan ps) 0 (div_ceil (length ps) fan) in
-    let fewer = halved fan (length ps) (length (in_groups fan ps)) two (sym count) in
     let enough : length ps ≤ div_ceil (length ps) fan * fan = within fan (length ps) (omega arith) in
     let all : div_ceil (length ps) fan * fan ≡ length (in_groups fan ps) * fan = ap (λ (n : ℕ). n * fan) (sym count) in
-    let some : 0 * fan < length (in_groups fan ps) * fan = omega (arith, enough, all) in
-    (omega (arith, fewer), lt_of_mul-lt-mul_right fan some)
+    (omega (arith, halved fan (length ps) (length (in_groups fan ps)) two (sym count)), lt_of_mul-lt-mul_right fan (omega (arith, enough, all)))

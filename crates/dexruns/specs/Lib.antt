@@ -19,3 +19,4 @@ unfoldable pub use Counts.*
 unfoldable pub use Digests.*
 unfoldable pub use Statuses.*
 unfoldable pub use Faults.*
+unfoldable pub use internal.Unread.*

@@ -1,5 +1,4 @@
-use Rattle.dexruns.proofs.Common.{◌∙◌, err_from_is_err_and}
-use Rattle.dexruns.specs.{bytes_read}
+use Rattle.dexruns.proofs.Common.{◌∙◌, err_from_is_err_and, bytes_read}
 use Rattle.dexruns.proofs.Unread.{of_input}
 use Rattle.dexruns.proofs.dumping.dump_run.Goals as goal
 

@@ -1,8 +1,7 @@
-use Rattle.dexruns.proofs.Common.{◌≡◌, ◌∙◌, ◌<◌, ◌≤◌, ◌∷◌, ◌++◌, ◌^◌, List, [], length, map, refl, sym, ap, subst, arith, vec_len, length-append, ℕ, Option, Some, IfSome, length-map, IsPlanFor, plan_of, plans_of, node_is}
+use Rattle.dexruns.proofs.Common.{◌≡◌, ◌∙◌, ◌<◌, ◌≤◌, ◌∷◌, ◌++◌, ◌^◌, List, [], length, map, refl, sym, ap, subst, arith, vec_len, length-append, ℕ, Option, Some, IfSome, length-map, IsPlanFor, plan_of, plans_of, node_is, in_groups}
 use Rattle.dexspec.specs.Merging as merging
 use Rattle.dexmerge.specs.declared.plan.Plan.{Plan}
 use Rattle.dexmerge.specs.declared.plan.Plan.TheVariants as variants
-use Rattle.dexruns.specs.{in_groups}
 use Rattle.dexruns.proofs.Fanned.{AreGrouped, one_node_plan, one_round, groups_fewer, last_round, grouped_plan, few_files}
 use Rattle.dexruns.proofs.fanning.fan_plan.Goals as goal
 use Rattle.dexruns.proofs.fanning.fan_plan.Goals.{In_ok-plans-2}
@@ -36,9 +35,8 @@ pub rounds-preserved : goal.rounds-preserved
 rounds-preserved c =
     let ps = map plan_of c.rounds.plans.items in
     let before : length ps ≡ length c.rounds.plans.items = length-map c.rounds.plans.items plan_of in
-    let old = c.rounds.plans.ok.0 in
     record {
-      grouped = one_round c.in-Some.fan c.args.files ps (map plan_of c.in_ok-plans-2.plans.items) c.rounds.invariant.grouped (omega (arith, before, old)) c.in_ok-plans-2.ensures;
+      grouped = one_round c.in-Some.fan c.args.files ps (map plan_of c.in_ok-plans-2.plans.items) c.rounds.invariant.grouped (omega (arith, before, c.rounds.plans.ok.0)) c.in_ok-plans-2.ensures;
       some = (fewer c).1;
     }
 
@@ -53,7 +51,5 @@ returns-in-Some-pop-clause-plan_for c =
     let one : map plan_of c.rounds.plans.items ≡ plan_of c.in-Some-pop.plan ∷ [] = only c.rounds.plans.items c.pop.new.self.items c.in-Some-pop.plan c.in-Some-pop.ensures.items (omega (arith, len, c.rounds-test.false)) in
     let count : length (map plan_of c.in_ok-plans.plans.items) ≡ length c.in_ok-plans.plans.items = length-map c.in_ok-plans.plans.items plan_of in
     let size = c.in_ok-plans.plans.ok in
-    let most = c.in_ok-plans.plans.small in
-    let small : length (map plan_of c.in_ok-plans.plans.items) < 2 ^ 63 = omega (arith, count, size.0, size.1, most) in
-    grouped_plan c.in-Some.fan c.args.files (plan_of c.in-Some-pop.plan) (two c.args.fan c.in-Some.fan c.in-Some.is c.requires.fan) c.requires.files (few_files c.args.files (map plan_of c.in_ok-plans.plans.items) c.in_ok-plans.ensures small)
+    grouped_plan c.in-Some.fan c.args.files (plan_of c.in-Some-pop.plan) (two c.args.fan c.in-Some.fan c.in-Some.is c.requires.fan) c.requires.files (few_files c.args.files (map plan_of c.in_ok-plans.plans.items) c.in_ok-plans.ensures (omega (arith, count, size.0, size.1, c.in_ok-plans.plans.small)))
     (last_round c.in-Some.fan c.args.files (plan_of c.in-Some-pop.plan) (subst (AreGrouped c.in-Some.fan c.args.files) one c.rounds.invariant.grouped))

@@ -1,4 +1,4 @@
-use Rattle.dexruns.proofs.Common.{◌≡◌, ◌∙◌, inl, inr, ◌<◌, ◌≢◌, ◌∷◌, ◌++◌, ℕ, List, [], length, get_or, map, refl, sym, ap, subst, arith, vec_len, length-append, Vec, Global, length-map, get_or-map, map-append, Bool, true, false, ◌==◌, zero, suc, cases_lt, eqb-true, false≢true, plan_of, plans_of, node_is}
+use Rattle.dexruns.proofs.Common.{◌≡◌, ◌∙◌, inl, inr, ◌<◌, ◌≢◌, ◌∷◌, ◌++◌, ℕ, List, [], length, get_or, map, refl, sym, ap, subst, arith, vec_len, length-append, Vec, Global, length-map, get_or-map, map-append, cases_lt, eqb-false, eqb-true, nil_from_length, plan_of, plans_of, node_is}
 use Rattle.std.proofs.lemmas.Iterator.Consumers.{YieldsList-turn, YieldsList-end}
 use Rattle.std.proofs.lemmas.Iterator.Adapters.{YieldsList-from_vec}
 use Rattle.dexspec.specs.Merging as merging
@@ -34,9 +34,8 @@ loop-plan-preserved c =
     let cut : IsCut fan ps groups last n × (length last < fan) =
     elim c.if-len-fan.branch [
       | then-len-fan+in_ok-push w ↦
-          let closed = node_pushed c.loop-plan.groups.items w.push.new.self.items c.loop-plan.group w.in_ok-push.ensures.items in
           let none : last ≡ [] = ap (λ (v : Vec Plan Global). map plan_of v.items) w.group-is ∙ ap (map plan_of) w.new-group-then-len-fan.ensures.items in (
-            same_cut fan ps groups _ last [] n (ap (λ (v : Vec Plan Global). map plan_of v.items) w.groups-is ∙ closed) none
+            same_cut fan ps groups _ last [] n (ap (λ (v : Vec Plan Global). map plan_of v.items) w.groups-is ∙ (node_pushed c.loop-plan.groups.items w.push.new.self.items c.loop-plan.group w.in_ok-push.ensures.items)) none
                 (group_more fan ps (map plan_of c.loop-plan.groups.items) (map plan_of c.loop-plan.group.items) n c.loop-plan.invariant.cut (before ∙ sym c.len-in-loop-plan.ensures ∙ w.if-len-fan.true) (omega (arith, inside))),
             omega (arith, ap length none, c.requires),
           )
@@ -46,24 +45,11 @@ loop-plan-preserved c =
             (let few = c.loop-plan.invariant.cut.few in let other : length last ≢ fan = λ e. w.if-len-fan.false (c.len-in-loop-plan.ensures ∙ sym before ∙ ap length (sym same) ∙ e) in omega (arith, few, other, ap length same)),
           )
     ] in
-    let pushed = one_pushed c.if-len-fan.group.items c.push-in-loop-plan.new.self.items x c.in_ok-push-2.ensures.items in
     record {
-      cut = same_cut fan ps groups groups _ _ (length (c.loop-plan.yielded ++ x ∷ [])) refl pushed
+      cut = same_cut fan ps groups groups _ _ (length (c.loop-plan.yielded ++ x ∷ [])) refl (one_pushed c.if-len-fan.group.items c.push-in-loop-plan.new.self.items x c.in_ok-push-2.ensures.items)
           (subst (IsCut fan ps groups (last ++ plan_of x ∷ [])) (sym (length-append c.loop-plan.yielded (x ∷ []))) (one_more fan ps groups last n (plan_of x) cut.0 cut.1 inside is));
       some = λ _. omega (arith, c.in_ok-push-2.ensures.len);
     }
-
--- what the test for an empty list says
-some_of : (n : ℕ) (empty : Bool) → empty ≡ (n == 0) → empty ≡ false → 0 < n
-some_of zero empty is other = absurd (false≢true (sym other ∙ is))
-some_of (suc n) empty is other = omega arith
-
-none_of : (n : ℕ) (empty : Bool) → empty ≡ (n == 0) → empty ≡ true → n ≡ 0
-none_of n empty is other = eqb-true n 0 (sym is ∙ other)
-
-nil_of : (ps : List merging.Plan) → length ps ≡ 0 → ps ≡ []
-nil_of [] e = refl
-nil_of (p ∷ ps) e = absurd (omega (arith, e))
 
 pub returns : goal.returns
 returns c =
@@ -79,12 +65,11 @@ returns c =
     let count : length last ≡ vec_len c.loop-plan.group = length-map c.loop-plan.group.items plan_of ∙ sym c.loop-plan.group.ok.0 in
     elim c.if-not-is_empty.branch [
       | then-not-is_empty+in_ok-push-3 w ↦
-          let some = some_of (vec_len c.loop-plan.group) c.is_empty.result c.is_empty.ensures w.if-not-is_empty.true in
           ap (λ (v : Vec Plan Global). map plan_of v.items) w.groups-is ∙ node_pushed c.loop-plan.groups.items w.push-then-not-is_empty.new.self.items c.loop-plan.group w.in_ok-push-3.ensures.items
-          ∙ last_closed fan ps groups last cut (omega (arith, count, some))
+          ∙ last_closed fan ps groups last cut (omega (arith, count, eqb-false (vec_len c.loop-plan.group) 0 (sym c.is_empty.ensures ∙ w.if-not-is_empty.true)))
       | else-not-is_empty w ↦
-          let none = none_of (vec_len c.loop-plan.group) c.is_empty.result c.is_empty.ensures w.if-not-is_empty.false in
-          let nil : last ≡ [] = nil_of last (count ∙ none) in
+          let none = eqb-true (vec_len c.loop-plan.group) 0 (sym c.is_empty.ensures ∙ w.if-not-is_empty.false) in
+          let nil : last ≡ [] = nil_from_length last (count ∙ none) in
           let nothing : length ps ≡ 0 = elim (cases_lt 0 (length ps)) [
             | inl pos ↦ absurd (omega (arith, none, c.loop-plan.invariant.some (omega (arith, pos, all))))
             | inr few ↦ omega (arith, few)

@@ -18,8 +18,7 @@ pub returns-clause-bytes : goal.returns-clause-bytes
 returns-clause-bytes g c =
     let filled = c.pieces.filled in
     let bytes = c.pieces.bytes.items in
-    let within : filled ≤ length bytes = omega (arith, c.pieces.invariant.filled, c.pieces.bytes.ok.0) in
-    let long : length (take filled bytes) ≡ filled = length-take-le filled bytes within in
+    let long : length (take filled bytes) ≡ filled = length-take-le filled bytes (omega (arith, c.pieces.invariant.filled, c.pieces.bytes.ok.0)) in
     let same : take filled c.pieces-test.bytes.items ≡ take filled bytes = elim c.pieces-test.branch [
       | else-pieces-test w ↦ ap (λ (v : Vec ℕ). take filled v.items) w.bytes-is
       | then-pieces-test+in_ok-taken+then-taken-eq0 w ↦ ap (λ (v : Vec ℕ). take filled v.items) w.bytes-is ∙ w.in_ok-taken.ensures.prefix

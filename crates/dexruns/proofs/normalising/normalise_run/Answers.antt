@@ -1,6 +1,5 @@
-use Rattle.dexruns.proofs.Common.{◌∙◌, err_from_is_err_and}
-use Rattle.dexruns.specs.{bytes_read}
-use Rattle.dexruns.proofs.Normalised.{written_is, left_by_store}
+use Rattle.dexruns.proofs.Common.{◌∙◌, err_from_is_err_and, bytes_read}
+use Rattle.dexruns.proofs.Digested.{file_written, left_by_store}
 use Rattle.dexruns.proofs.Unread.{of_input}
 use Rattle.dexruns.proofs.normalising.normalise_run.Goals as goal
 
@@ -12,7 +11,7 @@ returns-in_err-program-clause-fault g c =
 
 pub returns-clause-written : goal.returns-clause-written
 returns-clause-written g c = λ reads writes K denotes.
-    written_is c.one_collection.ensures _ _ K _ _ _ (c.as_slice.ensures.value ∙ c.in_ok-bytes.ensures.bytes reads) c.in_ok-program.ensures.accepted denotes (c.in_ok-write_to.ensures.written writes)
+    file_written c.one_collection.ensures _ _ K _ _ _ (c.as_slice.ensures.value ∙ c.in_ok-bytes.ensures.bytes reads) c.in_ok-program.ensures.accepted denotes (c.in_ok-write_to.ensures.written writes)
 
 pub returns-in_err-write_to-clause-left : goal.returns-in_err-write_to-clause-left
 returns-in_err-write_to-clause-left g c =

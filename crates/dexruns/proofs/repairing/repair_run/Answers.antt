@@ -1,5 +1,4 @@
-use Rattle.dexruns.proofs.Common.{◌∙◌, err_from_is_err_and}
-use Rattle.dexruns.specs.{bytes_read, repaired}
+use Rattle.dexruns.proofs.Common.{◌∙◌, err_from_is_err_and, bytes_read, repaired}
 use Rattle.dexruns.proofs.Repaired.{repaired_only, repaired_is, accepted_is, prefix_is, has_checksum, has_signature}
 use Rattle.dexruns.proofs.Unread.{of_input, no_program}
 use Rattle.dexruns.proofs.repairing.repair_run.Goals as goal

@@ -25,8 +25,7 @@ class_methods_known m x known = All-append (IsKnownMethod m) x.direct_methods x.
 -- and those of all
 pub methods_known : (m : Mentions) (cs : List NumberedClass) → All (IsKnownClass m) cs → All (IsKnownMethod m) (methods_in_all cs)
 methods_known m [] known = All-nil (IsKnownMethod m)
-methods_known m (c ∷ cs) known =
-    All-append (IsKnownMethod m) (methods_of c.members) (methods_in_all cs) (class_methods_known m c.members (All-head (IsKnownClass m) c cs known).members_known) (methods_known m cs (All-tail (IsKnownClass m) c cs known))
+methods_known m (c ∷ cs) known = All-append (IsKnownMethod m) (methods_of c.members) (methods_in_all cs) (class_methods_known m c.members (All-head (IsKnownClass m) c cs known).members_known) (methods_known m cs (All-tail (IsKnownClass m) c cs known))
 
 -- those of the next class, and of the classes after it
 module _ (cs : List NumberedClass) (i : ℕ) (c : NumberedClass) (x : NumberedMembers) (lt : i < length cs) (is : get_or cs i c ≡ c) (members : x ≡ c.members) where

@@ -17,8 +17,7 @@ values_few m (ThenNext x xs) = omega (arith, length-append (value_bytes m (value
 
 -- the bytes of an element and of those after it
 element_bytes : (m : Mentions) (name : ℕ) (x : NumberedValue) (es : NumberedElements) → length (value_bytes m (value_in m x)) + length (elements_bytes m (elements_in m es)) ≤ length (elements_bytes m (elements_in m (ThenNamed name x es)))
-element_bytes m name x es =
-    omega (arith, length-append (uleb128 (text_index m (text_at m name))) (value_bytes m (value_in m x) ++ elements_bytes m (elements_in m es)), length-append (value_bytes m (value_in m x)) (elements_bytes m (elements_in m es)))
+element_bytes m name x es = omega (arith, length-append (uleb128 (text_index m (text_at m name))) (value_bytes m (value_in m x) ++ elements_bytes m (elements_in m es)), length-append (value_bytes m (value_in m x)) (elements_bytes m (elements_in m es)))
 
 -- nor are elements
 elements_few : (m : Mentions) (es : NumberedElements) → elements_count es ≤ length (elements_bytes m (elements_in m es))
@@ -48,9 +47,7 @@ mutual
 
   elements_counted : (m : Mentions) (es : NumberedElements) → length (elements_bytes m (elements_in m es)) < 2 ^ 32 → HaveCounted es
   elements_counted m NoElement lt = tt
-  elements_counted m (ThenNamed name x es) lt =
-      let both = element_bytes m name x es in
-      (counted m x (omega (arith, lt, both)), elements_counted m es (omega (arith, lt, both)))
+  elements_counted m (ThenNamed name x es) lt = (counted m x (omega (arith, lt, element_bytes m name x es)), elements_counted m es (omega (arith, lt, element_bytes m name x es)))
 
 -- static values
 pub array_counted : (m : Mentions) (xs : NumberedValues) → length (encoded_array_bytes m (values_in m xs)) < 2 ^ 32 → (values_count xs < 2 ^ 32) × AreCounted xs

@@ -74,5 +74,4 @@ module _ (cs : List NumberedClass) (i : ℕ) (c : NumberedClass) (lt : i < lengt
 
   -- as many offsets are left as methods
   pub data_rest : (offs others : List ℕ) → others ≡ drop n offs → length offs ≡ length (methods_in_all (drop i cs)) → length others ≡ length (methods_in_all (drop (i + 1) cs))
-  data_rest offs others back same =
-      omega (arith, ap (λ (os : List ℕ). length os) back, length-drop n offs, same, ap (λ ds. length (methods_in_all ds)) (drop_next cs i c lt is), length-append (methods_of c.members) (methods_in_all (drop (i + 1) cs)), count)
+  data_rest offs others back same = omega (arith, ap (λ (os : List ℕ). length os) back, length-drop n offs, same, ap (λ ds. length (methods_in_all ds)) (drop_next cs i c lt is), length-append (methods_of c.members) (methods_in_all (drop (i + 1) cs)), count)

@@ -47,10 +47,8 @@ module _ (D : List Definition) (b : List ℕ) (n : AreNormal D b) where
   apart : HaveOwnBytes (ordered D)
   apart x y c d same =
       let p = in_file x c in
-      let q = in_file y d in
-      let following = p.at.in_data.following in
-      one_debug b p.place x y (debug_written b (mentions D) p.place x p.formed p.rows following p.at.encodes)
-      (debug_written b (mentions D) p.place y q.formed q.rows following (subst (BytesAt b p.place) same p.at.encodes))
+      one_debug b p.place x y (debug_written b (mentions D) p.place x p.formed p.rows p.at.in_data.following p.at.encodes)
+      (debug_written b (mentions D) p.place y (in_file y d).formed (in_file y d).rows p.at.in_data.following (subst (BytesAt b p.place) same p.at.encodes))
 
 -- those of the canonical file
 pub debugs_apart : (C : Collection) → IsGood greatest_caps (definitions C) → AreWellFormed (definitions C) → HaveOwnBytes (ordered (definitions C))

@@ -42,13 +42,11 @@ module _ {X : Type 0} (f : X → List ℕ) (align : ℕ) where
       let o = round_up align p.end in
       let next = offsets_from align (o + length (f x)) (map f (present us)) in
       let all = before ++ o ∷ next in
-      let joined : (before ++ o ∷ []) ++ next ≡ all = append_assoc before (o ∷ []) next in
-      let count : length (before ++ o ∷ []) ≡ length before + 1 = length-append before (o ∷ []) in
       let here : slice_index all (length before) ≡ o = ap (slice_index all) (omega arith) ∙ get_or-append-add before (o ∷ next) 0 0 in
       offsets_go us (before ++ o ∷ []) (put_at p o (length (f x)))
       ∙ append_assoc p.offsets (o ∷ []) _
-      ∙ ap (λ os. p.offsets ++ (o ∷ map (offset_of os) (own_numbers (length (before ++ o ∷ [])) us))) joined
-      ∙ ap (λ n. p.offsets ++ (o ∷ map (offset_of all) (own_numbers n us))) count
+      ∙ ap (λ os. p.offsets ++ (o ∷ map (offset_of os) (own_numbers (length (before ++ o ∷ [])) us))) (append_assoc before (o ∷ []) next)
+      ∙ ap (λ n. p.offsets ++ (o ∷ map (offset_of all) (own_numbers n us))) (length-append before (o ∷ []))
       ∙ ap (λ k. p.offsets ++ (k ∷ map (offset_of all) (own_numbers (length before + 1) us))) (sym here)
 
   end_go : (us : List (Option X)) (p : ItemPlaces) → (place_uses align p (sizes f us)).end ≡ end_from align p.end (map f (present us))
@@ -166,9 +164,8 @@ module _ (align : ℕ) where
   encoded_bytes p [] = sym (append-nil p.bytes)
   encoded_bytes p (None ∷ us) = encoded_bytes (pass_use p) us
   encoded_bytes p (Some x ∷ us) =
-      let zeros = padding align p.places.end in
       let rest = bytes_from align (round_up align p.places.end + length x) (present us) in
-      encoded_bytes (put_item (align_next align p) x) us ∙ append_assoc (p.bytes ++ zeros) x rest ∙ append_assoc p.bytes zeros (x ++ rest)
+      encoded_bytes (put_item (align_next align p) x) us ∙ append_assoc (p.bytes ++ (padding align p.places.end)) x rest ∙ append_assoc p.bytes (padding align p.places.end) (x ++ rest)
 
   module _ {X : Type 0} (f : X → List ℕ) where
     -- items that all uses have

@@ -67,70 +67,45 @@ directory_count K = own_count (λ (x : List ℕ). x) 4 (end (ref_list_section K)
 length-offsets : (p : Placed) → length (offsets p) ≡ length p.items
 length-offsets p = length-offsets_from p.align p.from p.items
 
--- the data has as many items of each section as the file
-pub record AreCounted (K : Ordered) (d : Data) : Type 0 where
-  pub type_lists : d.first_sections.type_lists.count ≡ length (type_list_section K).items
-  pub annotations : length d.first_sections.annotations.places.offsets ≡ length (annotation_section K).items
-  pub arrays : count_placed d.first_sections.static_values.places.offsets ≡ length (array_section K).items
-  pub strings : length K.pools.texts ≡ length (string_section K).items
-  pub debugs : d.bodies.debugs.count ≡ length (debug_section K).items
-  pub codes : count_placed d.bodies.codes.places.offsets ≡ length (code_section K).items
-  pub class_data : count_placed d.bodies.class_data.places.offsets ≡ length (class_data_section K).items
-  pub sets : length d.back.sets.written.places.offsets ≡ length (set_section K).items
-  pub ref_lists : count_placed d.back.ref_lists.places.offsets ≡ length (ref_list_section K).items
-  pub directories : count_placed d.back.directories.places.offsets ≡ length (directory_section K).items
-
-pub counted : {m : Mentions} {cs : List NumberedClass} {d : Data} → AreData m cs d → AreCounted (ordered_of m cs) d
-unfolding string_section
-counted {m} {cs} {d} h =
-    let K = ordered_of m cs in
-    record {
-      type_lists = h.first_sections_are.type_lists_are.count_is;
-      annotations = ap (λ (os : List ℕ). length os) h.first_sections_are.annotations_are.places_are.offsets_are ∙ length-offsets (annotation_section K);
-      arrays = ap count_placed h.first_sections_are.static_values_are.places_are.offsets_are ∙ array_count K;
-      strings = sym (length-map m.texts string_data);
-      debugs = h.bodies_are.debugs_are.count_is;
-      codes = ap count_placed h.bodies_are.codes_are.places_are.offsets_are ∙ code_count K;
-      class_data = ap count_placed h.bodies_are.class_data_are.places_are.offsets_are ∙ class_data_count K;
-      sets = ap (λ (os : List ℕ). length os) h.back_are.sets_are.written_are.places_are.offsets_are ∙ length-offsets (set_section K);
-      ref_lists = ap count_placed h.back_are.ref_lists_are.places_are.offsets_are ∙ ref_list_count K;
-      directories = ap count_placed h.back_are.directories_are.places_are.offsets_are ∙ directory_count K;
-    }
-
--- each section has no more items than the file may have bytes
-pub record HaveFewItems (K : Ordered) : Type 0 where
-  pub type_lists : length (type_list_section K).items ≤ 2 ^ 30
-  pub annotations : length (annotation_section K).items ≤ 2 ^ 30
-  pub arrays : length (array_section K).items ≤ 2 ^ 30
-  pub strings : length (string_section K).items ≤ 2 ^ 30
-  pub debugs : length (debug_section K).items ≤ 2 ^ 30
-  pub codes : length (code_section K).items ≤ 2 ^ 30
-  pub class_data : length (class_data_section K).items ≤ 2 ^ 30
-  pub sets : length (set_section K).items ≤ 2 ^ 30
-  pub ref_lists : length (ref_list_section K).items ≤ 2 ^ 30
-  pub directories : length (directory_section K).items ≤ 2 ^ 30
-
 -- no more items than where they end
 few : (p : Placed) → HasBytes p → end p ≤ 2 ^ 30 → length p.items ≤ 2 ^ 30
 few p some le = omega (arith, le, items_few p.align p.from p.items some)
 
-pub few_items : {m : Mentions} {cs : List NumberedClass} → AreWritable m cs → HaveFewItems (ordered_of m cs)
-few_items {m} {cs} w =
+-- as many as a section has, which are no more than the file may have bytes
+abbrev AreAsMany : ℕ → Placed → Type 0
+AreAsMany n p = (n ≡ length p.items) × (length p.items ≤ 2 ^ 30)
+
+-- the data has as many items of each section as the file
+pub record AreCounted (K : Ordered) (d : Data) : Type 0 where
+  pub type_lists : AreAsMany d.first_sections.type_lists.count (type_list_section K)
+  pub annotations : AreAsMany (length d.first_sections.annotations.places.offsets) (annotation_section K)
+  pub arrays : AreAsMany (count_placed d.first_sections.static_values.places.offsets) (array_section K)
+  pub strings : AreAsMany (length K.pools.texts) (string_section K)
+  pub debugs : AreAsMany d.bodies.debugs.count (debug_section K)
+  pub codes : AreAsMany (count_placed d.bodies.codes.places.offsets) (code_section K)
+  pub class_data : AreAsMany (count_placed d.bodies.class_data.places.offsets) (class_data_section K)
+  pub sets : AreAsMany (length d.back.sets.written.places.offsets) (set_section K)
+  pub ref_lists : AreAsMany (count_placed d.back.ref_lists.places.offsets) (ref_list_section K)
+  pub directories : AreAsMany (count_placed d.back.directories.places.offsets) (directory_section K)
+
+pub counted : {m : Mentions} {cs : List NumberedClass} {d : Data} → AreWritable m cs → AreData m cs d → AreCounted (ordered_of m cs) d
+unfolding string_section
+counted {m} {cs} {d} w h =
     let K = ordered_of m cs in
     let ends = end_in_file K w.fits in
     let b = sections_have_bytes K in
-    let d = type_list_section K in
+    let t = type_list_section K in
     record {
-      type_lists = few (type_list_section K) (b 0 d (omega arith)) ends.type_lists;
-      annotations = few (annotation_section K) (b 1 d (omega arith)) ends.annotations;
-      arrays = few (array_section K) (b 2 d (omega arith)) ends.arrays;
-      strings = few (string_section K) (b 3 d (omega arith)) ends.strings;
-      debugs = few (debug_section K) (b 4 d (omega arith)) ends.debugs;
-      codes = few (code_section K) (b 5 d (omega arith)) ends.codes;
-      class_data = few (class_data_section K) (b 6 d (omega arith)) ends.class_data;
-      sets = few (set_section K) (b 7 d (omega arith)) ends.sets;
-      ref_lists = few (ref_list_section K) (b 8 d (omega arith)) ends.ref_lists;
-      directories = few (directory_section K) (b 9 d (omega arith)) ends.directories;
+      type_lists = (h.first_sections_are.type_lists_are.count_is, few (type_list_section K) (b 0 t (omega arith)) ends.type_lists);
+      annotations = (ap (λ (os : List ℕ). length os) h.first_sections_are.annotations_are.places_are.offsets_are ∙ length-offsets (annotation_section K), few (annotation_section K) (b 1 t (omega arith)) ends.annotations);
+      arrays = (ap count_placed h.first_sections_are.static_values_are.places_are.offsets_are ∙ array_count K, few (array_section K) (b 2 t (omega arith)) ends.arrays);
+      strings = (sym (length-map m.texts string_data), few (string_section K) (b 3 t (omega arith)) ends.strings);
+      debugs = (h.bodies_are.debugs_are.count_is, few (debug_section K) (b 4 t (omega arith)) ends.debugs);
+      codes = (ap count_placed h.bodies_are.codes_are.places_are.offsets_are ∙ code_count K, few (code_section K) (b 5 t (omega arith)) ends.codes);
+      class_data = (ap count_placed h.bodies_are.class_data_are.places_are.offsets_are ∙ class_data_count K, few (class_data_section K) (b 6 t (omega arith)) ends.class_data);
+      sets = (ap (λ (os : List ℕ). length os) h.back_are.sets_are.written_are.places_are.offsets_are ∙ length-offsets (set_section K), few (set_section K) (b 7 t (omega arith)) ends.sets);
+      ref_lists = (ap count_placed h.back_are.ref_lists_are.places_are.offsets_are ∙ ref_list_count K, few (ref_list_section K) (b 8 t (omega arith)) ends.ref_lists);
+      directories = (ap count_placed h.back_are.directories_are.places_are.offsets_are ∙ directory_count K, few (directory_section K) (b 9 t (omega arith)) ends.directories);
     }
 
 -- ---- texts
@@ -143,6 +118,4 @@ strings_at_ranks K from {p} e h = record { offsets_are = h.offsets_are ∙ ap (�
 -- and fit the file
 pub strings_fit : (K : Ordered) (from : ℕ) → from ≡ end (array_section K) → EndInFile K → end_from 1 from (map string_data K.pools.texts) ≤ 2 ^ 30
 unfolding string_section
-strings_fit K from e ends =
-    let last : end_from 1 (end (array_section K)) (map string_data K.pools.texts) ≤ 2 ^ 30 = ends.strings in
-    omega (arith, ap (λ n. end_from 1 n (map string_data K.pools.texts)) e, last)
+strings_fit K from e ends = omega (arith, ap (λ n. end_from 1 n (map string_data K.pools.texts)) e, ends.strings)

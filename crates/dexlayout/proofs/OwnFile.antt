@@ -60,9 +60,7 @@ places_same K = map_place_is K ∙ sym (map_start_is K)
 
 -- the file ends at `file_end`
 length_file : (K : Ordered) → length (with_sums (unsigned_file K)) ≡ file_end K
-length_file K =
-    let list = ap (λ es. length (map_bytes es)) (map_list_named K ∙ ap (map_of K) (places_same K)) in
-    (parts K).size ∙ ap (λ n. n + length (map_bytes (Rattle.dexspec.proofs.layout.SectionPlaces.map_list K))) (places_same K) ∙ ap (λ n. map_start K + n) list
+length_file K = (parts K).size ∙ ap (λ n. n + length (map_bytes (Rattle.dexspec.proofs.layout.SectionPlaces.map_list K))) (places_same K) ∙ ap (λ n. map_start K + n) (ap (λ es. length (map_bytes es)) (map_list_named K ∙ ap (map_of K) (places_same K)))
 
 -- and so does a canonical file
 pub length_canonical : (C : Collection) → length (canonical C) ≡ file_end (ordered (definitions C))

@@ -133,6 +133,4 @@ module _ (m : Mentions) (cs : List NumberedClass) {sets : SetPlaces} (are : AreS
   -- encoded after the sets they are those of the file
   pub ref_lists_laid : AreRefLists m cs (encode_uses 4 (no_items_from sets.written.places.end) (offset_lists list_item (class_parameter_counts cs) sets.parameters))
   unfolding ref_list_section
-  ref_lists_laid =
-      let K = ordered_of m cs in
-      own_in 4 offsets_bytes AnnotationSetRefLists (ref_list_uses K (set_offsets K)) are.written_are.places_are.end_is lists_are
+  ref_lists_laid = own_in 4 offsets_bytes AnnotationSetRefLists (ref_list_uses (ordered_of m cs) (set_offsets (ordered_of m cs))) are.written_are.places_are.end_is lists_are

@@ -181,8 +181,7 @@ module _ (m : Mentions) (ranks : RanksAreNumbers m) where
       let methods_count = length-append (methods_of c.members) (flat_map (λ (c : NumberedClass). methods_of c.members) cs) in
       let lf = part_fields c offs (omega (arith, enough, sets_count)) in
       let lm = part_firsts c offs in
-      let nd : length (declared_methods (definition_of m c).1) ≡ nm = ap (λ (l : List MethodDef). length l) (methods_are m c) ∙ length-map (methods_of c.members) (method_in m) in
-      rw (take_at s.fields fs nf lf, take_at (firsts s) ms nm lm, drop_at s.fields fs nf lf, drop_at (firsts s) ms nm lm, nd)
+      rw (take_at s.fields fs nf lf, take_at (firsts s) ms nm lm, drop_at s.fields fs nf lf, drop_at (firsts s) ms nm lm, ap (λ (l : List MethodDef). length l) (methods_are m c) ∙ length-map (methods_of c.members) (method_in m))
       (λ i. one_directory c (All-head (IsKnownClass m) c cs known) s (take nm lists) lf (part_methods c offs) (omega (arith, length-take nm lists, methods_count, many)) i
       ∷ all_directories cs (All-tail (IsKnownClass m) c cs known) (drop n offs) (drop nm lists) (omega (arith, enough, sets_count, length-drop n offs)) (omega (arith, many, methods_count, length-drop nm lists)) i)
 

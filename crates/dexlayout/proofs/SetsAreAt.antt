@@ -21,9 +21,7 @@ all_of ss = flat_map (λ (s : AnnotationSet). s) ss
 -- their items, by numbers and by symbols
 items_are : {X : Type 0} (m : Mentions) (g : X → NumberedSet) (xs : List X) → flat_map (λ x. annotation_items m (g x)) xs ≡ map (item_of m) (all_of (map (λ x. set_in m (g x)) xs))
 items_are m g [] = refl
-items_are m g (x ∷ xs) =
-    let here : annotation_items m (g x) ≡ map (item_of m) (set_in m (g x)) = sym (map-map (item_of m) (annotation_in m) (g x)) in
-    (λ i. here i ++ items_are m g xs i) ∙ sym (map-append (item_of m) (set_in m (g x)) (all_of (map (λ y. set_in m (g y)) xs)))
+items_are m g (x ∷ xs) = (λ i. sym (map-map (item_of m) (annotation_in m) (g x)) i ++ items_are m g xs i) ∙ sym (map-append (item_of m) (set_in m (g x)) (all_of (map (λ y. set_in m (g y)) xs)))
 
 -- encoded after the type lists they are those of the file
 module _ {X : Type 0} (m : Mentions) (cs : List NumberedClass) (g : X → NumberedSet) (xs : List X) (are : map (λ x. set_in m (g x)) xs ≡ (set_items (ordered_of m cs)).written) (from : ℕ) (is : from ≡ end (type_list_section (ordered_of m cs))) where
@@ -57,9 +55,7 @@ length-set_offsets K = length-offsets_from 4 (end (class_data_section K)) (map o
 -- as many annotations as by numbers
 annotation_counts_are : {X : Type 0} (m : Mentions) (g : X → NumberedSet) (xs : List X) → map (λ x. length (g x)) xs ≡ map (λ (s : AnnotationSet). length s) (map (λ x. set_in m (g x)) xs)
 annotation_counts_are m g [] = refl
-annotation_counts_are m g (x ∷ xs) =
-    let here : length (g x) ≡ length (set_in m (g x)) = sym (length-map (g x) (annotation_in m)) in
-    λ i. here i ∷ annotation_counts_are m g xs i
+annotation_counts_are m g (x ∷ xs) = λ i. sym (length-map (g x) (annotation_in m)) i ∷ annotation_counts_are m g xs i
 
 -- the sets that are written, from the offsets of the annotations
 module _ {X : Type 0} (m : Mentions) (cs : List NumberedClass) (g : X → NumberedSet) (xs : List X) (are : map (λ x. set_in m (g x)) xs ≡ (set_items (ordered_of m cs)).written) (offs : List ℕ) (offsets_are : offs ≡ offsets (annotation_section (ordered_of m cs))) where
@@ -68,16 +64,12 @@ module _ {X : Type 0} (m : Mentions) (cs : List NumberedClass) (g : X → Number
 
   -- there are enough offsets
   pub annotations_enough : total (map (λ x. length (g x)) xs) ≤ length offs
-  annotations_enough =
-      let K = ordered_of m cs in
-      omega (arith, ap total counts, total_lengths (set_items K).written, annotations_count K, ap (λ (os : List ℕ). length os) offsets_are)
+  annotations_enough = omega (arith, ap total counts, total_lengths (set_items (ordered_of m cs)).written, annotations_count (ordered_of m cs), ap (λ (os : List ℕ). length os) offsets_are)
 
   -- encoded they are those of the file
   pub sets_laid : (from : ℕ) → from ≡ end (class_data_section (ordered_of m cs)) → AreItemsIn (set_section (ordered_of m cs)) (encode_uses 4 (no_items_from from) (offset_lists set_item (map (λ x. length (g x)) xs) offs))
   unfolding annotation_offsets set_section
-  sets_laid from is =
-      let K = ordered_of m cs in
-      all_in 4 offsets_bytes AnnotationSets (record { numbers = (set_items K).numbers; written = annotation_offsets K }) is (λ i. offset_lists set_item (counts i) (offsets_are i))
+  sets_laid from is = all_in 4 offsets_bytes AnnotationSets (record { numbers = (set_items (ordered_of m cs)).numbers; written = annotation_offsets (ordered_of m cs) }) is (λ i. offset_lists set_item (counts i) (offsets_are i))
 
 -- ---- all sets
 

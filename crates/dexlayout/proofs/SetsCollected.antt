@@ -29,16 +29,11 @@ set_offsets_are K = refl
 
 -- of methods
 pub collected_methods : (p : SetPlaces) (oss : List (List ℕ)) → collect_methods p oss ≡ record {
-  own = p.own;
-  fields = p.fields;
-  methods = p.methods ++ map (λ os. slice_index os 0) oss;
-  parameters = p.parameters ++ flat_map (drop 1) oss;
-  written = p.written;
+  own = p.own; fields = p.fields; methods = p.methods ++ map (λ os. slice_index os 0) oss; parameters = p.parameters ++ flat_map (drop 1) oss; written = p.written;
 }
 collected_methods p [] = λ i. record { own = p.own; fields = p.fields; methods = sym (append-nil p.methods) i; parameters = sym (append-nil p.parameters) i; written = p.written }
 collected_methods p (os ∷ oss) =
-    let a = append_assoc p.methods (slice_index os 0 ∷ []) (map (λ os. slice_index os 0) oss) in
-    collected_methods (collect_method p os) oss ∙ (λ i. record { own = p.own; fields = p.fields; methods = a i; parameters = append_assoc p.parameters (drop 1 os) (flat_map (drop 1) oss) i; written = p.written })
+    collected_methods (collect_method p os) oss ∙ (λ i. record { own = p.own; fields = p.fields; methods = append_assoc p.methods (slice_index os 0 ∷ []) (map (λ os. slice_index os 0) oss) i; parameters = append_assoc p.parameters (drop 1 os) (flat_map (drop 1) oss) i; written = p.written })
 
 -- of classes
 pub collected_classes : (p : SetPlaces) (ss : List SetOffsets) → collect_classes p ss ≡ record {
@@ -93,9 +88,7 @@ chunks_prefix f (x ∷ xs) zs =
     let n = length (f x) in
     let r = length (flat_map f xs) in
     let all : length (f x ++ flat_map f xs) ≡ n + r = length-append (f x) (flat_map f xs) in
-    let here : take n (take (length (f x ++ flat_map f xs)) zs) ≡ take n zs = take-take n (length (f x ++ flat_map f xs)) zs (omega (arith, all)) in
-    let following : drop n (take (length (f x ++ flat_map f xs)) zs) ≡ take r (drop n zs) = ap (λ k. drop n (take k zs)) all ∙ drop-take n r zs in
-    λ i. here i ∷ (ap (chunks (map (λ x. length (f x)) xs)) following ∙ chunks_prefix f xs (drop n zs)) i
+    λ i. take-take n (length (f x ++ flat_map f xs)) zs (omega (arith, all)) i ∷ (ap (chunks (map (λ x. length (f x)) xs)) (ap (λ k. drop n (take k zs)) all ∙ drop-take n r zs) ∙ chunks_prefix f xs (drop n zs)) i
 
 module _ (m : Mentions) where
   -- the fields of a class

@@ -93,14 +93,11 @@ lists_shared m cs ks ns rising h = shared_are h same_types (lists_agree m rising
 
 module _ (m : Mentions) (cs : List NumberedClass) (w : AreWritable m cs) (from : ℕ) (is : from ≡ data_start (ordered_of m cs)) (written : List (List ℕ)) (numbers : List (Option ℕ)) (known : All (AreTypes m) written)
     (h : AreShared (map (type_at m)) (type_list_items (ordered_of m cs)) written numbers) where
-  list_is : (ns : List ℕ) → AreTypes m ns → list_bytes ns ≡ type_list_bytes m (map (type_at m) ns)
-  list_is ns k = list_bytes_are m ns (ranks_are_numbers m w.numbering.rising) k
-
   lists_encoded : AreItemsIn (type_list_section (ordered_of m cs)) (encoded_lists from written)
   unfolding type_list_section
   lists_encoded =
       all_in 4 (type_list_bytes m) TypeLists (type_list_items (ordered_of m cs)) is
-      (items_agree list_bytes (type_list_bytes m) (map (type_at m)) (AreTypes m) list_is written known ∙ ap (map (λ ts. Some (type_list_bytes m ts))) h.written_are)
+      (items_agree list_bytes (type_list_bytes m) (map (type_at m)) (AreTypes m) (λ ns k. list_bytes_are m ns (ranks_are_numbers m w.numbering.rising) k) written known ∙ ap (map (λ ts. Some (type_list_bytes m ts))) h.written_are)
 
   -- they end within the file
   pub lists_fit : (encoded_lists from written).places.end ≤ 2 ^ 30

@@ -32,9 +32,8 @@ module _ {X : Type 0} (same : X → X → Bool) (laws : IsEquivalence same) wher
   added_by true y ds x h = ap (λ ks. y ∷ ks) (skipped (λ z. not (same y z)) (list_any (same x) ds) ds x (ap not h))
   added_by false y ds x h =
       let p : X → Bool = λ z. not (same y z) in
-      let any : list_any (same x) (filter p ds) ≡ list_any (same x) ds = any-filter_same (same x) p true (λ k e. apart x y h k (laws.symm k x ∙ e)) ds in
       ap (λ ks. y ∷ ks) (kept p (list_any (same x) ds) ds x (ap not h)) ∙ first_of (list_any (same x) ds) y (filter p ds) x
-      ∙ ap (λ b. if b then y ∷ filter p ds else y ∷ (filter p ds ++ x ∷ [])) (sym any)
+      ∙ ap (λ b. if b then y ∷ filter p ds else y ∷ (filter p ds ++ x ∷ [])) (sym (any-filter_same (same x) p true (λ k e. apart x y h k (laws.symm k x ∙ e)) ds))
 
   -- the distinct members of a list with one more at its end
   distinct_with : (xs : List X) (x : X) → distinct same (xs ++ x ∷ []) ≡ with_last same (distinct same xs) x
@@ -98,9 +97,8 @@ module _ {X : Type 0} (same : X → X → Bool) (laws : IsEquivalence same) wher
         let ds = distinct same (present uses) in
         let is : distinct same (present (uses ++ Some x ∷ [])) ≡ with_last same ds x = ap (distinct same) (present-append uses (Some x ∷ [])) ∙ distinct_with (present uses) x in
         let all = with_last same ds x in
-        let more = insert_grows same ds x in
         let stay : map (option_map (number_in all)) uses ≡ map (option_map (number_in ds)) uses =
-        ap (λ es. map (option_map (number_in es)) uses) more.1 ∙ numbers_stay ds more.0 uses (equivalent_in (present uses)) in
+        ap (λ es. map (option_map (number_in es)) uses) (insert_grows same ds x).1 ∙ numbers_stay ds (insert_grows same ds x).0 uses (equivalent_in (present uses)) in
         let last : number_in all x ≡ number = number_of (list_any (same x) ds) ds x refl ∙ ap (position_or_len (same x)) (sym h.written_are) ∙ sym e in
         record {
           written_are = ap (λ ks. with_last same ks x) h.written_are ∙ sym is;

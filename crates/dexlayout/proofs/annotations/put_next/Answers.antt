@@ -11,9 +11,8 @@ item c = annotation_item c.args.numbering.now (annotation_of c.args.annotation.n
 -- they were put
 put : (c : In_ok-put_annotation) → c.put_annotation.new.out.items ≡ c.items.inside.bytes.items ++ item c
 put c =
-    let m = c.args.numbering.now in
     let a = annotation_of c.args.annotation.now in
-    (c.in_ok-put_annotation.ensures.symbolic (annotation_in m a) (annotation_counted m a (omega (arith, c.requires.fits))) (record { known = c.requires.known; means = refl })).ok
+    (c.in_ok-put_annotation.ensures.symbolic (annotation_in c.args.numbering.now a) (annotation_counted c.args.numbering.now a (omega (arith, c.requires.fits))) (record { known = c.requires.known; means = refl })).ok
 
 pub end_item-requires-clause-fits : goal.end_item-requires-clause-fits
 end_item-requires-clause-fits c =

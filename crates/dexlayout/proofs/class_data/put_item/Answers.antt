@@ -8,8 +8,7 @@ use Rattle.dexlayout.proofs.class_data.put_item.Goals.{In_ok-put_class_data}
 
 pub returns-then-has_no_members : goal.returns-then-has_no_members
 returns-then-has_no_members c =
-    let none = data_none c.args.class.now c.members-members.result.now c.args.code_offs.now c.has_no_members.result c.members-members.ensures c.has_no_members.ensures c.if-has_no_members.true in
-    on_ok_weaker c.pass.result (λ e. e ∙ ap (encode_use 1 c.args.items.now) (sym none)) c.pass.ensures
+    on_ok_weaker c.pass.result (λ e. e ∙ ap (encode_use 1 c.args.items.now) (sym (data_none c.args.class.now c.members-members.result.now c.args.code_offs.now c.has_no_members.result c.members-members.ensures c.has_no_members.ensures c.if-has_no_members.true))) c.pass.ensures
 
 -- ---- some members
 
@@ -23,8 +22,7 @@ item_is c = data_some c.args.class.now c.members-members.result.now c.args.code_
 pub end_item-requires-clause-fits : goal.end_item-requires-clause-fits
 end_item-requires-clause-fits c =
     let here = (goal.at.end_item-requires-clause-fits c).In_ok-put_class_data in
-    let fits = subst (λ u. (encode_use 1 c.args.items.now u).places.end ≤ 2 ^ 30) (item_is here) c.requires.fits in
-    ended_fits (data_of here) (c.items.view_is ∙ sym (align_one c.args.items.now)) (c.len-before.ensures ∙ c.items.inside.bytes.ok.0) c.in_ok-put_class_data.ensures.bytes.ok fits
+    ended_fits (data_of here) (c.items.view_is ∙ sym (align_one c.args.items.now)) (c.len-before.ensures ∙ c.items.inside.bytes.ok.0) c.in_ok-put_class_data.ensures.bytes.ok (subst (λ u. (encode_use 1 c.args.items.now u).places.end ≤ 2 ^ 30) (item_is here) c.requires.fits)
 
 pub returns : goal.returns
 returns c =

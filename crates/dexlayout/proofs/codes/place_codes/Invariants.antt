@@ -7,5 +7,4 @@ invariant-loop-class l = CodesLeft l.items (methods_in_all (drop l.class-index l
 
 -- what is left of a class, and the classes after it
 abbrev pub invariant-loop-i : goal.invariant-loop-i
-invariant-loop-i l =
-    CodesLeft l.items (drop l.i (methods_of l.members ++ methods_in_all (drop (l.class-index + 1) l.classes))) (drop l.i l.rest) (encode_uses 4 (no_items_from l.debugs.end) (code_items (methods_in_all l.classes) l.debugs.offsets))
+invariant-loop-i l = CodesLeft l.items (drop l.i (methods_of l.members ++ methods_in_all (drop (l.class-index + 1) l.classes))) (drop l.i l.rest) (encode_uses 4 (no_items_from l.debugs.end) (code_items (methods_in_all l.classes) l.debugs.offsets))

@@ -17,10 +17,8 @@ place_annotations-requires-clause-fits c =
 -- the annotations are those of the file
 annotations_are : (c : In_ok-annotations) → AreAnnotations c.args.numbering.now c.args.classes.now c.in_ok-annotations.annotations
 annotations_are c =
-    let m = c.args.numbering.now in
-    let cs = c.args.classes.now in
     let from = c.end.ensures ∙ ap (λ (q : ItemPlaces). q.end) c.places.ensures ∙ c.in_ok-type_lists.ensures.places_are.end_is in
-    subst (AreAnnotations m cs) (sym c.in_ok-annotations.ensures) (annotations_laid m cs set_at c.args.written.now c.requires.written c.end.result from)
+    subst (AreAnnotations c.args.numbering.now c.args.classes.now) (sym c.in_ok-annotations.ensures) (annotations_laid c.args.numbering.now c.args.classes.now set_at c.args.written.now c.requires.written c.end.result from)
 
 pub place_static_values-requires-clause-from : goal.place_static_values-requires-clause-from
 place_static_values-requires-clause-from c = c.end-2.ensures ∙ ap (λ (q : ItemPlaces). q.end) c.places-2.ensures ∙ (annotations_are ((goal.at.place_static_values-requires-clause-from c).In_ok-annotations)).places_are.end_is

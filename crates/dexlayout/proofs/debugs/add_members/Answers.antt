@@ -4,12 +4,9 @@ use Rattle.dexlayout.proofs.debugs.add_members.Goals as goal
 
 pub loop-i-preserved : goal.loop-i-preserved
 loop-i-preserved c = λ uses h.
-    let xs = methods_of c.args.members.now in
-    let i = c.loop-i.i in
-    subst (λ us. HasUses same_bytes us c.add_method.new.encodings.sharing) (uses_next debug_encoding uses xs i c.method_at.result (omega (arith, c.loop-i-test.true, c.method_count-i-end.ensures)) (sym c.method_at.ensures))
-    (c.in_ok-add_method.ensures (uses ++ debug_encodings (take i xs)) (c.loop-i.invariant uses h))
+    subst (λ us. HasUses same_bytes us c.add_method.new.encodings.sharing) (uses_next debug_encoding uses (methods_of c.args.members.now) c.loop-i.i c.method_at.result (omega (arith, c.loop-i-test.true, c.method_count-i-end.ensures)) (sym c.method_at.ensures))
+    (c.in_ok-add_method.ensures (uses ++ debug_encodings (take c.loop-i.i (methods_of c.args.members.now))) (c.loop-i.invariant uses h))
 
 pub returns : goal.returns
 returns c = λ uses h.
-    let xs = methods_of c.args.members.now in
-    subst (λ ys. HasUses same_bytes (uses ++ debug_encodings ys) c.loop-i.encodings.sharing) (take_all c.loop-i.i xs (omega (arith, c.loop-i-test.false, c.method_count-i-end.ensures))) (c.loop-i.invariant uses h)
+    subst (λ ys. HasUses same_bytes (uses ++ debug_encodings ys) c.loop-i.encodings.sharing) (take_all c.loop-i.i (methods_of c.args.members.now) (omega (arith, c.loop-i-test.false, c.method_count-i-end.ensures))) (c.loop-i.invariant uses h)

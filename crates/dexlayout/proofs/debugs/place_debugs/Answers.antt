@@ -5,9 +5,8 @@ use Rattle.dexlayout.proofs.debugs.place_debugs.Goals.{In_ok-items}
 
 pub put_written-requires : goal.put_written-requires
 put_written-requires c =
-    let s = c.in_ok-shared.shared in
     subst (λ ws. (encoded_debugs c.args.from ws).places.end ≤ 2 ^ 30) (sym c.deref.ensures.value)
-    (debugs_fit c.requires.0 c.args.classes.now c.requires.1 c.args.from c.requires.2 s.written.items s.numbers.items c.in_ok-shared.ensures)
+    (debugs_fit c.requires.0 c.args.classes.now c.requires.1 c.args.from c.requires.2 c.in_ok-shared.shared.written.items c.in_ok-shared.shared.numbers.items c.in_ok-shared.ensures)
 
 -- those that are written
 items_are : (c : In_ok-items) → c.in_ok-items.items ≡ encoded_debugs c.args.from c.in_ok-shared.shared.written.items
@@ -22,8 +21,6 @@ of-requires c =
 
 pub returns : goal.returns
 returns c =
-    let cs = c.args.classes.now in
-    let s = c.in_ok-shared.shared in
     IfOk-weaker c.of.result _ _ (λ x e m w is.
-    subst (AreDebugs m cs) (sym (e ∙ (λ i. shared_by (c.deref-2.ensures.value i) (items_are (goal.at.returns c).In_ok-items i))))
-    (debugs_laid m cs w c.args.from is s.written.items s.numbers.items c.in_ok-shared.ensures)) c.of.ensures
+    subst (AreDebugs m c.args.classes.now) (sym (e ∙ (λ i. shared_by (c.deref-2.ensures.value i) (items_are (goal.at.returns c).In_ok-items i))))
+    (debugs_laid m c.args.classes.now w c.args.from is c.in_ok-shared.shared.written.items c.in_ok-shared.shared.numbers.items c.in_ok-shared.ensures)) c.of.ensures

@@ -7,8 +7,7 @@ loop-key-init c = ap (λ p. encode_uses 1 p (map Some c.args.written.now)) c.in_
 
 pub put_next-requires : goal.put_next-requires
 put_next-requires c =
-    let next = ap (map Some) (drop_next c.args.written.now c.loop-key.key-index c.key-item.result c.loop-key-test.true (sym c.key-item.is)) in
-    omega (arith, use_fits 1 c.loop-key.items next c.loop-key.invariant, c.requires, ap (λ (bytes : List ℕ). length bytes) (c.deref.ensures.value ∙ c.key.view_is))
+    omega (arith, use_fits 1 c.loop-key.items (ap (map Some) (drop_next c.args.written.now c.loop-key.key-index c.key-item.result c.loop-key-test.true (sym c.key-item.is))) c.loop-key.invariant, c.requires, ap (λ (bytes : List ℕ). length bytes) (c.deref.ensures.value ∙ c.key.view_is))
 
 pub loop-key-preserved : goal.loop-key-preserved
 loop-key-preserved c =

@@ -20,8 +20,7 @@ size c = c.directory_len-len.ensures 0 ∙ spelled.directory_size c.args.members
 pub returns-then-len-eq-EMPTY_DIRECTORY : goal.returns-then-len-eq-EMPTY_DIRECTORY
 returns-then-len-eq-EMPTY_DIRECTORY c =
     let here = (goal.at.returns-then-len-eq-EMPTY_DIRECTORY c).After-directory_len-len in
-    let none = no_directory c.args.offs.now.own (entries here) c.directory_len-len.result (bytes_of here) (size here) c.if-offs-eq0.true c.if-len-eq-EMPTY_DIRECTORY.true in
-    on_ok_weaker c.pass.result (λ e. e ∙ ap (encode_use 4 c.args.items.now) (sym none)) c.pass.ensures
+    on_ok_weaker c.pass.result (λ e. e ∙ ap (encode_use 4 c.args.items.now) (sym (no_directory c.args.offs.now.own (entries here) c.directory_len-len.result (bytes_of here) (size here) c.if-offs-eq0.true c.if-len-eq-EMPTY_DIRECTORY.true))) c.pass.ensures
 
 -- some are not
 pub end_item-requires-clause-fits : goal.end_item-requires-clause-fits

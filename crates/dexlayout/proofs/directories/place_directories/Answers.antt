@@ -17,11 +17,9 @@ pub loop-i-init : goal.loop-i-init
 loop-i-init c =
     let m = c.requires.0 in
     let cs = c.args.classes.now in
-    let sets = c.args.sets.now in
-    let are = c.requires.2 in
     record {
-      enough_fields = omega (arith, ap (λ (l : List ℕ). length l) c.fields-fields.ensures, field_count m cs sets are);
-      enough_methods = omega (arith, ap (λ (l : List ℕ). length l) c.methods-methods.ensures, method_count m cs sets are);
+      enough_fields = omega (arith, ap (λ (l : List ℕ). length l) c.fields-fields.ensures, field_count m cs c.args.sets.now c.requires.2);
+      enough_methods = omega (arith, ap (λ (l : List ℕ). length l) c.methods-methods.ensures, method_count m cs c.args.sets.now c.requires.2);
       enough_lists = omega (arith, ap (λ (l : List ℕ). length l) (lists_are ((goal.at.loop-i-init c).After-end-from) m c.requires.3), length-ref_list_offsets m cs);
       encoded = ap (λ p. encode_uses 4 p (directory_items cs c.own-own.result.now c.fields-fields.result.now c.methods-methods.result.now c.offsets-lists.result.now)) c.in_ok-items.ensures;
     }

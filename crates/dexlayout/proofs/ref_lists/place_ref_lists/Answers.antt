@@ -8,18 +8,16 @@ use Rattle.dexlayout.proofs.ref_lists.place_ref_lists.Goals.{After-len}
 pub loop-class-init : goal.loop-class-init
 loop-class-init c =
     let cs = c.args.classes.now in
-    let from = c.end-from.ensures ∙ ap (λ (q : ItemPlaces). q.end) c.places.ensures ∙ ap (λ (q : EncodedItems). q.places.end) c.written.ensures in
     record {
       encoded = ap (λ offs. encode_uses 4 c.in_ok-items.items (offset_lists list_item (class_parameter_counts cs) offs)) c.parameters-rest.ensures
-          ∙ ap (λ p. encode_uses 4 p (offset_lists list_item (class_parameter_counts cs) c.args.sets.now.parameters)) (c.in_ok-items.ensures ∙ ap no_items_from from);
+          ∙ ap (λ p. encode_uses 4 p (offset_lists list_item (class_parameter_counts cs) c.args.sets.now.parameters)) (c.in_ok-items.ensures ∙ ap no_items_from (c.end-from.ensures ∙ ap (λ (q : ItemPlaces). q.end) c.places.ensures ∙ ap (λ (q : EncodedItems). q.places.end) c.written.ensures));
       enough = omega (arith, parameters_enough c.requires.0 cs c.requires.2, ap (λ (l : List ℕ). length l) c.parameters-rest.ensures);
     }
 
 pub loop-i-init : goal.loop-i-init
 loop-i-init c =
-    let cs = c.args.classes.now in
-    let counts = class_counts cs c.loop-class.class-index c.class-item.result c.loop-class-test.true (sym c.class-item.is)
-    ∙ ap (λ (x : NumberedMembers). parameter_counts (methods_of x) ++ class_parameter_counts (drop (c.loop-class.class-index + 1) cs)) (sym c.members-members.ensures) in
+    let counts = class_counts c.args.classes.now c.loop-class.class-index c.class-item.result c.loop-class-test.true (sym c.class-item.is)
+    ∙ ap (λ (x : NumberedMembers). parameter_counts (methods_of x) ++ class_parameter_counts (drop (c.loop-class.class-index + 1) c.args.classes.now)) (sym c.members-members.ensures) in
     record {
       encoded = ap (λ ns. encode_uses 4 c.loop-class.items (offset_lists list_item ns c.loop-class.rest.now)) (sym counts) ∙ c.loop-class.invariant.encoded;
       enough = omega (arith, ap total counts, c.loop-class.invariant.enough);
@@ -38,10 +36,8 @@ split_at-requires c = list_enough c.loop-i.rest.now (counts (goal.at.split_at-re
 
 pub put_list-requires : goal.put_list-requires
 put_list-requires c =
-    let m = c.requires.0 in
-    let cs = c.args.classes.now in
     let next = next_list c.loop-i.rest.now (counts (goal.at.put_list-requires c).After-len) c.split_at.ensures.back list_item c.split_at.ensures.front in
-    omega (arith, use_fits 4 c.loop-i.items next c.loop-i.invariant.encoded, (ref_lists_laid m cs c.requires.2).places_are.end_is, (end_in_file (ordered_of m cs) c.requires.1.fits).ref_lists)
+    omega (arith, use_fits 4 c.loop-i.items next c.loop-i.invariant.encoded, (ref_lists_laid c.requires.0 c.args.classes.now c.requires.2).places_are.end_is, (end_in_file (ordered_of c.requires.0 c.args.classes.now) c.requires.1.fits).ref_lists)
 
 pub loop-i-preserved : goal.loop-i-preserved
 loop-i-preserved c =
@@ -63,5 +59,4 @@ loop-class-preserved c =
 pub returns : goal.returns
 returns c = λ m w sets.
     let cs = c.args.classes.now in
-    let none = ap (λ ks. offset_lists list_item (class_parameter_counts ks) c.loop-class.rest.now) (drop_all c.loop-class.class-index cs c.loop-class-test.false) in
-    subst (AreRefLists m cs) (sym (all_encoded_by 4 none c.loop-class.invariant.encoded)) (ref_lists_laid m cs sets)
+    subst (AreRefLists m cs) (sym (all_encoded_by 4 (ap (λ ks. offset_lists list_item (class_parameter_counts ks) c.loop-class.rest.now) (drop_all c.loop-class.class-index cs c.loop-class-test.false)) c.loop-class.invariant.encoded)) (ref_lists_laid m cs sets)

@@ -14,9 +14,8 @@ set_at s = set_of s.now
 pub encode_written-requires-clause-enough : goal.encode_written-requires-clause-enough
 encode_written-requires-clause-enough c =
     let m = c.requires.place.0 in
-    let cs = c.args.classes.now in
     let offs = c.offsets-annotation_offs.ensures ∙ ap (λ (q : ItemPlaces). q.offsets) c.places.ensures ∙ c.requires.place.2.places_are.offsets_are in
-    annotations_enough m cs set_at c.deref.result.now (subst (AreWrittenSets m cs) (sym c.deref.ensures.value) (c.requires.shared m c.requires.place.1).written_are) c.offsets-annotation_offs.result.now offs
+    annotations_enough m c.args.classes.now set_at c.deref.result.now (subst (AreWrittenSets m c.args.classes.now) (sym c.deref.ensures.value) (c.requires.shared m c.requires.place.1).written_are) c.offsets-annotation_offs.result.now offs
 
 pub encode_written-requires-clause-fits : goal.encode_written-requires-clause-fits
 encode_written-requires-clause-fits c =
@@ -30,42 +29,37 @@ encode_written-requires-clause-fits c =
 laid_are : (c : In_ok-written) (m : Mentions) → AreWritable m c.args.classes.now → AreAnnotations m c.args.classes.now c.args.annotations.now → c.args.from ≡ end (class_data_section (ordered_of m c.args.classes.now)) → AreItemsIn (set_section (ordered_of m c.args.classes.now)) c.in_ok-written.written
 laid_are c m w annotations from =
     let cs = c.args.classes.now in
-    let are = subst (AreWrittenSets m cs) (sym c.deref.ensures.value) (c.requires.shared m w).written_are in
     let offs = c.offsets-annotation_offs.ensures ∙ ap (λ (q : ItemPlaces). q.offsets) c.places.ensures ∙ annotations.places_are.offsets_are in
-    subst (AreItemsIn (set_section (ordered_of m cs))) (sym c.in_ok-written.ensures) (sets_laid m cs set_at c.deref.result.now are c.offsets-annotation_offs.result.now offs c.args.from from)
+    subst (AreItemsIn (set_section (ordered_of m cs))) (sym c.in_ok-written.ensures) (sets_laid m cs set_at c.deref.result.now (subst (AreWrittenSets m cs) (sym c.deref.ensures.value) (c.requires.shared m w).written_are) c.offsets-annotation_offs.result.now offs c.args.from from)
 
 pub place_shared-requires : goal.place_shared-requires
 place_shared-requires c =
     let place = c.requires.place in
     let m = place.0 in
     let K = ordered_of m c.args.classes.now in
-    let laid = laid_are ((goal.at.place_shared-requires c).In_ok-written) m place.1 place.2 place.3 in
     let count : length c.places-2.result.now.offsets ≡ length (set_items K).written =
-    omega (arith, ap (λ (q : ItemPlaces). length q.offsets) c.places-2.ensures, ap (λ (l : List ℕ). length l) laid.places_are.offsets_are, length-set_offsets K) in
+    omega (arith, ap (λ (q : ItemPlaces). length q.offsets) c.places-2.ensures, ap (λ (l : List ℕ). length l) (laid_are ((goal.at.place_shared-requires c).In_ok-written) m place.1 place.2 place.3).places_are.offsets_are, length-set_offsets K) in
     numbers_within c.deref-2.result.now (length c.places-2.result.now.offsets) (items_numbered K.sharing same_set set_decides (set_uses K)) (c.deref-2.ensures.value ∙ (c.requires.shared m place.1).numbers_are) count
 
 -- the offset of each use
 uses_are : (c : After-offsets-rest) (m : Mentions) → AreWritable m c.args.classes.now → AreItemsIn (set_section (ordered_of m c.args.classes.now)) c.in_ok-written.written → c.offsets-rest.result.now ≡ set_use_offsets (ordered_of m c.args.classes.now)
 uses_are c m w laid =
-    let offs = ap (λ (q : ItemPlaces). q.offsets) c.places-2.ensures ∙ laid.places_are.offsets_are in
-    c.offsets-rest.ensures ∙ ap (λ (p : ItemPlaces). p.offsets) c.in_ok-uses.ensures ∙ (λ i. numbers_offsets ((c.deref-2.ensures.value ∙ (c.requires.shared m w).numbers_are) i) (offs i))
+    c.offsets-rest.ensures ∙ ap (λ (p : ItemPlaces). p.offsets) c.in_ok-uses.ensures ∙ (λ i. numbers_offsets ((c.deref-2.ensures.value ∙ (c.requires.shared m w).numbers_are) i) ((ap (λ (q : ItemPlaces). q.offsets) c.places-2.ensures ∙ laid.places_are.offsets_are) i))
 
 pub loop-class-init : goal.loop-class-init
 loop-class-init c =
     let place = c.requires.place in
     let m = place.0 in
-    let cs = c.args.classes.now in
     let here = goal.at.loop-class-init c in
     record {
       collected = refl;
-      enough = omega (arith, ap (λ (l : List ℕ). length l) (uses_are here.After-offsets-rest m place.1 (laid_are here.In_ok-written m place.1 place.2 place.3)), length-set_use_offsets (ordered_of m cs), classes_are_long m cs);
+      enough = omega (arith, ap (λ (l : List ℕ). length l) (uses_are here.After-offsets-rest m place.1 (laid_are here.In_ok-written m place.1 place.2 place.3)), length-set_use_offsets (ordered_of m c.args.classes.now), classes_are_long m c.args.classes.now);
     }
 
 pub returns : goal.returns
 returns c = λ m w annotations from.
     let cs = c.args.classes.now in
-    let here = goal.at.returns c in
-    let laid = laid_are here.In_ok-written m w annotations from in
+    let laid = laid_are (goal.at.returns c).In_ok-written m w annotations from in
     let nothing : parts_of_classes (drop c.loop-class.class-index cs) c.loop-class.rest.now ≡ [] = ap (λ l. parts_of_classes l c.loop-class.rest.now) (drop_all c.loop-class.class-index cs c.loop-class-test.false) in
     let all = ap (collect_classes c.loop-class.sets) (sym nothing) ∙ c.loop-class.invariant.collected ∙ ap (λ q. collect_classes q (parts_of_classes cs c.offsets-rest.result.now)) c.in_ok-sets.ensures in
-    sets_are m cs c.offsets-rest.result.now c.in_ok-written.written c.loop-class.sets all (uses_are here.After-offsets-rest m w laid) laid
+    sets_are m cs c.offsets-rest.result.now c.in_ok-written.written c.loop-class.sets all (uses_are (goal.at.returns c).After-offsets-rest m w laid) laid

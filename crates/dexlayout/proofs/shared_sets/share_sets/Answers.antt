@@ -7,9 +7,8 @@ use Rattle.dexlayout.proofs.shared_sets.share_sets.Goals.{After-finish}
 -- the sets of all classes
 all : (c : After-finish) (m : Mentions) → All (IsKnownClass m) c.args.classes.now → SharesSets m (set_uses (ordered_of m c.args.classes.now)) c.loop-i.sharing.items.keys c.loop-i.sharing.numbers.items
 all c m known =
-    let cs = c.args.classes.now in
     subst (λ us. SharesSets m us c.loop-i.sharing.items.keys c.loop-i.sharing.numbers.items)
-    (ap (flat_map (λ d. members_uses m d.members)) (take_all c.loop-i.i cs (omega (arith, c.loop-i-test.false))) ∙ set_uses_are m cs) (c.loop-i.invariant m known)
+    (ap (flat_map (λ d. members_uses m d.members)) (take_all c.loop-i.i c.args.classes.now (omega (arith, c.loop-i-test.false))) ∙ set_uses_are m c.args.classes.now) (c.loop-i.invariant m known)
 
 pub returns-clause-shared : goal.returns-clause-shared
 returns-clause-shared c = on_returned c.finish.result (λ x e m w.

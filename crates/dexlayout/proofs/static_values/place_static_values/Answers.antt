@@ -21,8 +21,7 @@ put_array-requires-clause-fits c =
 
 pub loop-class-preserved : goal.loop-class-preserved
 loop-class-preserved c =
-    let next = ap (map (static_item c.args.numbering.now)) (drop_next c.args.classes.now c.loop-class.class-index c.class-item.result c.loop-class-test.true (sym c.class-item.is)) in
-    use_encoded 1 c.loop-class.items next c.loop-class.invariant c.in_ok-put_array.ensures
+    use_encoded 1 c.loop-class.items (ap (map (static_item c.args.numbering.now)) (drop_next c.args.classes.now c.loop-class.class-index c.class-item.result c.loop-class-test.true (sym c.class-item.is))) c.loop-class.invariant c.in_ok-put_array.ensures
 
 pub returns : goal.returns
 returns c =

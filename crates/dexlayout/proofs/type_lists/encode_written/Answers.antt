@@ -13,9 +13,7 @@ loop-key-init c = ap (λ p. encode_uses 4 p (map item_of c.args.lists.now)) c.in
 
 -- the list is not too long
 count : (c : After-len) → length c.key-item.result < 2 ^ 31
-count c =
-    let next = ap (map item_of) (drop_next c.args.lists.now c.loop-key.key-index c.key-item.result c.loop-key-test.true (sym c.key-item.is)) in
-    omega (arith, use_fits 4 c.loop-key.items next c.loop-key.invariant, c.requires.fits, length_list c.key-item.result)
+count c = omega (arith, use_fits 4 c.loop-key.items (ap (map item_of) (drop_next c.args.lists.now c.loop-key.key-index c.key-item.result c.loop-key-test.true (sym c.key-item.is))) c.loop-key.invariant, c.requires.fits, length_list c.key-item.result)
 
 pub overflow_mul-len : goal.overflow_mul-len
 overflow_mul-len c = omega (arith, c.len.ensures, ap (λ (l : List ℕ). length l) c.key.view_is, count (goal.at.overflow_mul-len c).After-len)

@@ -5,16 +5,13 @@ use Rattle.dexlayout.proofs.type_lists.place_type_lists.Goals.{In_ok-items}
 
 pub encode_written-requires-clause-few : goal.encode_written-requires-clause-few
 encode_written-requires-clause-few c =
-    let m = c.args.numbering.now in
-    let s = c.in_ok-shared.shared in
     subst (All (All (λ i. i < 65536))) (sym c.deref.ensures.value)
-    (All-weaker (AreTypes m) (All (λ i. i < 65536)) (λ ns. All-weaker (λ i. i < length m.types) (λ i. i < 65536) (λ i lt. omega (arith, lt, c.requires.classes.types_few)) ns) s.written.items c.in_ok-shared.ensures.known)
+    (All-weaker (AreTypes c.args.numbering.now) (All (λ i. i < 65536)) (λ ns. All-weaker (λ i. i < length c.args.numbering.now.types) (λ i. i < 65536) (λ i lt. omega (arith, lt, c.requires.classes.types_few)) ns) c.in_ok-shared.shared.written.items c.in_ok-shared.ensures.known)
 
 pub encode_written-requires-clause-fits : goal.encode_written-requires-clause-fits
 encode_written-requires-clause-fits c =
-    let s = c.in_ok-shared.shared in
     subst (λ ws. (encoded_lists c.args.from ws).places.end ≤ 2 ^ 30) (sym c.deref.ensures.value)
-    (lists_fit c.args.numbering.now c.args.classes.now c.requires.classes c.args.from c.requires.from s.written.items s.numbers.items c.in_ok-shared.ensures.known c.in_ok-shared.ensures.shared)
+    (lists_fit c.args.numbering.now c.args.classes.now c.requires.classes c.args.from c.requires.from c.in_ok-shared.shared.written.items c.in_ok-shared.shared.numbers.items c.in_ok-shared.ensures.known c.in_ok-shared.ensures.shared)
 
 -- the lists that are written
 items_are : (c : In_ok-items) → c.in_ok-items.items ≡ encoded_lists c.args.from c.in_ok-shared.shared.written.items
@@ -29,9 +26,6 @@ of-requires c =
 
 pub returns : goal.returns
 returns c =
-    let m = c.args.numbering.now in
-    let cs = c.args.classes.now in
-    let s = c.in_ok-shared.shared in
     IfOk-weaker c.of.result _ _ (λ x e.
-    subst (AreTypeLists m cs) (sym (e ∙ (λ i. shared_by (c.deref-2.ensures.value i) (items_are ((goal.at.returns c).In_ok-items) i))))
-    (lists_laid m cs c.requires.classes c.args.from c.requires.from s.written.items s.numbers.items c.in_ok-shared.ensures.known c.in_ok-shared.ensures.shared)) c.of.ensures
+    subst (AreTypeLists c.args.numbering.now c.args.classes.now) (sym (e ∙ (λ i. shared_by (c.deref-2.ensures.value i) (items_are ((goal.at.returns c).In_ok-items) i))))
+    (lists_laid c.args.numbering.now c.args.classes.now c.requires.classes c.args.from c.requires.from c.in_ok-shared.shared.written.items c.in_ok-shared.shared.numbers.items c.in_ok-shared.ensures.known c.in_ok-shared.ensures.shared)) c.of.ensures

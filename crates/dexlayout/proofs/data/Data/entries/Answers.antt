@@ -2,7 +2,7 @@ use Rattle.dexlayout.proofs.Common.{◌≡◌, ℕ, List, length, arith, ap, ◌
 use Rattle.dexlayout.specs.{count_placed}
 use Rattle.dexlayout.specs.declared.data.Data.{Data}
 use Rattle.dexlayout.proofs.Ends.{EndInFile, end_in_file}
-use Rattle.dexlayout.proofs.OwnCounts.{few_items, counted}
+use Rattle.dexlayout.proofs.OwnCounts.{counted}
 use Rattle.dexlayout.proofs.OwnFile.{ten_same, named_parts_are}
 use Rattle.dexlayout.proofs.data.Data.entries.Goals as goal
 
@@ -22,59 +22,59 @@ ends : {m : Mentions} {cs : List NumberedClass} → AreWritable m cs → EndInFi
 ends {m} {cs} w = end_in_file (ordered_of m cs) w.fits
 
 pub overflow_cast-count : goal.overflow_cast-count
-overflow_cast-count c = omega (arith, c.count.ensures, (counted c.requires.2).type_lists, (few_items c.requires.1).type_lists)
+overflow_cast-count c = omega (arith, c.count.ensures, (counted c.requires.1 c.requires.2).type_lists)
 
 pub round_up-requires : goal.round_up-requires
 round_up-requires c = omega (arith, c.requires.3, (ends c.requires.1).tables)
 
 pub overflow_cast-offsets : goal.overflow_cast-offsets
-overflow_cast-offsets c = omega (arith, ap (λ xs. length xs) (c.offsets.ensures ∙ ap (λ (q : ItemPlaces). q.offsets) c.places.ensures), (counted c.requires.2).annotations, (few_items c.requires.1).annotations)
+overflow_cast-offsets c = omega (arith, ap (λ xs. length xs) (c.offsets.ensures ∙ ap (λ (q : ItemPlaces). q.offsets) c.places.ensures), (counted c.requires.1 c.requires.2).annotations)
 
 pub overflow_cast-count_placed : goal.overflow_cast-count_placed
-overflow_cast-count_placed c = omega (arith, c.count_placed.ensures ∙ ap count_placed (c.offsets-2.ensures ∙ ap (λ (q : ItemPlaces). q.offsets) c.places-3.ensures), (counted c.requires.2).arrays, (few_items c.requires.1).arrays)
+overflow_cast-count_placed c = omega (arith, c.count_placed.ensures ∙ ap count_placed (c.offsets-2.ensures ∙ ap (λ (q : ItemPlaces). q.offsets) c.places-3.ensures), (counted c.requires.1 c.requires.2).arrays)
 
 pub overflow_cast-count-3 : goal.overflow_cast-count-3
-overflow_cast-count-3 c = omega (arith, c.count-3.ensures, (counted c.requires.2).debugs, (few_items c.requires.1).debugs)
+overflow_cast-count-3 c = omega (arith, c.count-3.ensures, (counted c.requires.1 c.requires.2).debugs)
 
 pub overflow_cast-count_placed-2 : goal.overflow_cast-count_placed-2
-overflow_cast-count_placed-2 c = omega (arith, c.count_placed-2.ensures ∙ ap count_placed (c.offsets-3.ensures ∙ ap (λ (q : ItemPlaces). q.offsets) c.places-6.ensures), (counted c.requires.2).codes, (few_items c.requires.1).codes)
+overflow_cast-count_placed-2 c = omega (arith, c.count_placed-2.ensures ∙ ap count_placed (c.offsets-3.ensures ∙ ap (λ (q : ItemPlaces). q.offsets) c.places-6.ensures), (counted c.requires.1 c.requires.2).codes)
 
 pub round_up-requires-2 : goal.round_up-requires-2
 round_up-requires-2 c = omega (arith, c.end-5.ensures ∙ ap (λ (q : ItemPlaces). q.end) c.places-7.ensures ∙ c.requires.2.bodies_are.debugs_are.places_are.end_is, (ends c.requires.1).debugs)
 
 pub overflow_cast-count_placed-3 : goal.overflow_cast-count_placed-3
-overflow_cast-count_placed-3 c = omega (arith, c.count_placed-3.ensures ∙ ap count_placed (c.offsets-4.ensures ∙ ap (λ (q : ItemPlaces). q.offsets) c.places-8.ensures), (counted c.requires.2).class_data, (few_items c.requires.1).class_data)
+overflow_cast-count_placed-3 c = omega (arith, c.count_placed-3.ensures ∙ ap count_placed (c.offsets-4.ensures ∙ ap (λ (q : ItemPlaces). q.offsets) c.places-8.ensures), (counted c.requires.1 c.requires.2).class_data)
 
 pub overflow_cast-offsets-2 : goal.overflow_cast-offsets-2
-overflow_cast-offsets-2 c = omega (arith, ap (λ xs. length xs) (c.offsets-5.ensures ∙ ap (λ (q : ItemPlaces). q.offsets) (c.places-10.ensures ∙ ap (λ (p : EncodedItems). p.places) c.written.ensures)), (counted c.requires.2).sets, (few_items c.requires.1).sets)
+overflow_cast-offsets-2 c = omega (arith, ap (λ xs. length xs) (c.offsets-5.ensures ∙ ap (λ (q : ItemPlaces). q.offsets) (c.places-10.ensures ∙ ap (λ (p : EncodedItems). p.places) c.written.ensures)), (counted c.requires.1 c.requires.2).sets)
 
 pub round_up-requires-3 : goal.round_up-requires-3
 round_up-requires-3 c = omega (arith, c.end-7.ensures ∙ ap (λ (q : ItemPlaces). q.end) c.places-11.ensures ∙ c.requires.2.bodies_are.class_data_are.places_are.end_is, (ends c.requires.1).class_data)
 
 pub overflow_cast-count_placed-4 : goal.overflow_cast-count_placed-4
-overflow_cast-count_placed-4 c = omega (arith, c.count_placed-4.ensures ∙ ap count_placed (c.offsets-6.ensures ∙ ap (λ (q : ItemPlaces). q.offsets) c.places-12.ensures), (counted c.requires.2).ref_lists, (few_items c.requires.1).ref_lists)
+overflow_cast-count_placed-4 c = omega (arith, c.count_placed-4.ensures ∙ ap count_placed (c.offsets-6.ensures ∙ ap (λ (q : ItemPlaces). q.offsets) c.places-12.ensures), (counted c.requires.1 c.requires.2).ref_lists)
 
 pub round_up-requires-4 : goal.round_up-requires-4
 round_up-requires-4 c = omega (arith, c.end-8.ensures ∙ ap (λ (q : ItemPlaces). q.end) (c.places-13.ensures ∙ ap (λ (p : EncodedItems). p.places) c.written-2.ensures) ∙ c.requires.2.back_are.sets_are.written_are.places_are.end_is, (ends c.requires.1).sets)
 
 pub overflow_cast-count_placed-5 : goal.overflow_cast-count_placed-5
-overflow_cast-count_placed-5 c = omega (arith, c.count_placed-5.ensures ∙ ap count_placed (c.offsets-7.ensures ∙ ap (λ (q : ItemPlaces). q.offsets) c.places-14.ensures), (counted c.requires.2).directories, (few_items c.requires.1).directories)
+overflow_cast-count_placed-5 c = omega (arith, c.count_placed-5.ensures ∙ ap count_placed (c.offsets-7.ensures ∙ ap (λ (q : ItemPlaces). q.offsets) c.places-14.ensures), (counted c.requires.1 c.requires.2).directories)
 
 pub round_up-requires-5 : goal.round_up-requires-5
 round_up-requires-5 c = omega (arith, c.end-9.ensures ∙ ap (λ (q : ItemPlaces). q.end) c.places-15.ensures ∙ c.requires.2.back_are.ref_lists_are.places_are.end_is, (ends c.requires.1).ref_lists)
 
 pub returns : goal.returns
 returns c = λ cs w d from.
-    let n = counted d in
+    let n = counted w d in
     ten_same _ _ _ _ _ _ _ _ _ _ _ _ _ _ _ _ _ _ _ _
-    (c.entry.ensures ∙ same_entry TypeLists _ _ _ _ (c.count.ensures ∙ n.type_lists) (c.round_up.ensures ∙ ap (round_up 4) from))
-    (c.entry-2.ensures ∙ same_entry AnnotationItems _ _ _ _ (ap (λ xs. length xs) (c.offsets.ensures ∙ ap (λ (q : ItemPlaces). q.offsets) c.places.ensures) ∙ n.annotations) (c.end.ensures ∙ ap (λ (q : ItemPlaces). q.end) c.places-2.ensures ∙ d.first_sections_are.type_lists_are.places_are.end_is ∙ plain _))
-    (c.entry-3.ensures ∙ same_entry EncodedArrayItems _ _ _ _ (c.count_placed.ensures ∙ ap count_placed (c.offsets-2.ensures ∙ ap (λ (q : ItemPlaces). q.offsets) c.places-3.ensures) ∙ n.arrays) (c.end-2.ensures ∙ ap (λ (q : ItemPlaces). q.end) c.places-4.ensures ∙ d.first_sections_are.annotations_are.places_are.end_is ∙ plain _))
-    (c.entry-4.ensures ∙ same_entry StringDataItems _ _ _ _ (c.count-2.ensures ∙ n.strings) (c.end-3.ensures ∙ ap (λ (q : ItemPlaces). q.end) c.places-5.ensures ∙ d.first_sections_are.static_values_are.places_are.end_is ∙ plain _))
-    (c.entry-5.ensures ∙ same_entry DebugInfoItems _ _ _ _ (c.count-3.ensures ∙ n.debugs) (c.end-4.ensures ∙ d.first_sections_are.strings_are.end_is ∙ plain _))
-    (c.entry-6.ensures ∙ same_entry CodeItems _ _ _ _ (c.count_placed-2.ensures ∙ ap count_placed (c.offsets-3.ensures ∙ ap (λ (q : ItemPlaces). q.offsets) c.places-6.ensures) ∙ n.codes) (c.round_up-2.ensures ∙ ap (round_up 4) (c.end-5.ensures ∙ ap (λ (q : ItemPlaces). q.end) c.places-7.ensures ∙ d.bodies_are.debugs_are.places_are.end_is)))
-    (c.entry-7.ensures ∙ same_entry ClassDataItems _ _ _ _ (c.count_placed-3.ensures ∙ ap count_placed (c.offsets-4.ensures ∙ ap (λ (q : ItemPlaces). q.offsets) c.places-8.ensures) ∙ n.class_data) (c.end-6.ensures ∙ ap (λ (q : ItemPlaces). q.end) c.places-9.ensures ∙ d.bodies_are.codes_are.places_are.end_is ∙ plain _))
-    (c.entry-8.ensures ∙ same_entry AnnotationSets _ _ _ _ (ap (λ xs. length xs) (c.offsets-5.ensures ∙ ap (λ (q : ItemPlaces). q.offsets) (c.places-10.ensures ∙ ap (λ (p : EncodedItems). p.places) c.written.ensures)) ∙ n.sets) (c.round_up-3.ensures ∙ ap (round_up 4) (c.end-7.ensures ∙ ap (λ (q : ItemPlaces). q.end) c.places-11.ensures ∙ d.bodies_are.class_data_are.places_are.end_is)))
-    (c.entry-9.ensures ∙ same_entry AnnotationSetRefLists _ _ _ _ (c.count_placed-4.ensures ∙ ap count_placed (c.offsets-6.ensures ∙ ap (λ (q : ItemPlaces). q.offsets) c.places-12.ensures) ∙ n.ref_lists) (c.round_up-4.ensures ∙ ap (round_up 4) (c.end-8.ensures ∙ ap (λ (q : ItemPlaces). q.end) (c.places-13.ensures ∙ ap (λ (p : EncodedItems). p.places) c.written-2.ensures) ∙ d.back_are.sets_are.written_are.places_are.end_is)))
-    (c.entry-10.ensures ∙ same_entry AnnotationsDirectories _ _ _ _ (c.count_placed-5.ensures ∙ ap count_placed (c.offsets-7.ensures ∙ ap (λ (q : ItemPlaces). q.offsets) c.places-14.ensures) ∙ n.directories) (c.round_up-5.ensures ∙ ap (round_up 4) (c.end-9.ensures ∙ ap (λ (q : ItemPlaces). q.end) c.places-15.ensures ∙ d.back_are.ref_lists_are.places_are.end_is)))
+    (c.entry.ensures ∙ same_entry TypeLists _ _ _ _ (c.count.ensures ∙ n.type_lists.0) (c.round_up.ensures ∙ ap (round_up 4) from))
+    (c.entry-2.ensures ∙ same_entry AnnotationItems _ _ _ _ (ap (λ xs. length xs) (c.offsets.ensures ∙ ap (λ (q : ItemPlaces). q.offsets) c.places.ensures) ∙ n.annotations.0) (c.end.ensures ∙ ap (λ (q : ItemPlaces). q.end) c.places-2.ensures ∙ d.first_sections_are.type_lists_are.places_are.end_is ∙ plain _))
+    (c.entry-3.ensures ∙ same_entry EncodedArrayItems _ _ _ _ (c.count_placed.ensures ∙ ap count_placed (c.offsets-2.ensures ∙ ap (λ (q : ItemPlaces). q.offsets) c.places-3.ensures) ∙ n.arrays.0) (c.end-2.ensures ∙ ap (λ (q : ItemPlaces). q.end) c.places-4.ensures ∙ d.first_sections_are.annotations_are.places_are.end_is ∙ plain _))
+    (c.entry-4.ensures ∙ same_entry StringDataItems _ _ _ _ (c.count-2.ensures ∙ n.strings.0) (c.end-3.ensures ∙ ap (λ (q : ItemPlaces). q.end) c.places-5.ensures ∙ d.first_sections_are.static_values_are.places_are.end_is ∙ plain _))
+    (c.entry-5.ensures ∙ same_entry DebugInfoItems _ _ _ _ (c.count-3.ensures ∙ n.debugs.0) (c.end-4.ensures ∙ d.first_sections_are.strings_are.end_is ∙ plain _))
+    (c.entry-6.ensures ∙ same_entry CodeItems _ _ _ _ (c.count_placed-2.ensures ∙ ap count_placed (c.offsets-3.ensures ∙ ap (λ (q : ItemPlaces). q.offsets) c.places-6.ensures) ∙ n.codes.0) (c.round_up-2.ensures ∙ ap (round_up 4) (c.end-5.ensures ∙ ap (λ (q : ItemPlaces). q.end) c.places-7.ensures ∙ d.bodies_are.debugs_are.places_are.end_is)))
+    (c.entry-7.ensures ∙ same_entry ClassDataItems _ _ _ _ (c.count_placed-3.ensures ∙ ap count_placed (c.offsets-4.ensures ∙ ap (λ (q : ItemPlaces). q.offsets) c.places-8.ensures) ∙ n.class_data.0) (c.end-6.ensures ∙ ap (λ (q : ItemPlaces). q.end) c.places-9.ensures ∙ d.bodies_are.codes_are.places_are.end_is ∙ plain _))
+    (c.entry-8.ensures ∙ same_entry AnnotationSets _ _ _ _ (ap (λ xs. length xs) (c.offsets-5.ensures ∙ ap (λ (q : ItemPlaces). q.offsets) (c.places-10.ensures ∙ ap (λ (p : EncodedItems). p.places) c.written.ensures)) ∙ n.sets.0) (c.round_up-3.ensures ∙ ap (round_up 4) (c.end-7.ensures ∙ ap (λ (q : ItemPlaces). q.end) c.places-11.ensures ∙ d.bodies_are.class_data_are.places_are.end_is)))
+    (c.entry-9.ensures ∙ same_entry AnnotationSetRefLists _ _ _ _ (c.count_placed-4.ensures ∙ ap count_placed (c.offsets-6.ensures ∙ ap (λ (q : ItemPlaces). q.offsets) c.places-12.ensures) ∙ n.ref_lists.0) (c.round_up-4.ensures ∙ ap (round_up 4) (c.end-8.ensures ∙ ap (λ (q : ItemPlaces). q.end) (c.places-13.ensures ∙ ap (λ (p : EncodedItems). p.places) c.written-2.ensures) ∙ d.back_are.sets_are.written_are.places_are.end_is)))
+    (c.entry-10.ensures ∙ same_entry AnnotationsDirectories _ _ _ _ (c.count_placed-5.ensures ∙ ap count_placed (c.offsets-7.ensures ∙ ap (λ (q : ItemPlaces). q.offsets) c.places-14.ensures) ∙ n.directories.0) (c.round_up-5.ensures ∙ ap (round_up 4) (c.end-9.ensures ∙ ap (λ (q : ItemPlaces). q.end) c.places-15.ensures ∙ d.back_are.ref_lists_are.places_are.end_is)))
     ∙ named_parts_are (ordered_of c.args.numbering.now cs)

@@ -12,12 +12,10 @@ pub end_item-requires-clause-fits : goal.end_item-requires-clause-fits
 end_item-requires-clause-fits g c =
     let item = g.T.Encode.bytes c.args.item.now in
     let room = c.in_ok-reserve.ensures in
-    let put = (c.encode.ensures (omega (arith, room.ok, room.len, c.requires.most))).items ∙ ap (λ bs. bs ++ item) room.items in
-    ended_fits item (c.self.view_is ∙ c.in_ok-align.ensures) (c.len-before.ensures ∙ c.self.inside.bytes.ok.0) put c.requires.fits
+    ended_fits item (c.self.view_is ∙ c.in_ok-align.ensures) (c.len-before.ensures ∙ c.self.inside.bytes.ok.0) ((c.encode.ensures (omega (arith, room.ok, room.len, c.requires.most))).items ∙ ap (λ bs. bs ++ item) room.items) c.requires.fits
 
 pub returns : goal.returns
 returns g c =
     let item = g.T.Encode.bytes c.args.item.now in
     let room = c.in_ok-reserve.ensures in
-    let put = (c.encode.ensures (omega (arith, room.ok, room.len, c.requires.most))).items ∙ ap (λ bs. bs ++ item) room.items in
-    on_ok_weaker c.end_item.result (λ e. e ∙ ended item (c.self.view_is ∙ c.in_ok-align.ensures) (c.len-before.ensures ∙ c.self.inside.bytes.ok.0) put) c.end_item.ensures
+    on_ok_weaker c.end_item.result (λ e. e ∙ ended item (c.self.view_is ∙ c.in_ok-align.ensures) (c.len-before.ensures ∙ c.self.inside.bytes.ok.0) ((c.encode.ensures (omega (arith, room.ok, room.len, c.requires.most))).items ∙ ap (λ bs. bs ++ item) room.items)) c.end_item.ensures

@@ -4,9 +4,8 @@ use Rattle.dexlayout.proofs.layout.Layout.of.Goals as goal
 
 pub build_layout-requires : goal.build_layout-requires
 build_layout-requires c =
-    let is = c.numbering-numbering.ensures in
-    let w = writable c.args.program.now c.classes.result.now (subst IsNumbering is c.is_numbering.ensures) c.is_good.ensures.good c.is_good.ensures.formed c.fitting_size_law.ensures.canonical c.classes.ensures in
-    subst (λ m. AreWritable m c.classes.result.now) (sym is) w
+    let w = writable c.args.program.now c.classes.result.now (subst IsNumbering c.numbering-numbering.ensures c.is_numbering.ensures) c.is_good.ensures.good c.is_good.ensures.formed c.fitting_size_law.ensures.canonical c.classes.ensures in
+    subst (λ m. AreWritable m c.classes.result.now) (sym c.numbering-numbering.ensures) w
 
 pub returns-clause-laid : goal.returns-clause-laid
 returns-clause-laid c = λ cs of.
@@ -16,16 +15,13 @@ returns-clause-laid c = λ cs of.
 
 pub returns-clause-writable : goal.returns-clause-writable
 returns-clause-writable c = λ cs of.
-    let C = c.args.program.now in
-    (writable C cs (subst IsNumbering c.numbering-numbering.ensures c.is_numbering.ensures) c.is_good.ensures.good c.is_good.ensures.formed c.fitting_size_law.ensures.canonical of, ordered_is C cs of)
+    (writable c.args.program.now cs (subst IsNumbering c.numbering-numbering.ensures c.is_numbering.ensures) c.is_good.ensures.good c.is_good.ensures.formed c.fitting_size_law.ensures.canonical of, ordered_is c.args.program.now cs of)
 
 pub returns-in_err-layout-clause-writable : goal.returns-in_err-layout-clause-writable
 returns-in_err-layout-clause-writable c = λ cs of.
-    let C = c.args.program.now in
-    (writable C cs (subst IsNumbering c.numbering-numbering.ensures c.is_numbering.ensures) c.is_good.ensures.good c.is_good.ensures.formed c.fitting_size_law.ensures.canonical of, ordered_is C cs of)
+    (writable c.args.program.now cs (subst IsNumbering c.numbering-numbering.ensures c.is_numbering.ensures) c.is_good.ensures.good c.is_good.ensures.formed c.fitting_size_law.ensures.canonical of, ordered_is c.args.program.now cs of)
 
 pub returns-clause-len : goal.returns-clause-len
 returns-clause-len c =
-    let C = c.args.program.now in
     let here = c.classes.result.now in
-    (subst (λ n. IsLaid n here c.in_ok-layout.layout) c.numbering-numbering.ensures c.in_ok-layout.ensures).head_states.file_ends ∙ ap file_end (ordered_is C here c.classes.ensures) ∙ sym (length_canonical C)
+    (subst (λ n. IsLaid n here c.in_ok-layout.layout) c.numbering-numbering.ensures c.in_ok-layout.ensures).head_states.file_ends ∙ ap file_end (ordered_is c.args.program.now here c.classes.ensures) ∙ sym (length_canonical c.args.program.now)

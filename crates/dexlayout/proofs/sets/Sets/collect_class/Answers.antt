@@ -16,7 +16,6 @@ returns-clause-left c =
     let x = c.args.class.now.members in
     let members : c.members-members.result.now ≡ x = c.members-members.ensures in
     let count : c.field_count.result ≡ length (fields_of x) = c.field_count.ensures ∙ ap (λ (y : NumberedMembers). length (fields_of y)) members in
-    let rest : c.split_at-2.result.1.now ≡ drop (length (fields_of x)) (drop 1 c.args.offs.now) = c.split_at-2.ensures.back ∙ (λ i. drop (count i) (c.split_at.ensures.back i)) in
     IfOk-weaker c.collect_methods.result
     (λ (l : Bor (List ℕ)). l.now ≡ drop (length (flat_map sets_of_method (methods_of c.members-members.result.now))) c.split_at-2.result.1.now) (λ (l : Bor (List ℕ)). l.now ≡ drop (length (sets_of_class c.args.class.now)) c.args.offs.now)
-    (λ last. left_of_class c.args.class.now c.args.offs.now c.members-members.result.now members rest) c.collect_methods.ensures.left
+    (λ last. left_of_class c.args.class.now c.args.offs.now c.members-members.result.now members (c.split_at-2.ensures.back ∙ (λ i. drop (count i) (c.split_at.ensures.back i)))) c.collect_methods.ensures.left

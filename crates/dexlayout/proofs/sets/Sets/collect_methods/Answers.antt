@@ -16,7 +16,6 @@ loop-i-preserved c =
     let i = c.loop-i.i in
     let x = c.method_at.result in
     let rest = c.loop-i.rest.now in
-    let is = sym c.method_at.ensures in
     let n = length (sets_of_method x) in
     let more = drop (i + 1) xs in
     let k = length (flat_map sets_of_method more) in
@@ -27,9 +26,9 @@ loop-i-preserved c =
     let first_sections : c.split_at.result.0.now ≡ take n rest = c.split_at.ensures.front ∙ ap (λ j. take j rest) count in
     let back : c.split_at.result.1.now ≡ drop n rest = c.split_at.ensures.back ∙ ap (λ j. drop j rest) count in
     let self : c.collect_method.new.self ≡ collect_method c.loop-i.self (take n rest) = c.in_ok-collect_method.ensures ∙ ap (collect_method c.loop-i.self) first_sections in
-    let counts : n + k ≡ length (flat_map sets_of_method (drop i xs)) = sym (next_count xs i x lt is) in
+    let counts : n + k ≡ length (flat_map sets_of_method (drop i xs)) = sym (next_count xs i x lt (sym c.method_at.ensures)) in
     record {
-      collected = (λ j. collect_methods (self j) (parts_of_methods more (back j))) ∙ sym (next_parts xs i x lt is c.loop-i.self rest) ∙ h.collected;
+      collected = (λ j. collect_methods (self j) (parts_of_methods more (back j))) ∙ sym (next_parts xs i x lt (sym c.method_at.ensures) c.loop-i.self rest) ∙ h.collected;
       left = ap (drop k) back ∙ drop-drop k n rest ∙ ap (λ j. drop j rest) counts ∙ h.left;
       enough = omega (arith, ap (λ (l : List ℕ). length l) back, length-drop n rest, counts, h.enough);
     }

@@ -73,5 +73,4 @@ one_consistent d name x y c e = ap (λ (z : Definition). z.1) (sym (only_member 
 -- different definitions have different files
 pub one_file : (d e : Definition) → IsFileAlone d → IsFileAlone e → canonical (class_alone d) ≡ canonical (class_alone e) → d ≡ e
 one_file d e first second same =
-    let defined = subst (λ b. Defines b d.0 d.1) same ((first.denotes d.0 d.1).0 ((collection-is (d ∷ []) (one_consistent d) d.0 d.1).1 (Contains-first d []))) in
-    sym (only_member e d ((collection-is (e ∷ []) (one_consistent e) d.0 d.1).0 ((second.denotes d.0 d.1).1 defined)))
+    sym (only_member e d ((collection-is (e ∷ []) (one_consistent e) d.0 d.1).0 ((second.denotes d.0 d.1).1 (subst (λ b. Defines b d.0 d.1) same ((first.denotes d.0 d.1).0 ((collection-is (d ∷ []) (one_consistent d) d.0 d.1).1 (Contains-first d [])))))))

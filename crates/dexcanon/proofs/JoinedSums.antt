@@ -50,10 +50,9 @@ joined_adler xs ys front back len p q pe qe f b l =
     let first : p ≡ s = pe ∙ ap halves f ∙ both fs.0 fs.1 in
     let second : q ≡ t = qe ∙ ap halves b ∙ both bs.0 bs.1 in
     let F : ℕ × ℕ → ℕ × ℕ → ℕ → ℕ = λ p q n. (((q.1 + p.1) + n * (p.0 + 65520)) % 65521) * 65536 + (q.0 + (p.0 + 65520)) % 65521 in
-    let j = joined_sums xs ys in
     ap (λ z. F z q len) first ∙ ap (λ z. F s z len) second ∙ ap (F s t) l
-    ∙ ap (λ n. n * 65536 + (t.0 + (s.0 + 65520)) % 65521) (sym j.1)
-    ∙ ap (λ n. (adler_sums (1, 0) (xs ++ ys)).1 * 65536 + n) (sym j.0)
+    ∙ ap (λ n. n * 65536 + (t.0 + (s.0 + 65520)) % 65521) (sym (joined_sums xs ys).1)
+    ∙ ap (λ n. (adler_sums (1, 0) (xs ++ ys)).1 * 65536 + n) (sym (joined_sums xs ys).0)
   where
     both : {a b c d : ℕ} → a ≡ c → b ≡ d → pair a b ≡ pair c d
     both {b = b} {c = c} e f = ap (λ x. pair x b) e ∙ ap (pair c) f

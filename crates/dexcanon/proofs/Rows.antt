@@ -34,12 +34,11 @@ proto_number m n p ranks at = ap (proto_index m) (sym (at.is p)) ∙ ranks.proto
 pub proto_row_at : (m : Mentions) (offs : List ℕ) (i a b : ℕ) (row : ProtoNumbers) (d : Proto) → RanksAreNumbers m → i < length m.protos → i < length offs → DenotesProto m row (get_or m.protos i d) → a ≡ row.shorty → b ≡ row.return_type
     → get_or (zip_with (proto_row_bytes m) m.protos offs) i [] ≡ flat_map uint (a ∷ b ∷ get_or offs i 0 ∷ [])
 proto_row_at m offs i a b row d ranks lt less h ea eb =
-    let off = get_or offs i 0 in
-    let R : ℕ → ℕ → List ℕ = λ x y. uint x ++ (uint y ++ uint off) in
+    let R : ℕ → ℕ → List ℕ = λ x y. uint x ++ (uint y ++ uint (get_or offs i 0)) in
     get_or-zip_with (proto_row_bytes m) m.protos offs i d 0 [] lt less
     ∙ ap (λ n. R n (type_index m (get_or m.protos i d).return_type)) (text_number m row.shorty _ ranks h.shorty_is ∙ sym ea)
     ∙ ap (λ n. R a n) (type_number m row.return_type _ ranks h.return_is ∙ sym eb)
-    ∙ ap (λ z. uint a ++ (uint b ++ z)) (sym (append-nil (uint off)))
+    ∙ ap (λ z. uint a ++ (uint b ++ z)) (sym (append-nil (uint (get_or offs i 0))))
 
 -- the row of a field
 pub field_row_at : (m : Mentions) (i : ℕ) (row : FieldRow) (d : Field) → RanksAreNumbers m → i < length m.fields → DenotesField m row (get_or m.fields i d) → get_or (map (field_row_bytes m) m.fields) i [] ≡ ushort row.class ++ (ushort row.typ ++ uint row.name)

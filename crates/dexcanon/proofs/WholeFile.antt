@@ -23,10 +23,9 @@ module _ (m : Mentions) (cs : List NumberedClass) where
 -- the header and what follows it, where the map is m
 length_named : (K : Ordered) (m : List ℕ) → header_length + length (table_bytes K ++ (flat_map section_bytes (data_sections K) ++ (padding 4 (end (directory_section K)) ++ m))) ≡ round_up 4 (end (directory_section K)) + length m
 length_named K m =
-    let t = table_bytes K in
     let s = flat_map section_bytes (data_sections K) in
     let p = padding 4 (end (directory_section K)) in
-    omega (arith, length-append t (s ++ (p ++ m)), length-append s (p ++ m), length-append p m, length-table_bytes K, length-sections (data_start K) (data_sections K) (end (directory_section K)) (sections_follow K), length-padding 4 (end (directory_section K)))
+    omega (arith, length-append (table_bytes K) (s ++ (p ++ m)), length-append s (p ++ m), length-append p m, length-table_bytes K, length-sections (data_start K) (data_sections K) (end (directory_section K)) (sections_follow K), length-padding 4 (end (directory_section K)))
 
 -- the header and what follows it reach to the end of the file
 pub length_after : (K : Ordered) → header_length + length (after_header K) ≡ file_end K
@@ -66,8 +65,7 @@ stated_is h l body twenty same s n reported set =
 -- how many bytes the signature is of
 pub length_signed : (l : Head) (K : Ordered) → length l.signature ≡ 20 → StatesLayout l K → ((h : Head) (O : Ordered) → StatesTables h O → field_bytes h ≡ header_bytes O h.map_off h.file_size) → l.file_size ≡ 32 + length (drop 32 (head_bytes l) ++ after_header K)
 length_signed l K twenty reports law =
-    let ends = reports.file_ends in
-    omega (arith, ap (λ (z : List ℕ). length z) (after_signature l twenty ∙ law l K reports.tables) ∙ length-header_bytes K l.map_off l.file_size, ends, length_after K, length-append (drop 32 (head_bytes l)) (after_header K))
+    omega (arith, ap (λ (z : List ℕ). length z) (after_signature l twenty ∙ law l K reports.tables) ∙ length-header_bytes K l.map_off l.file_size, reports.file_ends, length_after K, length-append (drop 32 (head_bytes l)) (after_header K))
 
 -- a header with the sums of what another describes is that of the file
 pub summed : (h l : Head) (K : Ordered) → length l.signature ≡ 20 → StatesLayout l K → field_bytes h ≡ field_bytes l → h.signature ≡ sha1 (drop 32 (head_bytes l) ++ after_header K) → h.checksum ≡ adler_32 (h.signature ++ (drop 32 (head_bytes l) ++ after_header K))
@@ -76,9 +74,8 @@ pub summed : (h l : Head) (K : Ordered) → length l.signature ≡ 20 → States
     → ((k : Head) (O : Ordered) → length k.signature ≡ 20 → StatesLayout k O → with_sums_set (head_bytes k ++ after_header O) ≡ with_sums (unsigned_file O))
     → head_bytes h ++ after_header K ≡ with_sums (unsigned_file K)
 summed h l K twenty reports same signature checksum reported set law =
-    let e = after_signature l twenty in
     let rest = after_header K in
-    stated_is h l rest twenty same (signature ∙ ap (λ z. sha1 (z ++ rest)) e) (checksum ∙ ap (λ z. adler_32 (h.signature ++ (z ++ rest))) e) reported set
+    stated_is h l rest twenty same (signature ∙ ap (λ z. sha1 (z ++ rest)) (after_signature l twenty)) (checksum ∙ ap (λ z. adler_32 (h.signature ++ (z ++ rest))) (after_signature l twenty)) reported set
     ∙ law l K twenty reports
 
 -- all of a vector is written over

@@ -65,9 +65,7 @@ ascii_form bytes u rest (Three large small e) h = absurd (omega (arith, large, h
 
 ascii_spelling : (s : List ℕ) → All IsAscii s → spelling s ≡ s
 ascii_spelling [] h = refl
-ascii_spelling (u ∷ s) h =
-    let first = All-head IsAscii u s h in
-    ascii_form (form u ++ spelling s) u (spelling s) (shape_of u (spelling s) (omega (arith, first.1))) first ∙ ap (λ (t : List ℕ). u ∷ t) (ascii_spelling s (All-tail IsAscii u s h))
+ascii_spelling (u ∷ s) h = ascii_form (form u ++ spelling s) u (spelling s) (shape_of u (spelling s) (omega (arith, (All-head IsAscii u s h).1))) (All-head IsAscii u s h) ∙ ap (λ (t : List ℕ). u ∷ t) (ascii_spelling s (All-tail IsAscii u s h))
 
 module _ (bytes s : List ℕ) (spelled : IsSpelling bytes) (is : units_of bytes ≡ s) where
   same : spelling s ≡ bytes

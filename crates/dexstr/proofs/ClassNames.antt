@@ -24,11 +24,7 @@ join_cons u p (q ∷ qs) = refl
 
 ends_semicolon : (begun : Bool) (s : List ℕ) → (begun ≡ true) × (is_end s ≡ true) → Ends begun (0x3b ∷ s)
 ends_semicolon begun s e = record {
-  part = [];
-  parts = [];
-  units = λ k d lt. absurd (omega arith);
-  some = λ no. absurd (true≢false (sym e.0 ∙ no));
-  names = λ k d lt. absurd (omega arith);
+  part = []; parts = []; units = λ k d lt. absurd (omega arith); some = λ no. absurd (true≢false (sym e.0 ∙ no)); names = λ k d lt. absurd (omega arith);
   is = ap (λ (x : List ℕ). 0x3b ∷ x) (end_is s e.1);
 }
 
@@ -44,12 +40,7 @@ ends_slash begun s is ends = record {
 
 ends_name : (begun : Bool) (u : ℕ) (s : List ℕ) → IsNameUnit u → Ends true s → Ends begun (u ∷ s)
 ends_name begun u s is ends = record {
-  part = u ∷ ends.part;
-  parts = ends.parts;
-  units = All-cons IsNameUnit u ends.part is ends.units;
-  some = λ no. omega arith;
-  names = ends.names;
-  is = rw join_cons (ap (λ (x : List ℕ). u ∷ x) ends.is);
+  part = u ∷ ends.part; parts = ends.parts; units = All-cons IsNameUnit u ends.part is ends.units; some = λ no. omega arith; names = ends.names; is = rw join_cons (ap (λ (x : List ℕ). u ∷ x) ends.is);
 }
 
 ends_from : (begun : Bool) (s : List ℕ) → ends_class begun s ≡ true → Ends begun s
@@ -76,8 +67,7 @@ ends_to true [] [] units some names = refl
 ends_to true [] (q ∷ qs) units some names =
     let first = names 0 q (omega arith) in
     ends_to false q qs first.units (λ no. first.some) (λ k d lt. names (suc k) d (omega arith))
-ends_to begun (u ∷ p) ps units some names =
-    rw join_cons (step_name u (units 0 0 (omega arith)) begun (join_with_byte 0x2f (p ∷ ps) ++ 0x3b ∷ []) ∙ ends_to true p ps (λ k d lt. units (suc k) d (omega arith)) (λ no. absurd (true≢false no)) names)
+ends_to begun (u ∷ p) ps units some names = rw join_cons (step_name u (units 0 0 (omega arith)) begun (join_with_byte 0x2f (p ∷ ps) ++ 0x3b ∷ []) ∙ ends_to true p ps (λ k d lt. units (suc k) d (omega arith)) (λ no. absurd (true≢false no)) names)
 
 -- the name of a class and `;`
 pub record Named (s : List ℕ) : Type 0 where
@@ -148,8 +138,7 @@ ends_class-spelling (u ∷ s) units begun =
 
 name_to : (bytes : List ℕ) (u : ℕ) (rest s : List ℕ) → Shape bytes u rest → All IsNameUnit (u ∷ s) → All IsNameUnit rest → All IsNameUnit bytes
 name_to bytes u rest s (One some small e) units tail = rw e (All-cons IsNameUnit u rest (units 0 0 (omega arith)) tail)
-name_to bytes u rest s (Two which small e) units tail =
-    rw e (All-cons IsNameUnit (0xc0 + u / 64) ((0x80 + u % 64) ∷ rest) (high_byte (0xc0 + u / 64) (omega arith)) (All-cons IsNameUnit (0x80 + u % 64) rest (high_byte (0x80 + u % 64) (omega arith)) tail))
+name_to bytes u rest s (Two which small e) units tail = rw e (All-cons IsNameUnit (0xc0 + u / 64) ((0x80 + u % 64) ∷ rest) (high_byte (0xc0 + u / 64) (omega arith)) (All-cons IsNameUnit (0x80 + u % 64) rest (high_byte (0x80 + u % 64) (omega arith)) tail))
 name_to bytes u rest s (Three large small e) units tail =
     rw e (All-cons IsNameUnit (0xe0 + u / 4096) ((0x80 + u / 64 % 64) ∷ (0x80 + u % 64) ∷ rest) (high_byte (0xe0 + u / 4096) (omega arith)) (All-cons IsNameUnit (0x80 + u / 64 % 64) ((0x80 + u % 64) ∷ rest) (high_byte (0x80 + u / 64 % 64) (omega arith)) (All-cons IsNameUnit (0x80 + u % 64) rest (high_byte (0x80 + u % 64) (omega arith)) tail)))
 

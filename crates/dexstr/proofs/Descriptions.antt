@@ -209,9 +209,8 @@ same_brackets (u ∷ s) units = brackets_step (form u ++ spelling s) u (spelling
 -- the bytes of a text are of the kind that its units are
 pub kind_of-spelling : (s : List ℕ) → AreUnits s → kind_of (spelling s) ≡ kind_of s
 kind_of-spelling s units =
-    let same = same_brackets s units in
     let following : AreUnits (drop (dimensions s) s) = All-drop (λ u. u < 2 ^ 16) (dimensions s) s units in
-    rw (is_void-spelling s units, same.count, same.following, element_kind-spelling s units, element_kind-spelling (drop (dimensions s) s) following) refl
+    rw (is_void-spelling s units, (same_brackets s units).count, (same_brackets s units).following, element_kind-spelling s units, element_kind-spelling (drop (dimensions s) s) following) refl
 
 -- ---- what the call returns
 

@@ -6,8 +6,7 @@ use Rattle.dexstr.proofs.Forms.{shape, units_of-spelling}
 
 spelling_is : (us : List ℕ) → AreUnits us → IsSpelling (spelling us)
 spelling_is us units =
-    let e = units_of-spelling us units in
-    record { parts = ap spelling e; units = rw e units }
+    record { parts = ap spelling (units_of-spelling us units); units = rw (units_of-spelling us units) units }
 
 pub spelled_prefix : (body : List ℕ) (n : ℕ) (rest : List ℕ) (after : AfterUnits body n rest) → take (length body - length rest) body ≡ spelling after.us
 spelled_prefix body n rest after =

@@ -15,8 +15,7 @@ unsummed c =
 
 pub set_sums-requires : goal.set_sums-requires
 set_sums-requires c =
-    let l = c.args.contents.now.layout.now in
-    omega (arith, ap (λ z. length z) (c.deref_mut.ensures.value ∙ unsummed c), length-append (head_bytes l.head) (after_header (ordered_in c.args.contents.now)), ap (λ h. length (head_bytes h)) c.head.ensures, c.in_ok-put.ensures.len)
+    omega (arith, ap (λ z. length z) (c.deref_mut.ensures.value ∙ unsummed c), length-append (head_bytes c.args.contents.now.layout.now.head) (after_header (ordered_in c.args.contents.now)), ap (λ h. length (head_bytes h)) c.head.ensures, c.in_ok-put.ensures.len)
 
 pub returns : goal.returns
 returns c =

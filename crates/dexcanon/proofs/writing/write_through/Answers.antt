@@ -13,8 +13,7 @@ pub returns-clause-same : goal.returns-clause-same
 returns-clause-same g c = same_writer g.W.Sink.reports g.W.Sink.taken c.args.out.now.target c.write_body.new.out _ (written g (goal.at.returns-clause-same g c).After-write_body)
 
 pub returns-clause-written : goal.returns-clause-written
-returns-clause-written g c =
-    written_whole g.W.Sink.reports g.W.Sink.taken c.args.out.now.target c.write_body.new.out _ (written g (goal.at.returns-clause-written g c).After-write_body) c.result.result c.result.ensures c.write_body.ensures.empty
+returns-clause-written g c = written_whole g.W.Sink.reports g.W.Sink.taken c.args.out.now.target c.write_body.new.out _ (written g (goal.at.returns-clause-written g c).After-write_body) c.result.result c.result.ensures c.write_body.ensures.empty
 
 pub returns-clause-left : goal.returns-clause-left
 returns-clause-left g c = written_prefix g.W.Sink.reports g.W.Sink.taken c.args.out.now.target c.write_body.new.out _ (written g (goal.at.returns-clause-left g c).After-write_body) c.result.result c.result.ensures

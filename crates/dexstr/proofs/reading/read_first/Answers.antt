@@ -8,9 +8,8 @@ of_spelling-requires c = spells_prefix c.args.bytes.now _ c.in-Ok.read.0 c.in-Ok
 
 pub returns-in-0-clause-found : goal.returns-in-0-clause-found
 returns-in-0-clause-found c =
-    let after = rw from_place at c.skip_units-units.ensures in
     let zero_first : get_or c.skip_units-units.result.1.now 0 0 ≡ 0 = search rules in
-    rw (c.of_spelling.ensures, from_place) (item_found c.args.bytes.now c.in-Ok.read.0 c.in-Ok.read.1 c.skip_units-units.result.0 c.skip_units-units.result.1.now c.in-Ok.ensures.found after c.if-units-count.true c.in-0.len_at_least zero_first _ refl)
+    rw (c.of_spelling.ensures, from_place) (item_found c.args.bytes.now c.in-Ok.read.0 c.in-Ok.read.1 c.skip_units-units.result.0 c.skip_units-units.result.1.now c.in-Ok.ensures.found (rw from_place at c.skip_units-units.ensures) c.if-units-count.true c.in-0.len_at_least zero_first _ refl)
 
 pub returns-in_default-clause-fault : goal.returns-in_default-clause-fault
 returns-in_default-clause-fault c =

@@ -36,6 +36,5 @@ pub returns : goal.returns
 returns g c =
     let m = c.args.contents.now.numbering.now in
     let here = (goal.at.returns g c).After-index-classes-i in
-    let class = c.index-classes-i.result in
-    let at = class_row_at m c.args.contents.now.classes.now c.args.i class (ranks_are_numbers m c.requires.ready.writable.numbering.rising) (known g here) (within g here) c.index-classes-i.is in
-    subst (λ bs. g.O.Output.gives bs c.args.out.now c.encode_numbers.new.out) ((c.row_of-row.ensures ∙ ap (class_row class) c.of-offsets.ensures) ∙ sym at) c.encode_numbers.ensures
+    let at = class_row_at m c.args.contents.now.classes.now c.args.i c.index-classes-i.result (ranks_are_numbers m c.requires.ready.writable.numbering.rising) (known g here) (within g here) c.index-classes-i.is in
+    subst (λ bs. g.O.Output.gives bs c.args.out.now c.encode_numbers.new.out) ((c.row_of-row.ensures ∙ ap (class_row c.index-classes-i.result) c.of-offsets.ensures) ∙ sym at) c.encode_numbers.ensures

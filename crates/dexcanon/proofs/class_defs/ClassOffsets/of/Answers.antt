@@ -17,23 +17,17 @@ static_values_are : (c : After-offsets-static_values) → c.offsets-static_value
 static_values_are c = c.offsets-static_values.ensures ∙ ap (λ (p : ItemPlaces). p.offsets) (c.places-4.ensures ∙ ap (λ (s : EncodedItems). s.places) c.static_values.ensures) ∙ c.requires.ready.laid.static_values_are.places_are.offsets_are
 
 pub bounds-lists-list : goal.bounds-lists-list
-bounds-lists-list c =
-    let is = ap (λ (l : List ℕ). length l) (lists_are (goal.at.bounds-lists-list c).After-offsets-static_values) in
-    omega (arith, is, count_lists c.args.contents.now.numbering.now c.args.contents.now.classes.now, c.count.ensures, c.requires.within)
+bounds-lists-list c = omega (arith, ap (λ (l : List ℕ). length l) (lists_are (goal.at.bounds-lists-list c).After-offsets-static_values), count_lists c.args.contents.now.numbering.now c.args.contents.now.classes.now, c.count.ensures, c.requires.within)
 
 pub bounds-directories-i : goal.bounds-directories-i
-bounds-directories-i c =
-    let is = ap (λ (l : List ℕ). length l) (directories_are (goal.at.bounds-directories-i c).After-offsets-static_values) in
-    omega (arith, is, count_directories c.args.contents.now.numbering.now c.args.contents.now.classes.now, c.requires.within)
+bounds-directories-i c = omega (arith, ap (λ (l : List ℕ). length l) (directories_are (goal.at.bounds-directories-i c).After-offsets-static_values), count_directories c.args.contents.now.numbering.now c.args.contents.now.classes.now, c.requires.within)
 
 pub bounds-class_data-i : goal.bounds-class_data-i
-bounds-class_data-i c =
-    omega (arith, ap (λ (l : List ℕ). length l) (class_data_are (goal.at.bounds-class_data-i c).After-offsets-static_values), count_class_data c.args.contents.now.numbering.now c.args.contents.now.classes.now, c.requires.within)
+bounds-class_data-i c = omega (arith, ap (λ (l : List ℕ). length l) (class_data_are (goal.at.bounds-class_data-i c).After-offsets-static_values), count_class_data c.args.contents.now.numbering.now c.args.contents.now.classes.now, c.requires.within)
 
 pub bounds-static_values-i : goal.bounds-static_values-i
 bounds-static_values-i c =
-    let is = ap (λ (l : List ℕ). length l) (static_values_are (goal.at.bounds-static_values-i c).After-offsets-static_values) in
-    omega (arith, is, count_static_values c.args.contents.now.numbering.now c.args.contents.now.classes.now, c.requires.within)
+    omega (arith, ap (λ (l : List ℕ). length l) (static_values_are (goal.at.bounds-static_values-i c).After-offsets-static_values), count_static_values c.args.contents.now.numbering.now c.args.contents.now.classes.now, c.requires.within)
 
 pub returns : goal.returns
 returns c =

@@ -3,6 +3,4 @@ use Rattle.dexcanon.proofs.strings.StringDataItemsItemList.encode_item.Goals as 
 
 pub returns : goal.returns
 returns g c =
-    let s = c.string.result.now in
-    let is = c.string.ensures.is s in
-    subst (λ bs. g.O.Output.gives bs c.args.out.now c.encode.new.out) (sym (get_or-map string_data c.args.contents.now.numbering.now.texts c.args.i s [] c.string.ensures.within ∙ ap string_data is)) c.encode.ensures
+    subst (λ bs. g.O.Output.gives bs c.args.out.now c.encode.new.out) (sym (get_or-map string_data c.args.contents.now.numbering.now.texts c.args.i c.string.result.now [] c.string.ensures.within ∙ ap string_data (c.string.ensures.is c.string.result.now))) c.encode.ensures

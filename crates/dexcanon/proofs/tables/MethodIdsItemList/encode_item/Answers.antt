@@ -14,6 +14,5 @@ encode_member-requires-clause-type_fits g c = omega (arith, (c.method-method.ens
 pub returns : goal.returns
 returns g c =
     let m = c.args.contents.now.numbering.now in
-    let row = c.method-method.result.now in
     let lt : c.args.i < length m.methods = omega (arith, c.requires.within, length-map m.methods (method_row_bytes m)) in
-    subst (λ bs. g.O.Output.gives bs c.args.out.now c.encode_member.new.out) (sym (method_row_at m c.args.i row no_method (ranks_are_numbers m c.requires.ready.writable.numbering.rising) lt (c.method-method.ensures no_method))) c.encode_member.ensures
+    subst (λ bs. g.O.Output.gives bs c.args.out.now c.encode_member.new.out) (sym (method_row_at m c.args.i c.method-method.result.now no_method (ranks_are_numbers m c.requires.ready.writable.numbering.rising) lt (c.method-method.ensures no_method))) c.encode_member.ensures

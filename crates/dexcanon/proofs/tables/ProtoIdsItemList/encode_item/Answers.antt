@@ -34,8 +34,7 @@ pub returns : goal.returns
 returns g c =
     let here = (goal.at.returns g c).After-offsets-list_offs in
     let m = c.args.contents.now.numbering.now in
-    let offs = c.offsets-list_offs.result.now in
     let i = c.args.i in
     let lt : i < length m.protos = omega (arith, c.requires.within, count_proto_rows m c.args.contents.now.classes.now) in
-    let row = proto_row_at m offs i c.shorty.result c.return_type.result c.proto-proto.result no_proto (ranks_are_numbers m c.requires.ready.writable.numbering.rising) lt (within g here) (c.proto-proto.ensures no_proto) c.shorty.ensures c.return_type.ensures in
+    let row = proto_row_at m c.offsets-list_offs.result.now i c.shorty.result c.return_type.result c.proto-proto.result no_proto (ranks_are_numbers m c.requires.ready.writable.numbering.rising) lt (within g here) (c.proto-proto.ensures no_proto) c.shorty.ensures c.return_type.ensures in
     subst (λ bs. g.O.Output.gives bs c.args.out.now c.encode_numbers.new.out) (sym row ∙ ap (λ os. get_or (zip_with (proto_row_bytes m) m.protos os) i []) (offsets_are g here)) c.encode_numbers.ensures

@@ -15,5 +15,4 @@ bounds-offsets-i g c = within g (goal.at.bounds-offsets-i g c).After-offsets-off
 pub returns : goal.returns
 returns g c =
     let here = (goal.at.returns g c).After-offsets-offsets in
-    let i = c.args.i in
-    subst (λ bs. g.O.Output.gives bs c.args.out.now c.u32.new.self) (sym (get_or-map uint c.offsets-offsets.result.now i 0 [] (within g here)) ∙ ap (λ ys. get_or (map uint ys) i []) (offsets_are g here)) c.u32.ensures
+    subst (λ bs. g.O.Output.gives bs c.args.out.now c.u32.new.self) (sym (get_or-map uint c.offsets-offsets.result.now c.args.i 0 [] (within g here)) ∙ ap (λ ys. get_or (map uint ys) c.args.i []) (offsets_are g here)) c.u32.ensures

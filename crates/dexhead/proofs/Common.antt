@@ -5,7 +5,8 @@ pub use Rattle.std.proofs.lemmas.Bool.{and_from, and_parts, cases_lt}
 pub use Rattle.std.proofs.lemmas.List.{append-nil, drop-drop, drop_at, drop_more, get_or-map, get_or-take, length-map, length-take-le, map-append, take-append-le, take-take, take_all, take_at, take_more, take_rest}
 pub use Rattle.std.proofs.lemmas.List.Elements.{All-contains, All-get_or, All-map, All-more, Contains-get_or}
 pub use Rattle.std.proofs.lemmas.List.Folds.{flat_map-map}
-pub use Rattle.std.specs.List.{Contains, flat_map}
+pub use Rattle.std.proofs.lemmas.List.FromFn.{get_or-range_with_len}
+pub use Rattle.std.specs.List.{Contains, flat_map, range_with_len}
 pub use Rattle.byteorder.specs.Endian.{little_bytes, little_number}
 pub use Rattle.dexspec.proofs.numbers.ByteNumbers.{length-uint, length-ushort, uint_at-encodes}
 pub use Rattle.dexspec.proofs.written.PlacedBytes.{is_at, is_at_first, is_at_later, length_rows}

@@ -1,5 +1,5 @@
 -- The entries of a map, one by one.
-use Rattle.dexhead.proofs.Common.{◌≡◌, ◌≢◌, ◌⊎◌, inl, inr, ◌↔◌, ℕ, zero, suc, ◌+◌, ◌-◌, ◌*◌, ◌<◌, ◌≤◌, List, [], ◌∷◌, ◌++◌, length, map, take, get_or, Bool, false, and_from, and_parts, IsTrue, All, refl, subst, sym, ap, ◌∙◌, arith, Contains, take_more, take_all, map-append, length-map, length-take-le, get_or-map, get_or-take, All-more, All-map, All-get_or, All-contains, Contains-get_or, ushort_at, uint_at, table_size, StringIds, TypeIds, ProtoIds, FieldIds, MethodIds, ClassDefs, MapEntry, Section, HeaderItem, TableOf, MapList, TypeLists, AnnotationSetRefLists, AnnotationSets, ClassDataItems, CodeItems, StringDataItems, DebugInfoItems, AnnotationItems, EncodedArrayItems, AnnotationsDirectories, type_code, entries_at, IsKnown, IsPlaced, HasTable, HasMap, map_entries, entries, entry_of, IsCode, IsNext, AreInOrder, BeginsWithHeader, IsThere, HaveTables, AreRight, IsInPlace}
+use Rattle.dexhead.proofs.Common.{◌≡◌, ◌≢◌, ◌⊎◌, inl, inr, ◌↔◌, ℕ, zero, suc, ◌+◌, ◌-◌, ◌*◌, ◌<◌, ◌≤◌, List, [], ◌∷◌, ◌++◌, length, map, take, get_or, Bool, false, and_from, and_parts, IsTrue, All, refl, subst, sym, ap, ◌∙◌, arith, Contains, take_more, take_all, map-append, length-map, length-take-le, get_or-map, get_or-take, All-more, All-map, All-get_or, All-contains, Contains-get_or, ushort_at, uint_at, table_size, StringIds, TypeIds, ProtoIds, FieldIds, MethodIds, ClassDefs, MapEntry, Section, HeaderItem, TableOf, MapList, TypeLists, AnnotationSetRefLists, AnnotationSets, ClassDataItems, CodeItems, StringDataItems, DebugInfoItems, AnnotationItems, EncodedArrayItems, AnnotationsDirectories, type_code, entries_at, IsKnown, IsPlaced, HasTable, HasMap, map_entries, entries, entry_of, IsCode, IsNext, AreInOrder, BeginsWithHeader, IsThere, HaveTables, AreRight, IsInPlace, range_with_len, get_or-range_with_len}
 use Rattle.std.specs.Ordering.{nat_cmp, is_lt}
 use Rattle.std.proofs.lemmas.List.Quantifiers.{all_pairs_push}
 use Rattle.std.proofs.lemmas.Bool.Decides.{nat_tests}
@@ -43,37 +43,17 @@ entry_is p q r = cc
 
 -- ---- type codes
 
-low : (n : ℕ) → n ≤ 6 → (s : Section) × (n ≡ type_code s)
-low zero le = (HeaderItem, refl)
-low (suc zero) le = (TableOf StringIds, refl)
-low (suc (suc zero)) le = (TableOf TypeIds, refl)
-low (suc (suc (suc zero))) le = (TableOf ProtoIds, refl)
-low (suc (suc (suc (suc zero)))) le = (TableOf FieldIds, refl)
-low (suc (suc (suc (suc (suc zero))))) le = (TableOf MethodIds, refl)
-low (suc (suc (suc (suc (suc (suc zero)))))) le = (TableOf ClassDefs, refl)
-low (suc (suc (suc (suc (suc (suc (suc n))))))) le = absurd (omega arith)
-
-middle : (k : ℕ) → k ≤ 3 → (s : Section) × (0x1000 + k ≡ type_code s)
-middle zero le = (MapList, refl)
-middle (suc zero) le = (TypeLists, refl)
-middle (suc (suc zero)) le = (AnnotationSetRefLists, refl)
-middle (suc (suc (suc zero))) le = (AnnotationSets, refl)
-middle (suc (suc (suc (suc n)))) le = absurd (omega arith)
-
-high : (k : ℕ) → k ≤ 6 → (s : Section) × (0x2000 + k ≡ type_code s)
-high zero le = (ClassDataItems, refl)
-high (suc zero) le = (CodeItems, refl)
-high (suc (suc zero)) le = (StringDataItems, refl)
-high (suc (suc (suc zero))) le = (DebugInfoItems, refl)
-high (suc (suc (suc (suc zero)))) le = (AnnotationItems, refl)
-high (suc (suc (suc (suc (suc zero))))) le = (EncodedArrayItems, refl)
-high (suc (suc (suc (suc (suc (suc zero)))))) le = (AnnotationsDirectories, refl)
-high (suc (suc (suc (suc (suc (suc (suc n))))))) le = absurd (omega arith)
+-- the section of a code among those of codes that follow one another
+of_codes : (xs : List Section) (from n : ℕ) → map type_code xs ≡ range_with_len from (length xs) → n < length xs → (s : Section) × (from + n ≡ type_code s)
+of_codes xs from n codes lt = (get_or xs n HeaderItem, sym (get_or-range_with_len from (length xs) n 0 lt) ∙ ap (λ l. get_or l n 0) (sym codes) ∙ get_or-map type_code xs n HeaderItem 0 lt)
 
 known_code : (n : ℕ) → IsCode n → (s : Section) × (n ≡ type_code s)
-known_code n (inl h) = low n h
-known_code n (inr (inl h)) = let s = middle (n - 0x1000) (omega arith) in (s.0, omega (arith, s.1))
-known_code n (inr (inr h)) = let s = high (n - 0x2000) (omega arith) in (s.0, omega (arith, s.1))
+known_code n (inl h) =
+    let s = of_codes (HeaderItem ∷ TableOf StringIds ∷ TableOf TypeIds ∷ TableOf ProtoIds ∷ TableOf FieldIds ∷ TableOf MethodIds ∷ TableOf ClassDefs ∷ []) 0 n refl (omega (arith, h)) in (s.0, omega (arith, s.1))
+known_code n (inr (inl h)) =
+    let s = of_codes (MapList ∷ TypeLists ∷ AnnotationSetRefLists ∷ AnnotationSets ∷ []) 0x1000 (n - 0x1000) refl (omega (arith, h.0, h.1)) in (s.0, omega (arith, s.1, h.0))
+known_code n (inr (inr h)) =
+    let s = of_codes (ClassDataItems ∷ CodeItems ∷ StringDataItems ∷ DebugInfoItems ∷ AnnotationItems ∷ EncodedArrayItems ∷ AnnotationsDirectories ∷ []) 0x2000 (n - 0x2000) refl (omega (arith, h.0, h.1)) in (s.0, omega (arith, s.1, h.0))
 
 code_of : (s : Section) → IsCode (type_code s)
 code_of HeaderItem = inl (omega arith)
@@ -136,27 +116,18 @@ order_more {b = b} es i lt h next = record {
   others = All-more (IsPlaced b) es i none lt h.others next.placed;
 }
 
-pub order_all : {b : List ℕ} (es : List MapEntry) (n : ℕ) → n ≡ length es → AreInOrder b (take n es) → AreInOrder b es
-order_all {b = b} es n e h = subst (AreInOrder b) (take_all n es (omega arith)) h
-
 above_at : (es : List MapEntry) (i : ℕ) → i < length es → IsTrue (rises nat_cmp (map off es)) → (i ≡ 0) ⊎ ((entry_of es (i - 1)).off < (entry_of es i).off)
 above_at es zero lt h = inl refl
 above_at es (suc k) lt h =
     let n : length (map off es) ≡ length es = length-map es off in
-    let p : get_or (map off es) k 0 ≡ (entry_of es k).off = get_or-map off es k none 0 (omega arith) in
-    let q : get_or (map off es) (suc k) 0 ≡ (entry_of es (suc k)).off = get_or-map off es (suc k) none 0 lt in
     let j : suc k - 1 ≡ k = omega arith in
-    let r : (entry_of es (suc k - 1)).off ≡ (entry_of es k).off = ap (λ i. (entry_of es i).off) j in
-    inr (omega (arith, rises_at (map off es) k h (omega arith), p, q, r))
+    inr (omega (arith, rises_at (map off es) k h (omega arith), get_or-map off es k none 0 (omega arith), get_or-map off es (suc k) none 0 lt, ap (λ i. (entry_of es i).off) j))
 
 new_at : (es : List MapEntry) (i : ℕ) → i < length es → AreDistinct (map kind es) → All (λ e. e.kind ≢ (entry_of es i).kind) (take i es)
 new_at es i lt h k d le same =
     let m : length (take i es) ≡ i = length-take-le i es (omega arith) in
     let n : length (map kind es) ≡ length es = length-map es kind in
-    let at : get_or (take i es) k d ≡ get_or es k d = get_or-take i es k d (omega arith) in
-    let p : get_or (map kind es) k 0 ≡ kind (get_or es k d) = get_or-map kind es k d 0 (omega arith) in
-    let q : get_or (map kind es) i 0 ≡ kind (entry_of es i) = get_or-map kind es i none 0 lt in
-    h k i 0 (omega arith) (omega arith) (p ∙ sym (ap kind at) ∙ same ∙ sym q)
+    h k i 0 (omega arith) (omega arith) (get_or-map kind es k d 0 (omega arith) ∙ sym (ap kind (get_or-take i es k d (omega arith))) ∙ same ∙ sym (get_or-map kind es i none 0 lt))
 
 pub next_at : {b : List ℕ} (es : List MapEntry) (i : ℕ) → i < length es → AreInOrder b es → IsNext b es i
 next_at {b = b} es i lt h =
@@ -195,9 +166,6 @@ kind_lacks es k n i lt le e h =
 pub found : (es : List MapEntry) (x : MapEntry) (i : ℕ) → i < length es → entry_of es i ≡ x → Contains es x
 found es x i lt e = subst (Contains es) e (Contains-get_or es i none lt)
 
-pub not_found : (es : List MapEntry) (x : MapEntry) → All (λ e. e ≢ x) es → Contains es x → ⊥
-not_found es x h at = All-contains (λ e. e ≢ x) es x h at refl
-
 -- ---- the tables, and the whole map
 
 pub empty_table : {b : List ℕ} (es : List MapEntry) (t : header.Table) (n k : ℕ) (r : Bool) → n ≡ length es → table_size b t ≡ 0 → k ≡ type_code (TableOf t) → (IsTrue r ↔ All (λ e. e.kind ≢ k) (take n es)) → IsTrue r ↔ IsThere b es t
@@ -215,25 +183,14 @@ has_table h ClassDefs = h.classes.there
 
 have_tables : {b : List ℕ} {es : List MapEntry} → ((t : header.Table) → HasTable b es t) → HaveTables b es
 have_tables h = record {
-  strings = record { there = h StringIds };
-  types = record { there = h TypeIds };
-  protos = record { there = h ProtoIds };
-  fields = record { there = h FieldIds };
-  methods = record { there = h MethodIds };
-  classes = record { there = h ClassDefs };
+  strings = record { there = h StringIds }; types = record { there = h TypeIds }; protos = record { there = h ProtoIds }; fields = record { there = h FieldIds };
+  methods = record { there = h MethodIds }; classes = record { there = h ClassDefs };
 }
 
 pub has_map : {b : List ℕ} → IsInPlace b → AreRight b (map_entries b) → HasMap b
 has_map place right = record {
-  in_data = place.in_data;
-  aligned = place.aligned;
-  known = right.order.known;
-  once = right.order.once;
-  rise = right.order.rise;
-  header = right.header.begins;
-  tables = has_table right.tables;
-  itself = right.itself.itself;
-  others = right.order.others;
+  in_data = place.in_data; aligned = place.aligned; known = right.order.known; once = right.order.once; rise = right.order.rise; header = right.header.begins; tables = has_table right.tables;
+  itself = right.itself.itself; others = right.order.others;
 }
 
 pub are_right : {b : List ℕ} → HasMap b → AreRight b (map_entries b)

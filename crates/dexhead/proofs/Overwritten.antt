@@ -17,10 +17,8 @@ checksum_set f d n e s = overwritten 8 4 12 f d refl ∙ ap (λ ys. take 8 f ++ 
 pub sums_set : (f g h : List ℕ) → 32 ≤ length f → g ≡ take 12 f ++ signed f → h ≡ take 8 g ++ (uint (adler_32 (drop 12 g)) ++ drop 12 g) → h ≡ with_sums_set f
 unfolding with_sums_set
 sums_set f g h long e e' =
-    let n : length (take 12 f) ≡ 12 = length-take-le 12 f (omega arith) in
-    let back : drop 12 g ≡ signed f = ap (drop 12) e ∙ drop_at (take 12 f) (signed f) 12 n in
-    let prefix : take 8 g ≡ take 8 f = ap (take 8) e ∙ take-append-le 8 (take 12 f) (signed f) (omega arith) ∙ take-take 8 12 f (omega arith) in
-    e' ∙ ap (λ xs. xs ++ (uint (adler_32 (drop 12 g)) ++ drop 12 g)) prefix ∙ ap (λ xs. take 8 f ++ (uint (adler_32 xs) ++ xs)) back
+    let prefix : take 8 g ≡ take 8 f = ap (take 8) e ∙ take-append-le 8 (take 12 f) (signed f) (omega (arith, length-take-le 12 f (omega arith))) ∙ take-take 8 12 f (omega arith) in
+    e' ∙ ap (λ xs. xs ++ (uint (adler_32 (drop 12 g)) ++ drop 12 g)) prefix ∙ ap (λ xs. take 8 f ++ (uint (adler_32 xs) ++ xs)) (ap (drop 12) e ∙ drop_at (take 12 f) (signed f) 12 (length-take-le 12 f (omega arith)))
 
 -- what follows a part of this length and more
 pub drop_after : (part rest : List ℕ) (n m : ℕ) → length part ≡ n → drop (n + m) (part ++ rest) ≡ drop m rest

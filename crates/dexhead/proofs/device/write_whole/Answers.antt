@@ -13,5 +13,4 @@ pieces-preserved g c = record {
 
 pub returns-in_err-done-clause-prefix : goal.returns-in_err-done-clause-prefix
 returns-in_err-done-clause-prefix g c =
-    let p = err_from_is_err_and c.from_residual.result c.from_residual.ensures.1 in
-    rw (p.1) (λ reports. prefix_more _ _ _ _ _ _ (c.pieces.invariant.prefix reports) c.split_at.ensures.back (c.in_err-done.ensures.prefix (c.pieces.invariant.reports reports)))
+    rw ((err_from_is_err_and c.from_residual.result c.from_residual.ensures.1).1) (λ reports. prefix_more _ _ _ _ _ _ (c.pieces.invariant.prefix reports) c.split_at.ensures.back (c.in_err-done.ensures.prefix (c.pieces.invariant.reports reports)))

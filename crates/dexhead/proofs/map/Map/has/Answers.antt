@@ -1,5 +1,5 @@
-use Rattle.dexhead.proofs.Common.{◌≢◌, arith, refl, subst, sym, ◌∙◌, All, take_all, All-more, MapEntry, entries, read}
-use Rattle.dexhead.proofs.Entries.{length-entries, never, found, not_found}
+use Rattle.dexhead.proofs.Common.{◌≢◌, arith, refl, subst, sym, ◌∙◌, All, take_all, All-contains, All-more, MapEntry, entries, read}
+use Rattle.dexhead.proofs.Entries.{length-entries, never, found}
 use Rattle.dexhead.proofs.map.Map.has.Goals as goal
 
 pub returns-then-is : goal.returns-then-is
@@ -11,8 +11,6 @@ loop-i-preserved c =
     (λ same. never (c.if-is.ensures.1 (c.entry.ensures ∙ same)))
 
 pub returns : goal.returns
-returns c = (
-  λ x. absurd (never x),
-  λ h. absurd (not_found (entries c.args.self.now) (read c.args.entry)
-      (subst (λ xs. All (λ (x : MapEntry). x ≢ read c.args.entry) xs) (take_all c.loop-i.i (entries c.args.self.now) (omega (arith, length-entries c.args.self.now))) c.loop-i.invariant) h),
-)
+returns c =
+    (λ x. absurd (never x), λ h. absurd (All-contains (λ (x : MapEntry). x ≢ read c.args.entry) (entries c.args.self.now) (read c.args.entry)
+    (subst (λ xs. All (λ (x : MapEntry). x ≢ read c.args.entry) xs) (take_all c.loop-i.i (entries c.args.self.now) (omega (arith, length-entries c.args.self.now))) c.loop-i.invariant) h refl))

@@ -163,8 +163,7 @@ often_depth fan files (suc k) = omega (arith, often_depth fan files k, groups_de
 often_halved : (fan files : ℕ) → 2 ≤ fan → 1 ≤ files → (k : ℕ) → length (grouped_often fan files k) * 2 ^ k + 1 ≤ files + 2 ^ k
 often_halved fan files two some zero = omega (arith, length-map-range_with_len Leaf 0 files)
 often_halved fan files two some (suc k) =
-    let count = length-map-range_with_len (group fan (grouped_often fan files k)) 0 (div_ceil (length (grouped_often fan files k)) fan) in
-    let fewer = halved fan (length (grouped_often fan files k)) (length (grouped_often fan files (suc k))) two (sym count) in
+    let fewer = halved fan (length (grouped_often fan files k)) (length (grouped_often fan files (suc k))) two (sym (length-map-range_with_len (group fan (grouped_often fan files k)) 0 (div_ceil (length (grouped_often fan files k)) fan))) in
     let times : (2 * length (grouped_often fan files (suc k))) * 2 ^ k ≤ (length (grouped_often fan files k) + 1) * 2 ^ k = mul-le-mul_right (2 ^ k) fewer in
     let power : 2 ^ suc k ≡ 2 ^ k + 2 ^ k = two-pow-succ k in
     let whole : length (grouped_often fan files (suc k)) * 2 ^ suc k ≡ length (grouped_often fan files (suc k)) * (2 ^ k + 2 ^ k) = ap (λ (n : ℕ). length (grouped_often fan files (suc k)) * n) power in

@@ -1,4 +1,4 @@
-use Rattle.dexruns.proofs.Common.{arith, ◌≡◌, ◌<◌, ◌≤◌, ◌+◌, refl, false, length, map, length-map, drop-set-lt, All-set, drop_more_same, err_from_is_err_and, bytes_read, IsReadNoFurther}
+use Rattle.dexruns.proofs.Common.{arith, ◌≡◌, ◌<◌, ◌+◌, refl, false, map, length-map, drop-set-lt, All-set, drop_more_same, err_from_is_err_and, bytes_read, IsReadNoFurther}
 use Rattle.dexruns.proofs.Checked.{none_moved, moved_now, none_checked, checked_more, begun, begun_more, right_now, line_is}
 use Rattle.dexruns.proofs.Unread.{check_unread}
 use Rattle.dexruns.proofs.checking.check_run.Goals as goal

@@ -1,10 +1,9 @@
-use Rattle.dexruns.proofs.Common.{rules, arith, ◌≡◌, ◌<◌, ◌∙◌, ap, length, get_or, definitions, mentions, type_at}
+use Rattle.dexruns.proofs.Common.{rules, arith, ◌≡◌, ◌∙◌, ap, get_or, definitions, mentions, type_at}
 use Rattle.dexruns.proofs.Digested.{line_more, name_in}
 use Rattle.dexruns.proofs.digesting.digest_lines.Goals as goal
 
 pub class_name-name-requires : goal.class_name-name-requires
-class_name-name-requires c =
-    rw c.name.ensures (name_in (mentions (definitions c.args.program.now)) c.classes-classes.result.now c.loop-i.i c.index-classes-i.result c.classes-classes.ensures.known (omega (arith, c.loop-i-test.true)) c.index-classes-i.is)
+class_name-name-requires c = rw c.name.ensures (name_in (mentions (definitions c.args.program.now)) c.classes-classes.result.now c.loop-i.i c.index-classes-i.result c.classes-classes.ensures.known (omega (arith, c.loop-i-test.true)) c.index-classes-i.is)
 
 pub loop-i-preserved : goal.loop-i-preserved
 loop-i-preserved c =

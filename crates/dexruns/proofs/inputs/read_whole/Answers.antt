@@ -1,4 +1,4 @@
-use Rattle.dexruns.proofs.Common.{◌≡◌, ◌≤◌, ◌∙◌, ap, inl, inr, arith, take, length, length-take-le, ℕ}
+use Rattle.dexruns.proofs.Common.{◌≡◌, ◌∙◌, ap, inl, inr, arith, take, length, length-take-le, ℕ}
 use Rattle.std.specs.Global.{Vec}
 use Rattle.dexruns.proofs.Pieces.{read_to_end, joined_more}
 use Rattle.dexruns.proofs.inputs.read_whole.Goals as goal

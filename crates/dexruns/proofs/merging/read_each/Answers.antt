@@ -1,4 +1,4 @@
-use Rattle.dexruns.proofs.Common.{arith, ◌≡◌, ◌<◌, ◌+◌, ◌∙◌, refl, subst, false, length, drop-set-lt, All-set, drop_more_same, err_from_is_err_and, IsReadAs, bytes_read, IsReadNoFurther, IsReadFrom}
+use Rattle.dexruns.proofs.Common.{arith, ◌≡◌, ◌<◌, ◌+◌, ◌∙◌, refl, subst, false, drop-set-lt, All-set, drop_more_same, err_from_is_err_and, IsReadAs, bytes_read, IsReadNoFurther, IsReadFrom}
 use Rattle.dexruns.proofs.Checked.{same_head, none_moved, moved_now}
 use Rattle.dexruns.proofs.Merged.{held_first, read_more}
 use Rattle.dexruns.proofs.Unread.{each_unread, each_refused, devices_unread, devices_refused}

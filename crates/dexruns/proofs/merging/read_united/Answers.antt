@@ -11,14 +11,12 @@ returns-then-not-branch-clause-no_further g c = none_moved _ _ _ c.args.inputs.n
 
 pub returns-clause-fault : goal.returns-clause-fault
 returns-clause-fault g c =
-    let is = rw c.if-not-branch.false at c.in_ok-is_plan_for.ensures in
     IfErr-weaker c.united.result (IsUnionFault c.args.caps.now c.in_ok-programs.programs.items (plan_of c.args.plan.now)) _
-    (λ f h. fault_of_merging g.R.Source.reports g.R.Source.to_come c.args.inputs.now c.in_ok-programs.programs.items c.args.caps.now (plan_of c.args.plan.now) f is c.in_ok-programs.ensures.read h)
+    (λ f h. fault_of_merging g.R.Source.reports g.R.Source.to_come c.args.inputs.now c.in_ok-programs.programs.items c.args.caps.now (plan_of c.args.plan.now) f (rw c.if-not-branch.false at c.in_ok-is_plan_for.ensures) c.in_ok-programs.ensures.read h)
     c.united.ensures.fault
 
 pub returns-clause-uncalled : goal.returns-clause-uncalled
 returns-clause-uncalled g c =
-    let is = rw c.if-not-branch.false at c.in_ok-is_plan_for.ensures in
     IfErr-weaker c.united.result (IsUnionFault c.args.caps.now c.in_ok-programs.programs.items (plan_of c.args.plan.now)) _
-    (λ f h. uncalled_by_merging (IsReadFrom g.R.Source.reports g.R.Source.to_come) c.args.inputs.now c.read_each.new.inputs c.in_ok-programs.programs.items c.args.caps.now (plan_of c.args.plan.now) f is c.in_ok-programs.ensures.read h)
+    (λ f h. uncalled_by_merging (IsReadFrom g.R.Source.reports g.R.Source.to_come) c.args.inputs.now c.read_each.new.inputs c.in_ok-programs.programs.items c.args.caps.now (plan_of c.args.plan.now) f (rw c.if-not-branch.false at c.in_ok-is_plan_for.ensures) c.in_ok-programs.ensures.read h)
     c.united.ensures.fault

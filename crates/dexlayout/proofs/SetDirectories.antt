@@ -1,5 +1,5 @@
 -- The directories of classes: by numbers, they are the items of the file.
-use Rattle.dexlayout.proofs.Common.{◌≡◌, ℕ, ◌+◌, ◌*◌, ◌<◌, ◌≤◌, Ordering, ◌⊎◌, inl, inr, List, [], ◌∷◌, ◌++◌, length, get_or, map, take, drop, refl, sym, ap, ◌∙◌, arith, Some, None, All, slice_index, ◌==◌, flat_map, zip, option_map, cases_eq, ne_eqb, eq-eqb, length-append, length-map, length-take, length-drop, drop-drop, get_or-drop, All-head, All-tail, chunks, zip_with, in_order, add_in_order, Definition, MethodDef, declared_fields, declared_methods, Mentions, field_of, method_of, SetOffsets, pair_cmp, pairs, directory_bytes, directory_uses, end, uses_offsets, AnnotationsDirectories, field_index, method_index, set_offsets, ref_list_section, directory_section, length-chunks, length-set_offsets, RanksAreNumbers, NumberedMembers, fields_of, methods_of, method_in, count_placed, numbered_directory_bytes, NumberedClass, definition_of, IsKnownClass, take_at, drop_at, EncodedItems, SetPlaces, ordered_of, AreDirectories, AreSets, AreWritable, encode_use, encode_uses, no_items_from, directory_item, directory_items, sets_of_method, sets_of_class, parts_of_class, parts_of_classes, if◌then◌else◌}
+use Rattle.dexlayout.proofs.Common.{◌≡◌, ℕ, ◌+◌, ◌*◌, ◌<◌, ◌≤◌, Ordering, ◌⊎◌, inl, inr, List, [], ◌∷◌, length, get_or, map, take, drop, refl, sym, ap, ◌∙◌, arith, Some, None, All, slice_index, ◌==◌, flat_map, zip, option_map, cases_eq, ne_eqb, eq-eqb, length-append, length-map, length-take, length-drop, drop-drop, get_or-drop, All-head, All-tail, chunks, zip_with, in_order, add_in_order, MethodDef, declared_fields, declared_methods, Mentions, field_of, method_of, SetOffsets, pair_cmp, pairs, directory_bytes, directory_uses, end, uses_offsets, AnnotationsDirectories, field_index, method_index, set_offsets, ref_list_section, directory_section, length-chunks, length-set_offsets, RanksAreNumbers, NumberedMembers, fields_of, methods_of, method_in, count_placed, numbered_directory_bytes, NumberedClass, definition_of, IsKnownClass, take_at, drop_at, EncodedItems, SetPlaces, ordered_of, AreDirectories, AreSets, AreWritable, encode_use, encode_uses, no_items_from, directory_item, directory_items, sets_of_method, sets_of_class, parts_of_class, parts_of_classes, if◌then◌else◌}
 use Rattle.std.specs.FinMap.Entries.{by_order}
 use Rattle.std.specs.declared.cmp.Ordering.TheVariants.{Less, Equal, Greater}
 use Rattle.dexspec.proofs.layout.Uses as uses

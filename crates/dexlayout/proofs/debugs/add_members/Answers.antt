@@ -1,4 +1,4 @@
-use Rattle.dexlayout.proofs.Common.{arith, length, take, subst, sym, ◌<◌, ◌++◌, methods_of, take_all, same_bytes, HasUses, debug_encoding, debug_encodings}
+use Rattle.dexlayout.proofs.Common.{arith, take, subst, sym, ◌++◌, methods_of, take_all, same_bytes, HasUses, debug_encoding, debug_encodings}
 use Rattle.dexlayout.proofs.SharedUses.{uses_next}
 use Rattle.dexlayout.proofs.debugs.add_members.Goals as goal
 

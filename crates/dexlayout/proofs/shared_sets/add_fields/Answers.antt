@@ -1,4 +1,4 @@
-use Rattle.dexlayout.proofs.Common.{◌++◌, ◌<◌, length, take, sym, subst, arith, NumberedField, IsKnownField, SharesSets, set_use, field_uses}
+use Rattle.dexlayout.proofs.Common.{◌++◌, take, sym, subst, arith, NumberedField, IsKnownField, SharesSets, set_use, field_uses}
 use Rattle.dexlayout.proofs.SharedUses.{uses_next}
 use Rattle.dexlayout.proofs.shared_sets.add_fields.Goals as goal
 

@@ -1,4 +1,4 @@
-use Rattle.dexlayout.proofs.Common.{◌++◌, ◌<◌, [], length, map, take, get_or, subst, arith, get_or_default, SharesSets, set_use}
+use Rattle.dexlayout.proofs.Common.{◌++◌, [], map, take, get_or, subst, arith, get_or_default, SharesSets, set_use}
 use Rattle.dexlayout.proofs.SharedUses.{uses_next}
 use Rattle.dexlayout.proofs.shared_sets.add_sets.Goals as goal
 

@@ -1,4 +1,4 @@
-use Rattle.dexlayout.proofs.Common.{[], ◌∷◌, ◌++◌, ◌<◌, length, get_or, map, take, subst, sym, ap, ◌∙◌, arith, get_or_default, unless_empty, type_at, AreTypes, SharesLists}
+use Rattle.dexlayout.proofs.Common.{[], ◌∷◌, ◌++◌, get_or, map, take, subst, sym, ap, ◌∙◌, arith, get_or_default, unless_empty, type_at, AreTypes, SharesLists}
 use Rattle.dexspec.specs.Symbols.{Proto}
 use Rattle.dexpool.proofs.Ranking.{listed_at, listed_within}
 use Rattle.dexlayout.proofs.SharedUses.{uses_next}

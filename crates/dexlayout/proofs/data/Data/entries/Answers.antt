@@ -1,6 +1,5 @@
-use Rattle.dexlayout.proofs.Common.{◌≡◌, ℕ, List, length, arith, ap, ◌∙◌, round_up, Section, TypeLists, AnnotationItems, EncodedArrayItems, StringDataItems, DebugInfoItems, CodeItems, ClassDataItems, AnnotationSets, AnnotationSetRefLists, AnnotationsDirectories, Mentions, NumberedClass, ItemPlaces, EncodedItems, AreWritable, ordered_of, AreData}
+use Rattle.dexlayout.proofs.Common.{◌≡◌, ℕ, List, length, arith, ap, ◌∙◌, round_up, Section, TypeLists, AnnotationItems, EncodedArrayItems, StringDataItems, DebugInfoItems, CodeItems, ClassDataItems, AnnotationSets, AnnotationSetRefLists, AnnotationsDirectories, Mentions, NumberedClass, ItemPlaces, EncodedItems, AreWritable, ordered_of}
 use Rattle.dexlayout.specs.{count_placed}
-use Rattle.dexlayout.specs.declared.data.Data.{Data}
 use Rattle.dexlayout.proofs.Ends.{EndInFile, end_in_file}
 use Rattle.dexlayout.proofs.OwnCounts.{counted}
 use Rattle.dexlayout.proofs.OwnFile.{ten_same, named_parts_are}

@@ -1,5 +1,5 @@
 -- The entries of a map, one by one.
-use Rattle.dexhead.proofs.Common.{◌≡◌, ◌≢◌, ◌⊎◌, inl, inr, ◌↔◌, ℕ, zero, suc, ◌+◌, ◌-◌, ◌*◌, ◌<◌, ◌≤◌, List, [], ◌∷◌, ◌++◌, length, map, take, get_or, Bool, false, and_from, and_parts, IsTrue, All, refl, subst, sym, ap, ◌∙◌, arith, Contains, take_more, take_all, map-append, length-map, length-take-le, get_or-map, get_or-take, All-more, All-map, All-get_or, All-contains, Contains-get_or, ushort_at, uint_at, table_size, StringIds, TypeIds, ProtoIds, FieldIds, MethodIds, ClassDefs, MapEntry, Section, HeaderItem, TableOf, MapList, TypeLists, AnnotationSetRefLists, AnnotationSets, ClassDataItems, CodeItems, StringDataItems, DebugInfoItems, AnnotationItems, EncodedArrayItems, AnnotationsDirectories, type_code, entries_at, IsKnown, IsPlaced, HasTable, HasMap, map_entries, entries, entry_of, IsCode, IsNext, AreInOrder, BeginsWithHeader, IsThere, HaveTables, AreRight, IsInPlace, range_with_len, get_or-range_with_len}
+use Rattle.dexhead.proofs.Common.{◌≡◌, ◌≢◌, ◌⊎◌, inl, inr, ◌↔◌, ℕ, zero, suc, ◌+◌, ◌-◌, ◌*◌, ◌<◌, ◌≤◌, List, [], ◌∷◌, ◌++◌, length, map, take, get_or, Bool, false, and_from, and_parts, IsTrue, All, refl, subst, sym, ap, ◌∙◌, arith, Contains, take_more, take_all, map-append, length-map, length-take-le, get_or-map, get_or-take, All-more, All-map, All-get_or, Contains-get_or, ushort_at, uint_at, table_size, StringIds, TypeIds, ProtoIds, FieldIds, MethodIds, ClassDefs, MapEntry, Section, HeaderItem, TableOf, MapList, TypeLists, AnnotationSetRefLists, AnnotationSets, ClassDataItems, CodeItems, StringDataItems, DebugInfoItems, AnnotationItems, EncodedArrayItems, AnnotationsDirectories, type_code, entries_at, IsKnown, IsPlaced, HasTable, HasMap, map_entries, entries, entry_of, IsCode, IsNext, AreInOrder, BeginsWithHeader, IsThere, HaveTables, AreRight, IsInPlace, range_with_len, get_or-range_with_len}
 use Rattle.std.specs.Ordering.{nat_cmp, is_lt}
 use Rattle.std.proofs.lemmas.List.Quantifiers.{all_pairs_push}
 use Rattle.std.proofs.lemmas.Bool.Decides.{nat_tests}

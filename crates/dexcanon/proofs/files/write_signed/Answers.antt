@@ -1,4 +1,4 @@
-use Rattle.dexcanon.proofs.Common.{◌++◌, ◌≤◌, drop, refl, ap, subst, ◌∙◌, arith, vec_capacity, head_bytes, after_header_of}
+use Rattle.dexcanon.proofs.Common.{◌++◌, drop, refl, ap, subst, ◌∙◌, arith, head_bytes, after_header_of}
 use Rattle.dexcanon.proofs.Finished.{sure}
 use Rattle.dexcanon.proofs.files.write_signed.Goals as goal
 

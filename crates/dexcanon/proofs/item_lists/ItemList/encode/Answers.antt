@@ -1,4 +1,4 @@
-use Rattle.dexcanon.proofs.Common.{◌<◌, ◌+◌, [], length, drop, get_or, ap, arith, concat, drop_all, completes_none, completes_more, completes_all}
+use Rattle.dexcanon.proofs.Common.{◌+◌, [], drop, get_or, ap, arith, concat, drop_all, completes_none, completes_more, completes_all}
 use Rattle.dexcanon.proofs.Rows.{next_item}
 use Rattle.dexcanon.proofs.item_lists.ItemList.encode.Goals as goal
 

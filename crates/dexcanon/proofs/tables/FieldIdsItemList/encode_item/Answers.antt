@@ -1,4 +1,4 @@
-use Rattle.dexcanon.proofs.Common.{◌<◌, length, sym, subst, arith, length-map, field_row_bytes, ranks_are_numbers}
+use Rattle.dexcanon.proofs.Common.{sym, subst, arith, length-map, field_row_bytes, ranks_are_numbers}
 use Rattle.dexcanon.proofs.Rows.{field_row_at, no_field}
 use Rattle.dexcanon.proofs.tables.FieldIdsItemList.encode_item.Goals as goal
 

@@ -1,4 +1,4 @@
-use Rattle.dexcanon.proofs.Common.{◌<◌, [], length, sym, subst, arith, length-map, ranks_are_numbers}
+use Rattle.dexcanon.proofs.Common.{[], sym, subst, arith, length-map, ranks_are_numbers}
 use Rattle.dexcanon.proofs.Rows.{type_row, type_row_at}
 use Rattle.dexcanon.proofs.WholeFile.{texts_few}
 use Rattle.dexcanon.proofs.tables.TypeIdsItemList.encode_item.Goals as goal

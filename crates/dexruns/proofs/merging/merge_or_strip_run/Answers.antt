@@ -1,6 +1,6 @@
 use Rattle.dexruns.proofs.Common.{IfErr-weaker, on_ok_weaker, canonical, plan_of, IsAppended, IsOfWriter, IsWriteFault, kept}
 use Rattle.dexruns.proofs.Merged.{merged_by_writing, fault_of_writing, left_by_writing, uncalled_by_writing, devices_of_writing}
-use Rattle.dexruns.proofs.Checked.{none_moved}
+use Rattle.dexruns.proofs.Moved.{none_moved}
 use Rattle.dexruns.proofs.merging.merge_or_strip_run.Goals as goal
 
 pub returns-in_err-files-clause-no_further : goal.returns-in_err-files-clause-no_further

@@ -1,6 +1,6 @@
 use Rattle.dexruns.proofs.Common.{IfErr-weaker, plan_of, IsReadFrom, IsUnionFault}
 use Rattle.dexruns.proofs.Merged.{fault_of_merging, uncalled_by_merging}
-use Rattle.dexruns.proofs.Checked.{none_moved}
+use Rattle.dexruns.proofs.Moved.{none_moved}
 use Rattle.dexruns.proofs.merging.read_united.Goals as goal
 
 pub returns-in_err-is_plan_for-clause-no_further : goal.returns-in_err-is_plan_for-clause-no_further

@@ -149,8 +149,7 @@ one_of_each m D cs marks consistent h = record {
     λ has.
         let x = h.names d has in
         let there : Contains (map (definition_of m) cs) (definition_of m x.0) = Contains-map (definition_of m) cs x.0 x.1 in
-        let body : (definition_of m x.0).1 ≡ d.1 = consistent d.0 (definition_of m x.0).1 d.1 (subst (λ (n : Text). Contains D (n, (definition_of m x.0).1)) x.2 (h.within (definition_of m x.0) there)) has in
-        subst (Contains (map (definition_of m) cs)) (λ i. (x.2 i, body i)) there,
+        subst (Contains (map (definition_of m) cs)) (λ i. (x.2 i, (consistent d.0 (definition_of m x.0).1 d.1 (subst (λ (n : Text). Contains D (n, (definition_of m x.0).1)) x.2 (h.within (definition_of m x.0) there)) has) i)) there,
   );
   distinct = h.distinct;
 }
@@ -228,11 +227,9 @@ module _ (owned files : List Collection) (m : Mentions) (remaps : List Maps) (j 
 -- the part at a place
 pub part_is : (m : Mentions) (parts : List Collection) (remaps : List Maps) (i : ℕ) (K : Collection) (r : Maps) → ArePartsOf m parts remaps → i < length parts → K ≡ get_or parts i K → r ≡ get_or remaps i r → IsPartOf m K r
 part_is m parts remaps i K r h lt at to =
-    let there : IsPartOf m (get_or parts i K) (get_or remaps i r) = zip_at (IsPartOf m) parts remaps i K r h.each lt in
-    subst (λ (L : Collection). IsPartOf m L r) (sym at) (subst (IsPartOf m (get_or parts i K)) (sym to) there)
+    subst (λ (L : Collection). IsPartOf m L r) (sym at) (subst (IsPartOf m (get_or parts i K)) (sym to) (zip_at (IsPartOf m) parts remaps i K r h.each lt))
 
 -- the definitions of one part more
 pub more_parts : (m : Mentions) (D : List Definition) (parts : List Collection) (i : ℕ) (K : Collection) (cs : List NumberedClass) (marks : List Bool) → i < length parts → K ≡ get_or parts i K → AreCollected m ((D ++ flat_map definitions (take i parts)) ++ definitions K) cs marks → AreCollected m (D ++ flat_map definitions (take (i + 1) parts)) cs marks
 more_parts m D parts i K cs marks lt at h =
-    let more : flat_map definitions (take (i + 1) parts) ≡ flat_map definitions (take i parts) ++ definitions K = parts_more parts i K lt ∙ ap (λ (L : Collection). flat_map definitions (take i parts) ++ definitions L) (sym at) in
-    subst (λ (l : List Definition). AreCollected m l cs marks) (append_assoc D (flat_map definitions (take i parts)) (definitions K) ∙ ap (λ (l : List Definition). D ++ l) (sym more)) h
+    subst (λ (l : List Definition). AreCollected m l cs marks) (append_assoc D (flat_map definitions (take i parts)) (definitions K) ∙ ap (λ (l : List Definition). D ++ l) (sym (parts_more parts i K lt ∙ ap (λ (L : Collection). flat_map definitions (take i parts) ++ definitions L) (sym at)))) h

@@ -26,14 +26,14 @@ pub use Rattle.dexmembers.specs.Fitting.{code_short_strings, members_short_strin
 pub use Rattle.dexmembers.specs.Numbered.{AreKnownMembers, IsKnownMethod, NumberedMembers, NumberedMethod, method_in, methods_of}
 pub use Rattle.dexmembers.specs.Renumbering.{MembersHavePlaces, renumbered_members, renumbered_method}
 pub use Rattle.dexmembers.specs.Uses.{members_uses}
-pub use Rattle.dexorder.specs.Depths.{AreDepths, HasNone, IsDepthOrNone}
+pub use Rattle.dexorder.specs.Depths.{AreDepths, IsDepthOrNone}
 pub use Rattle.dexorder.specs.Parents.{AllHaveDepths, AreByType, IsFirstWithout, IsHierarchyOf}
 pub use Rattle.dexpool.proofs.Parts.{all_back}
 pub use Rattle.dexpool.specs.Laws.{MapsAll}
 pub use Rattle.dexpool.specs.Numberings.{AllMapTo, AreIn, AreRising, IsAt, Maps, image, image_of, union_of}
 pub use Rattle.dexpool.specs.Orderly.{KeepOrder}
 pub use Rattle.dexpool.specs.Uses.{IsMappedUse}
-pub use Rattle.dexspec.proofs.lists.InOrder.{Rises-from_rises, Rises-places, asymmetric, irreflexive, rank-get_or, rises-from_Rises}
+pub use Rattle.dexspec.proofs.lists.InOrder.{Rises-from_rises, rank-get_or, rises-from_Rises}
 pub use Rattle.dexspec.proofs.lists.Members.{Contains-cons_cases, Contains-first, Contains-flat_map, Contains-flat_map_source, Contains-later, Contains-nil, list_any-member, list_any-source, AreAmong}
 pub use Rattle.dexspec.proofs.merge.Absorption.{HasShortString-within, IsCause-within, IsGood-within}
 pub use Rattle.dexspec.proofs.merge.Conflicts.{consistent-apart}

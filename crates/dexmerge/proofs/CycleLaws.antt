@@ -1,8 +1,7 @@
 -- The depths of classes by name, and the first class without one, which has the least name that has none.
-use Rattle.dexmerge.proofs.Common.{◌≡◌, ℕ, ◌+◌, ◌<◌, true, List, [], length, get_or, map, refl, sym, ap, ◌∙◌, subst, arith, inl, inr, Option, Some, None, Less, All, IsSome, slice_set, Contains, cases_order, cases_lt, length-map, get_or_default, get_or-set_same, get_or-set_other, Text, text_cmp, same_text, Definition, AreSame, IsAcyclic, depth, is_defined, Mentions, IsCycle, list_any-member, depth-same, Rises-from_rises, Rises-places, irreflexive, asymmetric, text_total, AreDepths, IsDepthOrNone, HasNone, AllHaveDepths, IsFirstWithout, NumberedClass, type_at, definition_of, no_class, name_number, IsHierarchy, AreDepthsByName, false≢true}
+use Rattle.dexmerge.proofs.Common.{◌≡◌, ℕ, ◌+◌, ◌<◌, true, List, length, get_or, map, refl, sym, ap, ◌∙◌, subst, arith, inl, inr, Option, Some, None, Less, All, IsSome, slice_set, Contains, cases_order, cases_lt, length-map, get_or_default, get_or-set_same, get_or-set_other, Text, text_cmp, same_text, Definition, AreSame, IsAcyclic, depth, is_defined, Mentions, IsCycle, list_any-member, depth-same, AreDepths, IsDepthOrNone, AllHaveDepths, IsFirstWithout, NumberedClass, type_at, definition_of, no_class, name_number, IsHierarchy, AreDepthsByName, false≢true}
 use Rattle.dexspec.proofs.lists.Mapped.{Contains-map_source}
-use Rattle.dexorder.specs.Depths.{AreWithin}
-use Rattle.dexorder.specs.Definitions.{AreClassesOf, name_at}
+use Rattle.dexorder.specs.Definitions.{AreClassesOf}
 use Rattle.dexorder.proofs.DefinitionDepths.{no_cycle, is_cycle, cycle_class, same_from_equal}
 use Rattle.dexorder.proofs.DefinitionOrder.{own_depths}
 use Rattle.dexclass.proofs.Classed.{name_is, one_number}
@@ -45,8 +44,7 @@ module _ (m : Mentions) (cs : List NumberedClass) (kept : AreKept m cs) where
     | inl small ↦ get_or-set_other old name (name_number cs k) x None (λ same. absurd (omega (arith, kept.rise k i small lt, same, is))) ∙ before k small
     | inr large ↦
         let at : i ≡ k = omega (arith, large, less) in
-        let here : name_number cs k ≡ name = ap (name_number cs) (sym at) ∙ sym is in
-        ap (λ (t : ℕ). get_or (slice_set old name x) t None) here ∙ get_or-set_same old name x None (omega (arith, kept.named.names i lt, count, is)) ∙ e ∙ ap (λ (n : ℕ). get_or depths n None) at
+        ap (λ (t : ℕ). get_or (slice_set old name x) t None) (ap (name_number cs) (sym at) ∙ sym is) ∙ get_or-set_same old name x None (omega (arith, kept.named.names i lt, count, is)) ∙ e ∙ ap (λ (n : ℕ). get_or depths n None) at
   ]
 
   -- the depths of all classes are there by name
@@ -57,22 +55,16 @@ module _ (m : Mentions) (cs : List NumberedClass) (kept : AreKept m cs) where
         let s = Contains-map_source (definition_of m) cs d has in
         let i : ℕ = s.1.0 in
         let few : i < length cs = s.1.1 in
-        let at : get_or cs i no_class ≡ s.0 = get_or_default cs i no_class s.0 few ∙ s.1.2 in
-        let name : type_at m (name_number cs i) ≡ d.0 = ap (λ (c : NumberedClass). type_at m c.name) at ∙ ap (λ (x : Definition). x.0) s.2 in
-        let number : name_number cs i ≡ t = one_number m cs kept.named (name_number cs i) t (kept.named.names i few) lt (name ∙ sym e) in
-        let own : get_or depths i None ≡ Some (depth D (name_at D i)) = h.are.each i (omega (arith, few, length-map cs (definition_of m))) in
-        ap (λ (n : ℕ). get_or by_name n None) (sym number) ∙ all i few ∙ own ∙ ap (λ (x : Text). Some (depth D x)) (name_is m cs kept.named i few ∙ name);
+        let name : type_at m (name_number cs i) ≡ d.0 = ap (λ (c : NumberedClass). type_at m c.name) (get_or_default cs i no_class s.0 few ∙ s.1.2) ∙ ap (λ (x : Definition). x.0) s.2 in
+        ap (λ (n : ℕ). get_or by_name n None) (sym (one_number m cs kept.named (name_number cs i) t (kept.named.names i few) lt (name ∙ sym e))) ∙ all i few ∙ (h.are.each i (omega (arith, few, length-map cs (definition_of m)))) ∙ ap (λ (x : Text). Some (depth D x)) (name_is m cs kept.named i few ∙ name);
   }
 
   module _ (H : List (List ℕ)) (h : IsHierarchy cs H) where
-    numbered : AreClassesOf D H
+    pub numbered : AreClassesOf D H
     numbered = are_classes m cs kept.named H h
 
     count : length H ≡ length cs
     count = numbered.count ∙ length-map cs (definition_of m)
-
-    pub parents_within : AreWithin H
-    parents_within = numbered.within
 
     module _ (depths : List (Option ℕ)) (a : AreDepths H depths) where
       -- the first class without a depth
@@ -80,16 +72,13 @@ module _ (m : Mentions) (cs : List NumberedClass) (kept : AreKept m cs) where
       first_is i f =
           let few : i < length cs = omega (arith, f.within, a.count, count) in
           let inside : i < length H = omega (arith, f.within, a.count) in
-          let none : HasNone H i = subst (IsDepthOrNone H i) f.none (a.is_depth i inside) in
           record {
             within = few;
-            is = subst (IsCycle D) (name_is m cs kept.named i few) (is_cycle D H numbered i inside none);
+            is = subst (IsCycle D) (name_is m cs kept.named i few) (is_cycle D H numbered i inside (subst (IsDepthOrNone H i) f.none (a.is_depth i inside)));
             least = λ name x less.
                 let s = cycle_class D H numbered depths name a x in
                 let own : s.0 < length cs = omega (arith, s.1, count) in
-                let named : name ≡ type_at m (name_number cs s.0) = sym s.2 ∙ name_is m cs kept.named s.0 own in
-                let first : s.0 < i = before_of_less i s.0 few own (subst (λ (t : Text). text_cmp t (type_at m (name_number cs i)) ≡ Less) named less) in
-                false≢true (subst IsSome s.3 (f.before s.0 first));
+                false≢true (subst IsSome s.3 (f.before s.0 (before_of_less i s.0 few own (subst (λ (t : Text). text_cmp t (type_at m (name_number cs i)) ≡ Less) (sym s.2 ∙ name_is m cs kept.named s.0 own) less))));
           }
 
       -- where each class has a depth, the depths are those of the definitions

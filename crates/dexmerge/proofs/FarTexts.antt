@@ -3,7 +3,7 @@ use Rattle.dexmerge.proofs.Common.{◌≡◌, ℕ, ◌<◌, ◌≤◌, Bool, tru
 use Rattle.dexcode.proofs.CodePlaces.{images_of_uses}
 use Rattle.dexmembers.proofs.Images.{MethodHasImages, members_images}
 use Rattle.dexmerge.specs.internal.Amounts.{short_numbers, has_from}
-use Rattle.dexmerge.proofs.ShortStrings.{remapped_short, maps_short, option_source, short_denotes_text}
+use Rattle.dexmerge.proofs.ShortStrings.{short_follows, option_source, short_denotes_text}
 
 -- ---- by cases
 
@@ -13,11 +13,6 @@ none_far cap ns below = false_from_ne_true (has_from cap ns) (λ e.
     let s = list_any-source (λ (n : ℕ). not (nat_lt n cap)) ns e in
     omega (arith, below s.0 s.1, ltb-false s.0 cap (not-true (nat_lt s.0 cap) s.2)))
 
--- a number that is not below the cap
-pub one_far : (cap : ℕ) (ns : List ℕ) (n : ℕ) → Contains ns n → nat_lt n cap ≡ false → has_from cap ns ≡ true
-one_far cap ns n has far = list_any-member (λ (k : ℕ). not (nat_lt k cap)) ns n has (ap not far)
-
--- at least is not less
 pub at_least : (a b : ℕ) → leb a b ≡ not (nat_lt b a)
 at_least a b = elim (cases_lt b a) [
   | inl less ↦ lt-leb a b less ∙ ap not (sym (lt-ltb b a less))
@@ -40,13 +35,12 @@ module _ (r : Maps) (c : NumberedClass) (remapped : IsMappedClass r c) where
       let own : MethodHasImages r y = All-contains (MethodHasImages r) (methods_of c.members) y (All-append (MethodHasImages r) c.members.direct_methods c.members.virtual_methods images.direct_methods_mapped images.virtual_methods_mapped) method.1 in
       let code = Contains-flat_map_source code_short_strings (option_to_list y.code) n method.2 in
       let k : NumberedItem = code.0 in
-      let there : HasImages r k = subst (λ (o : Option NumberedItem). IfSome o (HasImages r)) (option_source y.code k code.1) own.code_mapped in
-      shorts_remapped r k.body.pieces n there.pieces_have code.2
+      shorts_remapped r k.body.pieces n (subst (λ (o : Option NumberedItem). IfSome o (HasImages r)) (option_source y.code k code.1) own.code_mapped).pieces_have code.2
 
   -- no text is named
   pub none_named : (cap : ℕ) → IsGreatest (members_short_strings c.members) None → has_from cap (members_short_strings (renumbered_members r c.members)) ≡ false
   none_named cap none = none_far cap (members_short_strings (renumbered_members r c.members)) (λ j has.
-      let s = remapped_short r c.members j has in absurd (Contains-nil s.0 (subst (λ (l : List ℕ). Contains l s.0) none s.1)))
+      let s = (short_follows r c.members).0 j has in absurd (Contains-nil s.0 (subst (λ (l : List ℕ). Contains l s.0) none s.1)))
 
   -- the greatest has no image
   pub none_remapped : (g : ℕ) → IsGreatest (members_short_strings c.members) (Some g) → image r.texts g ≡ None → ⊥
@@ -55,17 +49,16 @@ module _ (r : Maps) (c : NumberedClass) (remapped : IsMappedClass r c) where
   -- no image of another is greater than the image of the greatest
   no_greater : (g k j : ℕ) → KeepOrder r → IsGreatest (members_short_strings c.members) (Some g) → image r.texts g ≡ Some k → Contains (members_short_strings (renumbered_members r c.members)) j → j ≤ k
   no_greater g k j order is to has =
-      let s = remapped_short r c.members j has in
-      let le : s.0 ≤ g = All-contains (λ n. n ≤ g) (members_short_strings c.members) s.0 is.1 s.1 in
+      let s = (short_follows r c.members).0 j has in
       elim (cases_lt s.0 g) [
         | inl less ↦ (let lt = order.texts_keep s.0 g j k less s.2 to in omega (arith, lt))
-        | inr ge ↦ (let same : s.0 ≡ g = omega (arith, le, ge) in omega (arith, same_Some j k (sym s.2 ∙ ap (image r.texts) same ∙ to)))
+        | inr ge ↦ (let same : s.0 ≡ g = omega (arith, All-contains (λ n. n ≤ g) (members_short_strings c.members) s.0 is.1 s.1, ge) in omega (arith, same_Some j k (sym s.2 ∙ ap (image r.texts) same ∙ to)))
       ]
 
   -- the greatest decides
   by_greatest : (g k cap : ℕ) (b : Bool) → nat_lt k cap ≡ b → KeepOrder r → IsGreatest (members_short_strings c.members) (Some g) → image r.texts g ≡ Some k → has_from cap (members_short_strings (renumbered_members r c.members)) ≡ not b
   by_greatest g k cap true test order is to = none_far cap (members_short_strings (renumbered_members r c.members)) (λ j has. omega (arith, no_greater g k j order is to has, ltb-true k cap test))
-  by_greatest g k cap false test order is to = one_far cap (members_short_strings (renumbered_members r c.members)) k (maps_short r c.members g k is.0 to) test
+  by_greatest g k cap false test order is to = list_any-member (λ (n : ℕ). not (nat_lt n cap)) (members_short_strings (renumbered_members r c.members)) k ((short_follows r c.members).1 g k is.0 to) (ap not test)
 
   pub greatest_decides : (g k cap : ℕ) → KeepOrder r → IsGreatest (members_short_strings c.members) (Some g) → image r.texts g ≡ Some k → has_from cap (members_short_strings (renumbered_members r c.members)) ≡ not (nat_lt k cap)
   greatest_decides g k cap order is to = by_greatest g k cap (nat_lt k cap) refl order is to

@@ -5,7 +5,7 @@ use Rattle.dexspec.proofs.lists.Searches.{once_of}
 use Rattle.dexspec.proofs.size.SizeClasses.{mentions-cover}
 use Rattle.dexmerge.specs.internal.Collecting.{IsPartOf}
 use Rattle.dexmerge.proofs.PartMembers.{KeepMeaning, MapClasses, remapped_class}
-use Rattle.dexmerge.proofs.ShortStrings.{maps_short, short_denotes_text, rank_is}
+use Rattle.dexmerge.proofs.ShortStrings.{short_follows, short_denotes_text, rank_is}
 
 -- ---- the greatest of numbers
 
@@ -49,9 +49,8 @@ texts_weigh E = omega (arith, mentions-cover (mentions E))
 not_too_large : (m : Mentions) (D : List Definition) → m ≡ mentions D → IsGood greatest_caps D → IsNotTooLarge m
 not_too_large m D own good =
     let o = once_of definition_same_or_not D in
-    let same : mentions o.once ≡ mentions D = mentions-same o.once D o.only o.has in
     record {
-      texts_few = omega (arith, (good.fits.weight o.once o.distinct o.only), texts_weigh o.once, ap (λ (n : Mentions). length n.texts) (own ∙ sym same));
+      texts_few = omega (arith, good.fits.weight o.once o.distinct o.only, texts_weigh o.once, ap (λ (n : Mentions). length n.texts) (own ∙ sym (mentions-same o.once D o.only o.has)));
       types_few = omega (arith, good.fits.types, ap (λ (n : Mentions). length n.types) own);
       protos_few = omega (arith, good.fits.protos, ap (λ (n : Mentions). length n.protos) own);
       fields_few = omega (arith, good.fits.fields, ap (λ (n : Mentions). length n.fields) own);
@@ -81,14 +80,12 @@ module _ (maps_fit : MapsFit) (members_fit : MembersFit) (keep : KeepMeaning) (m
     short_below j in_class =
         let f = short_denotes_text m (to ∷ []) (All-cons (IsKnownClass m) to [] stays.known (All-nil (IsKnownClass m))) j
         (Contains-flat_map (λ (x : NumberedClass). members_short_strings x.members) (to ∷ []) to j (Contains-first to []) in_class) in
-        let low : rank text_cmp f.0 (mentions p.whole).texts < 65536 = p.good.fits.short_strings f.0 (HasShortString-within (map (definition_of m) (to ∷ [])) p.whole is_within f.0 f.2) in
-        let is : rank text_cmp f.0 (mentions p.whole).texts ≡ j = ap (λ (n : Mentions). rank text_cmp f.0 n.texts) (sym p.mentions_are) ∙ rank_is m p.rising j f.0 f.1 in
-        omega (arith, low, is)
+        omega (arith, p.good.fits.short_strings f.0 (HasShortString-within (map (definition_of m) (to ∷ [])) p.whole is_within f.0 f.2), ap (λ (n : Mentions). rank text_cmp f.0 n.texts) (sym p.mentions_are) ∙ rank_is m p.rising j f.0 f.1)
 
     -- no short string maps to a number that is too large
     maps_low : (g : Option ℕ) → IsGreatest (members_short_strings c.members) g → MapsShort r g
     maps_low None is = tt
-    maps_low (Some g) is = λ j there. short_below j (maps_short r c.members g j is.0 there)
+    maps_low (Some g) is = λ j there. short_below j ((short_follows r c.members).1 g j is.0 there)
 
     -- each number of the class has its place
     pub places_by : ClassHasPlaces r c

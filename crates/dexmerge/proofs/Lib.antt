@@ -5,7 +5,6 @@ pub mod PartMembers
 pub mod ConflictLaws
 pub mod CandidatePlaces
 pub mod CycleLaws
-pub mod Weighing
 pub mod UnionLaws
 pub mod CapLaws
 pub mod MergeLaws

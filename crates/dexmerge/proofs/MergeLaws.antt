@@ -1,5 +1,5 @@
 -- What the steps of a merge know.
-use Rattle.dexmerge.proofs.Common.{◌≡◌, ℕ, ◌<◌, List, [], ◌∷◌, length, get_or, map, sym, ap, ◌∙◌, subst, arith, Option, Some, None, All, MatchOption, ◌↔◌, AllZip, flat_map, length-map, get_or-map, Contains-get_or, AreDistinct, Definition, Collection, definitions, AreSame, Mentions, mentions, Caps, IsConsistent, IsGood, IsFirstCause, Conflict, Cycle, mentions-same, first_cause-same, IsGood-within, AreRising, AreIn, Maps, NumberedClass, type_at, definition_of, no_class, name_number, ArePlaces, AreDepthsByName, renumbered, MapsAllInto, IsPartClass, All-contains}
+use Rattle.dexmerge.proofs.Common.{◌≡◌, ℕ, ◌<◌, List, [], ◌∷◌, length, get_or, map, sym, ap, ◌∙◌, subst, arith, Option, Some, None, All, MatchOption, ◌↔◌, AllZip, flat_map, length-map, get_or-map, Contains-get_or, AreDistinct, Definition, Collection, definitions, AreSame, Mentions, mentions, Caps, IsGood, IsFirstCause, Conflict, Cycle, mentions-same, first_cause-same, IsGood-within, AreRising, AreIn, Maps, NumberedClass, type_at, definition_of, no_class, name_number, ArePlaces, AreDepthsByName, renumbered, MapsAllInto, IsPartClass, All-contains}
 use Rattle.dexmerge.specs.{IsOfCap, AreMembers, IsOfPart, IsEqualCopy, IsFirstConflict, kept_classes, class_of, classes_of, class_at}
 use Rattle.dexmerge.specs.declared.candidates.Candidate.{Candidate}
 use Rattle.dexmerge.specs.internal.Cycles.{AreKept, AreAcyclic, IsFirstCycle}
@@ -83,9 +83,6 @@ module _ (m : Mentions) (D : List Definition) (cs : List Candidate) (h : AreOnce
   pub once_apart : AreDistinct E
   once_apart = definitions_differ m h.copies.rising Ks h.copies.members.known h.kept.rise
 
-  one_each : IsConsistent E
-  one_each = consistent m h.copies.rising Ks h.copies.members.known h.kept.rise
-
   -- a cycle
   pub once_cycle : (caps : Caps) (i : ℕ) → IsFirstCycle m Ks i → IsFirstCause caps D (Cycle (type_at m (name_number Ks i)))
   once_cycle caps i f = first_cause-same caps E D (Cycle (type_at m (name_number Ks i))) same (cycle_reported m h.copies.rising Ks h.copies.members.known h.kept.rise caps i f)
@@ -96,7 +93,7 @@ module _ (m : Mentions) (D : List Definition) (cs : List Candidate) (h : AreOnce
   by_cap caps (Some n) distinguished = record { cap = distinguished.cap; number_is = distinguished.number_is; holds = first_cause-same caps E D _ same distinguished.holds }
 
   pub once_cap : (caps : Caps) (found : Option ℕ) → AreAcyclic m Ks → found ≡ first_over caps m Ks → MatchOption found (IsGood caps D) (IsOfCap (IsFirstCause caps D))
-  once_cap caps found acyclic is = by_cap caps found (found_cap caps m Ks once_apart once_own h.copies.rising h.copies.members.known one_each acyclic found is)
+  once_cap caps found acyclic is = by_cap caps found (found_cap caps m Ks once_apart once_own h.copies.rising h.copies.members.known (consistent m h.copies.rising Ks h.copies.members.known h.kept.rise) acyclic found is)
 
   -- the depths of the classes are those of all definitions
   pub once_depths : (by_name : List (Option ℕ)) → AreAcyclic m Ks → AreDepthsByName m E by_name → AreDepthsByName m D by_name

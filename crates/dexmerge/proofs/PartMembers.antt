@@ -84,5 +84,4 @@ part_at parts i d lt e = ap (λ (p : Bor Collection). p.now) e ∙ sym (get_or-m
 -- the maps at a place map the part there into the whole
 pub mapped_at : (m : Mentions) (Ks : List Collection) (remaps : List Maps) (i : ℕ) (K : Collection) (r : Maps) → i < length Ks → K ≡ get_or Ks i K → r ≡ get_or remaps i r → AllZip (λ part remap. MapsAllInto (mentions (definitions part)) m remap) Ks remaps → MapsAllInto (mentions (definitions K)) m r
 mapped_at m Ks remaps i K r lt at to zip =
-    let are_mapped : MapsAllInto (mentions (definitions (get_or Ks i K))) m (get_or remaps i r) = zip_at (λ part remap. MapsAllInto (mentions (definitions part)) m remap) Ks remaps i K r zip lt in
-    subst (λ (L : Collection). MapsAllInto (mentions (definitions L)) m r) (sym at) (subst (MapsAllInto (mentions (definitions (get_or Ks i K))) m) (sym to) are_mapped)
+    subst (λ (L : Collection). MapsAllInto (mentions (definitions L)) m r) (sym at) (subst (MapsAllInto (mentions (definitions (get_or Ks i K))) m) (sym to) (zip_at (λ part remap. MapsAllInto (mentions (definitions part)) m remap) Ks remaps i K r zip lt))

@@ -11,6 +11,9 @@ use Rattle.dexmerge.specs.{plans_of, plan_step, plan_of}
 pub node_is : (plan : Plan) (parts : Vec Plan Global) (items : List Plan) → plan ≡ variants.Node parts → items ≡ parts.items → plan_of plan ≡ merging.Node (plans_of (map plan_of items))
 node_is plan parts items e same = ap plan_of (e ∙ sym (variants.rolls-Node parts)) ∙ fold-roll-Plan merging.Plan plan_step (layers.Node parts) ∙ ap (λ (l : List Plan). merging.Node (plans_of (map plan_of l))) (sym same)
 
+pub node_with : (plan : Plan) (parts : Vec Plan Global) (items : List Plan) → plan ≡ variants.Node parts → items ≡ parts.items → plan_of plan ≡ merging.Node (plans_of (map plan_of items))
+node_with plan parts items e same = node_is plan parts e ∙ ap (λ (l : List Plan). merging.Node (plans_of (map plan_of l))) (sym same)
+
 -- a part is one of the parts
 pub part_member : (parts : List Plan) (i : ℕ) (d : Plan) → i < length parts → d ≡ get_or parts i d → Contains (map plan_of parts) (plan_of d)
 part_member parts i d lt e = Contains-map plan_of parts d (i, lt, sym e)

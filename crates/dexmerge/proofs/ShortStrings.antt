@@ -44,17 +44,14 @@ module _ (m : Mentions) (cs : List NumberedClass) (known : All (IsKnownClass m) 
   short_named_by s h =
       let class = Contains-map_source (definition_of m) cs h.definition h.member in
       let c : NumberedClass = class.0 in
-      let declared : Contains (map (method_in m) (methods_of c.members)) h.method = subst (λ (l : List MethodDef). Contains l h.method) (declared_are m c) (subst (λ (d : Definition). Contains (declared_methods d.1) h.method) (sym class.2) h.declared) in
-      let method = Contains-map_source (method_in m) (methods_of c.members) h.method declared in
+      let method = Contains-map_source (method_in m) (methods_of c.members) h.method (subst (λ (l : List MethodDef). Contains l h.method) (declared_are m c) (subst (λ (d : Definition). Contains (declared_methods d.1) h.method) (sym class.2) h.declared)) in
       let y : NumberedMethod = method.0 in
       let code = some_code m y.code h.code (ap (λ (x : MethodDef). x.code) method.2 ∙ h.has_code) in
       let k : NumberedItem = code.0 in
-      let own : IsKnownCode m k = known_code m y k (All-contains (IsKnownMethod m) (methods_of c.members) y (known_methods m c.members (All-contains (IsKnownClass m) cs c known class.1).members_known) method.1) code.1 in
       let named : HasConstString (code_in m k).pieces s = record { units = h.units; piece = subst (λ (x : Code). Contains x.pieces (symbolic.Instruction h.units (Some (TextSymbol s)))) (sym code.2) h.piece; short = h.short } in
-      let f = short_named m k.body.pieces (code_in m k).pieces s (code_encoded m k own).pieces_are named in
+      let f = short_named m k.body.pieces (code_in m k).pieces s (code_encoded m k (known_code m y k (All-contains (IsKnownMethod m) (methods_of c.members) y (known_methods m c.members (All-contains (IsKnownClass m) cs c known class.1).members_known) method.1) code.1)).pieces_are named in
       let in_method : Contains (method_short_strings y) f.0 = subst (λ (o : Option NumberedItem). Contains (flat_map code_short_strings (option_to_list o)) f.0) (sym code.1) (Contains-flat_map code_short_strings (k ∷ []) k f.0 (Contains-first k []) f.1) in
-      let in_class : Contains (members_short_strings c.members) f.0 = Contains-flat_map method_short_strings (methods_of c.members) y f.0 method.1 in_method in
-      (f.0, Contains-flat_map (λ (x : NumberedClass). members_short_strings x.members) cs c f.0 class.1 in_class, f.2)
+      (f.0, Contains-flat_map (λ (x : NumberedClass). members_short_strings x.members) cs c f.0 class.1 (Contains-flat_map method_short_strings (methods_of c.members) y f.0 method.1 in_method), f.2)
 
   -- and each number is that of such a text
   pub short_denotes_text : (n : ℕ) → Contains (short_numbers cs) n → (s : Text) × IsAt m.texts n s × HasShortString (map (definition_of m) cs) s
@@ -66,8 +63,7 @@ module _ (m : Mentions) (cs : List NumberedClass) (known : All (IsKnownClass m) 
       let code = Contains-flat_map_source code_short_strings (option_to_list y.code) n method.2 in
       let k : NumberedItem = code.0 in
       let is : y.code ≡ Some k = option_source y.code k code.1 in
-      let own : IsKnownCode m k = known_code m y k (All-contains (IsKnownMethod m) (methods_of c.members) y (known_methods m c.members (All-contains (IsKnownClass m) cs c known class.1).members_known) method.1) is in
-      let f = short_denoted m k.body.pieces (code_in m k).pieces n (code_encoded m k own).pieces_are code.2 in
+      let f = short_denoted m k.body.pieces (code_in m k).pieces n (code_encoded m k (known_code m y k (All-contains (IsKnownMethod m) (methods_of c.members) y (known_methods m c.members (All-contains (IsKnownClass m) cs c known class.1).members_known) method.1) is)).pieces_are code.2 in
       let named : HasConstString (code_in m k).pieces f.0 = f.2 in (
         f.0,
         f.1,
@@ -93,21 +89,6 @@ rank_is m rising n s h = ap (λ (t : Text). rank text_cmp t m.texts) (sym (h.is 
 -- the number of a text maps to another
 abbrev TextMapsTo : Maps → ℕ → ℕ → Type 0
 TextMapsTo r n j = image r.texts n ≡ Some j
-
-module _ {X : Type 0} (f : X → X) (s : X → List ℕ) (R : ℕ → ℕ → Type 0) where
-  -- each number of a remapped list is the image of one of the list
-  lifted : ((x : X) (j : ℕ) → Contains (s (f x)) j → (n : ℕ) × Contains (s x) n × R n j) → (xs : List X) (j : ℕ) → Contains (flat_map s (map f xs)) j → (n : ℕ) × Contains (flat_map s xs) n × R n j
-  lifted each xs j c =
-      let a = Contains-flat_map_source s (map f xs) j c in
-      let b = Contains-map_source f xs a.0 a.1 in
-      let e = each b.0 j (subst (λ (y : X). Contains (s y) j) (sym b.2) a.2) in
-      (e.0, Contains-flat_map s xs b.0 e.0 b.1 e.1, e.2)
-
-  -- and back
-  lowered : ((x : X) (n j : ℕ) → Contains (s x) n → R n j → Contains (s (f x)) j) → (xs : List X) (n j : ℕ) → Contains (flat_map s xs) n → R n j → Contains (flat_map s (map f xs)) j
-  lowered each xs n j c maps_to =
-      let a = Contains-flat_map_source s xs n c in
-      Contains-flat_map s (map f xs) (f a.0) j (Contains-map f xs a.0 a.1) (each a.0 n j a.2 maps_to)
 
 -- a number that is there under a condition
 one_if : (b : Bool) (n k : ℕ) → Contains (if b then n ∷ [] else []) k → (b ≡ true) × (n ≡ k)
@@ -138,36 +119,35 @@ module _ (r : Maps) where
   maps_piece : (p : NumberedPiece) (n j : ℕ) → Contains (short_string p) n → TextMapsTo r n j → Contains (short_string (renumbered_piece r p)) j
   maps_piece (Instruction us (Some i)) n j c maps_to =
       let is = one_if (is_short_string us) i n c in
-      let to : image_of r (kind_in us) i ≡ Some j = as_text r (kind_in us) (is_wide_index us) i is.0 ∙ ap (image r.texts) is.1 ∙ maps_to in
-      subst (λ (o : Option ℕ). Contains (short_string (Instruction us o)) j) (sym to) (has_if (is_short_string us) j is.0)
+      subst (λ (o : Option ℕ). Contains (short_string (Instruction us o)) j) (sym (as_text r (kind_in us) (is_wide_index us) i is.0 ∙ ap (image r.texts) is.1 ∙ maps_to)) (has_if (is_short_string us) j is.0)
   maps_piece x n j c maps_to = absurd (Contains-nil n c)
 
-  -- code
-  remapped_code : (k : NumberedItem) (j : ℕ) → Contains (code_short_strings (renumbered_item r k)) j → (n : ℕ) × Contains (code_short_strings k) n × TextMapsTo r n j
-  remapped_code k j c = lifted (renumbered_piece r) short_string (TextMapsTo r) remapped_piece k.body.pieces j c
+  -- the numbers of what is remapped are the images of its numbers
+  abbrev Follows : {X : Type 0} → (X → X) → (X → List ℕ) → Type 0
+  Follows {X} f s = (x : X) → ((j : ℕ) → Contains (s (f x)) j → (n : ℕ) × Contains (s x) n × TextMapsTo r n j) × ((n j : ℕ) → Contains (s x) n → TextMapsTo r n j → Contains (s (f x)) j)
 
-  maps_code : (k : NumberedItem) (n j : ℕ) → Contains (code_short_strings k) n → TextMapsTo r n j → Contains (code_short_strings (renumbered_item r k)) j
-  maps_code k n j c maps_to = lowered (renumbered_piece r) short_string (TextMapsTo r) maps_piece k.body.pieces n j c maps_to
+  all_follow : {X : Type 0} (f : X → X) (s : X → List ℕ) → Follows f s → Follows (map f) (flat_map s)
+  all_follow f s each xs = (
+    λ j c.
+        let a = Contains-flat_map_source s (map f xs) j c in
+        let b = Contains-map_source f xs a.0 a.1 in
+        let e = (each b.0).0 j (subst (λ y. Contains (s y) j) (sym b.2) a.2) in
+        (e.0, Contains-flat_map s xs b.0 e.0 b.1 e.1, e.2),
+    λ n j c maps_to.
+        let a = Contains-flat_map_source s xs n c in
+        Contains-flat_map s (map f xs) (f a.0) j (Contains-map f xs a.0 a.1) ((each a.0).1 n j a.2 maps_to),
+  )
 
-  optional : (o : Option NumberedItem) → option_to_list (option_map (renumbered_item r) o) ≡ map (renumbered_item r) (option_to_list o)
-  optional None = refl
-  optional (Some k) = refl
+  code_follows : Follows (renumbered_item r) code_short_strings
+  code_follows k = all_follow (renumbered_piece r) short_string (λ p. (remapped_piece p, maps_piece p)) k.body.pieces
 
-  -- a method
-  remapped_method : (y : NumberedMethod) (j : ℕ) → Contains (method_short_strings (renumbered_method r y)) j → (n : ℕ) × Contains (method_short_strings y) n × TextMapsTo r n j
-  remapped_method y j c = lifted (renumbered_item r) code_short_strings (TextMapsTo r) remapped_code (option_to_list y.code) j (subst (λ (l : List NumberedItem). Contains (flat_map code_short_strings l) j) (optional y.code) c)
+  optional_follows : Follows (option_map (renumbered_item r)) (λ o. flat_map code_short_strings (option_to_list o))
+  optional_follows None = all_follow (renumbered_item r) code_short_strings code_follows []
+  optional_follows (Some k) = all_follow (renumbered_item r) code_short_strings code_follows (k ∷ [])
 
-  maps_method : (y : NumberedMethod) (n j : ℕ) → Contains (method_short_strings y) n → TextMapsTo r n j → Contains (method_short_strings (renumbered_method r y)) j
-  maps_method y n j c maps_to = subst (λ (l : List NumberedItem). Contains (flat_map code_short_strings l) j) (sym (optional y.code)) (lowered (renumbered_item r) code_short_strings (TextMapsTo r) maps_code (option_to_list y.code) n j c maps_to)
-
-  -- all members
-  methods_remapped : (x : NumberedMembers) → methods_of (renumbered_members r x) ≡ map (renumbered_method r) (methods_of x)
-  methods_remapped x = sym (map-append (renumbered_method r) x.direct_methods x.virtual_methods)
-
-  -- each short string of remapped members is the image of one of theirs
-  pub remapped_short : (x : NumberedMembers) (j : ℕ) → Contains (members_short_strings (renumbered_members r x)) j → (n : ℕ) × Contains (members_short_strings x) n × TextMapsTo r n j
-  remapped_short x j c = lifted (renumbered_method r) method_short_strings (TextMapsTo r) remapped_method (methods_of x) j (subst (λ (l : List NumberedMethod). Contains (flat_map method_short_strings l) j) (methods_remapped x) c)
-
-  -- and each image of one of theirs is one
-  pub maps_short : (x : NumberedMembers) (n j : ℕ) → Contains (members_short_strings x) n → TextMapsTo r n j → Contains (members_short_strings (renumbered_members r x)) j
-  maps_short x n j c maps_to = subst (λ (l : List NumberedMethod). Contains (flat_map method_short_strings l) j) (sym (methods_remapped x)) (lowered (renumbered_method r) method_short_strings (TextMapsTo r) maps_method (methods_of x) n j c maps_to)
+  -- so are those of members
+  pub short_follows : Follows (renumbered_members r) members_short_strings
+  short_follows x =
+      let e = map-append (renumbered_method r) x.direct_methods x.virtual_methods in
+      let h = all_follow (renumbered_method r) method_short_strings (λ y. optional_follows y.code) (methods_of x) in
+      (λ j c. h.0 j (subst (λ l. Contains (flat_map method_short_strings l) j) (sym e) c), λ n j c maps_to. subst (λ l. Contains (flat_map method_short_strings l) j) e (h.1 n j c maps_to))

@@ -1,5 +1,5 @@
 -- What the numbers of a union's classes say of its definitions.
-use Rattle.dexmerge.proofs.Common.{◌≡◌, ℕ, zero, suc, ◌+◌, ◌<◌, ◌≤◌, List, [], ◌∷◌, length, get_or, map, refl, sym, ap, ◌∙◌, subst, arith, inl, inr, Option, Some, None, Less, All, Contains, cases_order, length-map, get_or-map, get_or_default, Contains-get_or, present, AreDistinct, Text, text_cmp, Body, Definition, Mentions, Caps, IsConflict, IsConsistent, Cause, Conflict, Cycle, Exceeded, IsCause, IsReportedBefore, IsFirstCause, Contains-first, Contains-later, Rises-from_rises, Rises-places, irreflexive, asymmetric, text_total, consistent-apart, Contains-map, Contains-map_source, AreRising, NumberedClass, type_at, definition_of, IsKnownClass, no_class, name_number, parent_numbers, ArePlaces, places_some, places_all, All-tail, present_source}
+use Rattle.dexmerge.proofs.Common.{◌≡◌, ℕ, zero, suc, ◌+◌, ◌<◌, ◌≤◌, List, [], ◌∷◌, length, get_or, map, refl, sym, ap, ◌∙◌, subst, arith, inl, inr, Option, Some, None, Less, All, Contains, cases_order, length-map, get_or-map, get_or_default, Contains-get_or, present, AreDistinct, Text, text_cmp, Body, Definition, Mentions, Caps, IsConflict, IsConsistent, Cause, Conflict, Cycle, Exceeded, IsCause, IsReportedBefore, IsFirstCause, Contains-first, Contains-later, consistent-apart, Contains-map, Contains-map_source, AreRising, NumberedClass, type_at, definition_of, IsKnownClass, no_class, name_number, parent_numbers, ArePlaces, places_some, places_all, All-tail, present_source}
 use Rattle.dexclass.proofs.NamesOf.{less_type}
 use Rattle.dexclass.proofs.Remapped.{one_at}
 use Rattle.dexmerge.proofs.ConflictLaws.{option_is}
@@ -55,8 +55,7 @@ module _ (m : Mentions) (rising : AreRising m) where
     source : (name : Text) (c : Body) → Contains E (name, c) → IsOf name c
     source name c has =
         let s = Contains-map_source (definition_of m) cs (name, c) has in
-        let at : class_at cs s.1.0 ≡ s.0 = get_or_default cs s.1.0 no_class s.0 s.1.1 ∙ s.1.2 in
-        record { place = s.1.0; within = s.1.1; is = ap (definition_of m) at ∙ s.2 }
+        record { place = s.1.0; within = s.1.1; is = ap (definition_of m) (get_or_default cs s.1.0 no_class s.0 s.1.1 ∙ s.1.2) ∙ s.2 }
 
     name_of : (name : Text) (c : Body) (x : IsOf name c) → type_at m (name_number cs x.place) ≡ name
     name_of name c x = ap (λ (d : Definition). d.0) x.is
@@ -108,10 +107,6 @@ module _ (m : Mentions) (rising : AreRising m) where
 
       -- ---- one of each name
 
-      -- a place that is kept is one of the places
-      placed : (t k : ℕ) → get_or places t None ≡ Some k → Contains (present places) k
-      placed t k e = present_at places t k e
-
       source_place : (k : ℕ) → Contains (present places) k → k < length cs
       source_place k has = let t = present_source places k has in (places_some cs places h t.0 k t.2).0
 
@@ -134,7 +129,7 @@ module _ (m : Mentions) (rising : AreRising m) where
       kept_has : (i : ℕ) → i < length cs → IsEqualCopy cs places i → Contains (kept_classes cs places) (class_at cs i)
       kept_has i lt equivalent =
           let k = option_is (get_or places (name_number cs i) None) (places_all cs places h i lt) in
-          subst (Contains (kept_classes cs places)) (sym (equivalent k.0 k.1)) (Contains-map (class_at cs) (present places) k.0 (placed (name_number cs i) k.0 k.1))
+          subst (Contains (kept_classes cs places)) (sym (equivalent k.0 k.1)) (Contains-map (class_at cs) (present places) k.0 (present_at places (name_number cs i) k.0 k.1))
 
       -- where all classes of each name are equal, those that are kept denote the same definitions
       pub kept_members : (D : List Definition) → AreMembers m D cs → ((i : ℕ) → i < length cs → IsEqualCopy cs places i) → AreMembers m D (kept_classes cs places)
@@ -143,8 +138,7 @@ module _ (m : Mentions) (rising : AreRising m) where
         same = λ d. (
           λ c. (members.same d).0 (let s = Contains-map_source (definition_of m) (kept_classes cs places) d c in subst (Contains E) s.2 (Contains-map (definition_of m) cs s.0 (kept_source s.0 s.1))),
           λ c. let s = Contains-map_source (definition_of m) cs d ((members.same d).1 c) in
-              let at : class_at cs s.1.0 ≡ s.0 = get_or_default cs s.1.0 no_class s.0 s.1.1 ∙ s.1.2 in
-              subst (Contains (map (definition_of m) (kept_classes cs places))) (ap (definition_of m) at ∙ s.2) (Contains-map (definition_of m) (kept_classes cs places) (class_at cs s.1.0) (kept_has s.1.0 s.1.1 (equivalent s.1.0 s.1.1))),
+              subst (Contains (map (definition_of m) (kept_classes cs places))) (ap (definition_of m) (get_or_default cs s.1.0 no_class s.0 s.1.1 ∙ s.1.2) ∙ s.2) (Contains-map (definition_of m) (kept_classes cs places) (class_at cs s.1.0) (kept_has s.1.0 s.1.1 (equivalent s.1.0 s.1.1))),
         );
         formed = members.formed;
       }
@@ -155,7 +149,7 @@ module _ (m : Mentions) (rising : AreRising m) where
 
       pub kept_rise : (i j : ℕ) → i < j → j < length (kept_classes cs places) → name_number (kept_classes cs places) i < name_number (kept_classes cs places) j
       kept_rise i j less lt =
-          omega (arith, (names_rise (name_number cs) places 0 (λ t k e. omega (arith, (places_some cs places h t k e).1)) i j less (omega (arith, lt, count_kept))), kept_name i (omega (arith, less, lt)), kept_name j lt)
+          omega (arith, names_rise (name_number cs) places 0 (λ t k e. omega (arith, (places_some cs places h t k e).1)) i j less (omega (arith, lt, count_kept)), kept_name i (omega (arith, less, lt)), kept_name j lt)
 
   -- ---- classes by name
 
@@ -172,18 +166,14 @@ module _ (m : Mentions) (rising : AreRising m) where
     names_differ i j d less lt e =
         let few : j < length cs = omega (arith, lt, length-map cs (λ (c : NumberedClass). c.name)) in
         let ei : get_or (map (λ (c : NumberedClass). c.name) cs) i d ≡ name_number cs i = get_or-map (λ (c : NumberedClass). c.name) cs i no_class d (omega (arith, less, few)) in
-        let ej : get_or (map (λ (c : NumberedClass). c.name) cs) j d ≡ name_number cs j = get_or-map (λ (c : NumberedClass). c.name) cs j no_class d few in
-        omega (arith, rise i j less few, ei, ej, e)
+        omega (arith, rise i j less few, ei, get_or-map (λ (c : NumberedClass). c.name) cs j no_class d few, e)
 
     -- no two definitions are the same
     pub definitions_differ : AreDistinct (map (definition_of m) cs)
     definitions_differ i j d less lt e =
         let few : j < length cs = omega (arith, lt, length-map cs (definition_of m)) in
         let first : i < length cs = omega (arith, few, less) in
-        let ei : get_or (map (definition_of m) cs) i d ≡ definition_of m (class_at cs i) = get_or-map (definition_of m) cs i no_class d first in
-        let ej : get_or (map (definition_of m) cs) j d ≡ definition_of m (class_at cs j) = get_or-map (definition_of m) cs j no_class d few in
-        let name : type_at m (name_number cs i) ≡ type_at m (name_number cs j) = ap (λ (x : Definition). x.0) (sym ei ∙ e ∙ ej) in
-        omega (arith, rise i j less few, one_at m.types rising.types_rise (name_number cs i) (name_number cs j) (name_in cs range i first) (name_in cs range j few) name)
+        omega (arith, rise i j less few, one_at m.types rising.types_rise (name_number cs i) (name_number cs j) (name_in cs range i first) (name_in cs range j few) (ap (λ (x : Definition). x.0) (sym (get_or-map (definition_of m) cs i no_class d first) ∙ e ∙ (get_or-map (definition_of m) cs j no_class d few))))
 
     pub are_kept : AreKept m cs
     are_kept = record {

@@ -1,4 +1,4 @@
-use Rattle.dexmerge.proofs.Common.{◌≡◌, ◌<◌, ℕ, ◌+◌, ◌∙◌, refl, sym, ap, subst, arith, length, name_number, false≢true, true}
+use Rattle.dexmerge.proofs.Common.{◌≡◌, ◌<◌, ℕ, ◌+◌, ◌∙◌, refl, sym, ap, subst, arith, length, false≢true}
 use Rattle.dexmerge.specs.{classes_of, lesser_of}
 use Rattle.dexmerge.proofs.CandidatePlaces.{name_at_place, count_classes}
 use Rattle.dexmerge.proofs.ConflictLaws.{IsLeastTo, equivalent_next, conflict_next, least_is}
@@ -12,8 +12,7 @@ loop-i-preserved c =
     let few : c.loop-i.i < length cs = omega (arith, c.loop-i-test.true, count_classes c.args.candidates.now) in
     elim c.if-not-is_equal_copy.branch [
       | then-not-is_equal_copy w ↦
-          let name : w.name.result ≡ name_number cs c.loop-i.i = w.name.ensures ∙ name_at_place c.args.candidates.now c.loop-i.i w.index-candidates-i.result c.loop-i-test.true w.index-candidates-i.is in
-          subst (IsLeastTo cs places (c.loop-i.i + 1)) (sym (w.least-is ∙ w.lesser-least.ensures ∙ ap (lesser_of c.loop-i.least) name))
+          subst (IsLeastTo cs places (c.loop-i.i + 1)) (sym (w.least-is ∙ w.lesser-least.ensures ∙ ap (lesser_of c.loop-i.least) (w.name.ensures ∙ name_at_place c.args.candidates.now c.loop-i.i w.index-candidates-i.result c.loop-i-test.true w.index-candidates-i.is)))
           (conflict_next cs places c.loop-i.i c.loop-i.least few c.requires c.loop-i.invariant (λ equivalent. false≢true (w.if-not-is_equal_copy.ensures.1 equivalent)))
       | else-not-is_equal_copy w ↦ subst (IsLeastTo cs places (c.loop-i.i + 1)) (sym w.least-is) (equivalent_next cs places c.loop-i.i c.loop-i.least c.loop-i.invariant (w.if-not-is_equal_copy.ensures.0 refl))
     ]

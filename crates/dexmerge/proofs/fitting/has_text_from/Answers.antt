@@ -1,4 +1,4 @@
-use Rattle.dexmerge.proofs.Common.{◌≤◌, ◌∙◌, length, sym, ltb-false}
+use Rattle.dexmerge.proofs.Common.{◌∙◌, length, sym, ltb-false}
 use Rattle.dexmerge.specs.{classes_of}
 use Rattle.dexmerge.proofs.FarTexts.{few_texts}
 use Rattle.dexmerge.proofs.fitting.has_text_from.Goals as goal
@@ -6,5 +6,4 @@ use Rattle.dexmerge.proofs.fitting.has_text_from.Goals as goal
 pub returns-then-not-has_more : goal.returns-then-not-has_more
 returns-then-not-has_more c =
     let m = c.args.numbering.now in
-    let few : length m.texts ≤ c.args.cap = ltb-false c.args.cap (length m.texts) (sym c.has_more.ensures ∙ c.if-not-has_more.true) in
-    sym (few_texts m (classes_of c.args.classes.now) c.args.cap c.requires.known few)
+    sym (few_texts m (classes_of c.args.classes.now) c.args.cap c.requires.known (ltb-false c.args.cap (length m.texts) (sym c.has_more.ensures ∙ c.if-not-has_more.true)))

@@ -5,7 +5,7 @@ use Rattle.dexmerge.specs.declared.plan.Plan.TheViews.{the_lemmas}
 use Rattle.dexmerge.specs.declared.faults.MergeFault.{MergeFault}
 use Rattle.dexmerge.specs.{plan_of, plans_of, Reports, planned}
 use Rattle.dexmerge.specs.internal.Parts.{AreKnown, IsCauseOf, nodes_in, of_plans}
-use Rattle.dexmerge.proofs.PlanForms.{leaf_is, node_is, part_member, parts_more}
+use Rattle.dexmerge.proofs.PlanForms.{leaf_is, node_is, node_with, part_member, parts_more}
 use Rattle.dexmerge.proofs.PlannedLaws.{first_reports, part_reports, leaf_no_node, node_more, part_known}
 use Rattle.dexmerge.proofs.plan_union.+merge_parts.Goals as goal
 
@@ -15,9 +15,8 @@ file-requires t c = (subst (AreKnown c.args.files.now) (leaf_is c.args.plan.now 
 pub returns-in-Leaf-clause-fault : goal.returns-in-Leaf-clause-fault
 returns-in-Leaf-clause-fault t c =
     let files = c.args.files.now in
-    let same : planned files (merging.Leaf c.in-Leaf.number) ≡ definitions c.file.result.now ++ [] = ap (λ (l : List Definition). l ++ []) (sym c.file.ensures) in
     IfErr-weaker c.merge_leaf.result _ _ (λ f h. subst (λ (p : merging.Plan). Reports (IsCauseOf c.args.caps.now files p) f) (sym (leaf_is c.args.plan.now c.in-Leaf.number c.in-Leaf.is))
-    (first_reports files c.args.caps.now (merging.Leaf c.in-Leaf.number) f (subst (λ (D : List Definition). Reports (IsFirstCause c.args.caps.now D) f) (sym same) h))) c.merge_leaf.ensures.fault
+    (first_reports files c.args.caps.now (merging.Leaf c.in-Leaf.number) f (subst (λ (D : List Definition). Reports (IsFirstCause c.args.caps.now D) f) (sym (ap (λ (l : List Definition). l ++ []) (sym c.file.ensures))) h))) c.merge_leaf.ensures.fault
 
 pub loop-part-preserved-in-Leaf-part : goal.loop-part-preserved-in-Leaf-part
 loop-part-preserved-in-Leaf-part t c =
@@ -33,7 +32,7 @@ merge_parts-requires t c =
     let files = c.args.files.now in
     let parts = c.deref-part-items.result.now in
     let known : AreKnown files (plan_of c.part-item.result) =
-    part_known files (map plan_of parts) (plan_of c.part-item.result) (part_member parts c.loop-part.part-index c.part-item.result c.loop-part-test.true c.part-item.is) (subst (AreKnown files) (node_is c.args.plan.now c.in-Node.parts c.deref-part-items.result.now c.in-Node.is c.deref-part-items.ensures.value) c.requires) in
+    part_known files (map plan_of parts) (plan_of c.part-item.result) (part_member parts c.loop-part.part-index c.part-item.result c.loop-part-test.true c.part-item.is) (subst (AreKnown files) (node_with c.args.plan.now c.in-Node.parts c.deref-part-items.result.now c.in-Node.is c.deref-part-items.ensures.value) c.requires) in
     (search (rules, the_lemmas), known)
 
 pub returns-in_err-merge_parts-in-Node-part-clause-fault : goal.returns-in_err-merge_parts-in-Node-part-clause-fault
@@ -41,9 +40,9 @@ returns-in_err-merge_parts-in-Node-part-clause-fault t c =
     let files = c.args.files.now in
     let caps = c.args.caps.now in
     let parts = c.deref-part-items.result.now in
-    let own = node_is c.part-item.result c.in-Node-part.field-0 c.in-Node-part.field-0.items c.in-Node-part.is refl in
+    let own = node_is c.part-item.result c.in-Node-part.field-0 c.in-Node-part.is in
     let distinguished : (f : MergeFault) → Reports (IsCauseOf caps files (plan_of c.part-item.result)) f → Reports (IsCauseOf caps files (plan_of c.args.plan.now)) f = λ f x.
-    subst (λ (p : merging.Plan). Reports (IsCauseOf caps files p) f) (sym (node_is c.args.plan.now c.in-Node.parts c.deref-part-items.result.now c.in-Node.is c.deref-part-items.ensures.value))
+    subst (λ (p : merging.Plan). Reports (IsCauseOf caps files p) f) (sym (node_with c.args.plan.now c.in-Node.parts c.deref-part-items.result.now c.in-Node.is c.deref-part-items.ensures.value))
     (part_reports files caps (map plan_of parts) (plans_of (map plan_of c.in-Node-part.field-0.items)) f (subst (Contains (map plan_of parts)) own (part_member parts c.loop-part.part-index c.part-item.result c.loop-part-test.true c.part-item.is)) (subst (λ (p : merging.Plan). Reports (IsCauseOf caps files p) f) own x)) in
     let out : (x : MergeFault) × (c.from_residual.result ≡ Err x) × (x ≡ c.in_err-merge_parts-in-Node-part.field-0.0) = err_from_is_err_and c.from_residual.result c.from_residual.ensures.1 in
     subst (λ (r : Result Collection MergeFault). IfErr r (Reports (IsCauseOf caps files (plan_of c.args.plan.now)))) (sym out.1)
@@ -55,7 +54,7 @@ loop-part-preserved t c =
     let parts = c.deref-part-items.result.now in
     let ps = map plan_of (take c.loop-part.part-index parts) in
     let K = c.in_ok-merge_parts-in-Node-part.field-0 in
-    let own = node_is c.part-item.result c.in-Node-part.field-0 c.in-Node-part.field-0.items c.in-Node-part.is refl in
+    let own = node_is c.part-item.result c.in-Node-part.field-0 c.in-Node-part.is in
     let qs = plans_of (map plan_of c.in-Node-part.field-0.items) in
     let all : map plan_of (take (c.loop-part.part-index + 1) parts) ≡ ps ++ merging.Node qs ∷ [] = (parts_more parts c.loop-part.part-index c.part-item.result c.loop-part-test.true c.part-item.is) ∙ ap (λ (p : merging.Plan). ps ++ p ∷ []) own in
     let same : AreSame (definitions K) (planned files (merging.Node qs)) = subst (λ (p : merging.Plan). AreSame (definitions K) (planned files p)) own (definitions-same (planned files (plan_of c.part-item.result)) K c.in_ok-merge_parts-in-Node-part.ensures.merged.collection) in
@@ -64,11 +63,9 @@ loop-part-preserved t c =
 
 pub merge_node-requires-clause-inner : goal.merge_node-requires-clause-inner
 merge_node-requires-clause-inner t c =
-    let parts = c.deref-part-items.result.now in
-    let all : map plan_of (take c.loop-part.part-index parts) ≡ map plan_of c.deref.result.now = ap (map plan_of) (take_all c.loop-part.part-index parts (omega arith) ∙ c.deref-part-items.ensures.value ∙ sym c.deref.ensures.value) in
-    subst (λ (l : List merging.Plan). AreSame (flat_map definitions c.loop-part.inner.items) (of_plans c.args.files.now (nodes_in l))) all c.loop-part.invariant
+    subst (λ (l : List merging.Plan). AreSame (flat_map definitions c.loop-part.inner.items) (of_plans c.args.files.now (nodes_in l))) (ap (map plan_of) (take_all c.loop-part.part-index c.deref-part-items.result.now (omega arith) ∙ c.deref-part-items.ensures.value ∙ sym c.deref.ensures.value)) c.loop-part.invariant
 
 pub returns-after-loop-part-clause-fault : goal.returns-after-loop-part-clause-fault
 returns-after-loop-part-clause-fault t c =
     let files = c.args.files.now in
-    IfErr-weaker c.merge_node.result _ _ (λ f h. subst (λ (p : merging.Plan). Reports (IsCauseOf c.args.caps.now files p) f) (sym (node_is c.args.plan.now c.in-Node.parts c.deref.result.now c.in-Node.is c.deref.ensures.value)) (first_reports files c.args.caps.now (merging.Node (plans_of (map plan_of c.deref.result.now))) f h)) c.merge_node.ensures.fault
+    IfErr-weaker c.merge_node.result _ _ (λ f h. subst (λ (p : merging.Plan). Reports (IsCauseOf c.args.caps.now files p) f) (sym (node_with c.args.plan.now c.in-Node.parts c.deref.result.now c.in-Node.is c.deref.ensures.value)) (first_reports files c.args.caps.now (merging.Node (plans_of (map plan_of c.deref.result.now))) f h)) c.merge_node.ensures.fault

@@ -1,4 +1,4 @@
-use Rattle.dexmerge.proofs.Common.{◌≡◌, ◌∙◌, ◌+◌, ◌<◌, ◌++◌, ◌∷◌, ℕ, List, [], Bor, length, map, take, sym, ap, subst, slice_index_or, flat_map, Contains, append_assoc, append-nil, map-append, flat_map-append, Definition, Collection, definitions, leaves, all_leaves, Contains-first, All-contains, refl}
+use Rattle.dexmerge.proofs.Common.{◌≡◌, ◌∙◌, ◌+◌, ◌<◌, ◌++◌, ◌∷◌, ℕ, List, [], Bor, length, map, take, sym, ap, subst, slice_index_or, flat_map, Contains, append_assoc, append-nil, map-append, flat_map-append, Definition, Collection, definitions, leaves, all_leaves, Contains-first, All-contains}
 use Rattle.dexspec.specs.Merging as merging
 use Rattle.dexmerge.specs.{plan_of, plans_of}
 use Rattle.dexmerge.specs.internal.Parts.{files_in, of_files}
@@ -10,8 +10,7 @@ use Rattle.dexmerge.proofs.plan_union.push_files.Goals as goal
 pub file-requires : goal.file-requires
 file-requires c =
     let parts = c.args.parts.now in
-    let is : plan_of c.part-item.result ≡ merging.Leaf c.in-Leaf.number = leaf_is c.part-item.result c.in-Leaf.number c.in-Leaf.is in
-    let own : Contains (leaves (plan_of c.part-item.result)) c.in-Leaf.number = subst (λ (p : merging.Plan). Contains (leaves p) c.in-Leaf.number) (sym is) (Contains-first c.in-Leaf.number []) in
+    let own : Contains (leaves (plan_of c.part-item.result)) c.in-Leaf.number = subst (λ (p : merging.Plan). Contains (leaves p) c.in-Leaf.number) (sym (leaf_is c.part-item.result c.in-Leaf.number c.in-Leaf.is)) (Contains-first c.in-Leaf.number []) in
     All-contains (λ i. i < length c.args.files.now) (all_leaves (plans_of (map plan_of parts))) c.in-Leaf.number c.requires
     (part_leaves (map plan_of parts) (plan_of c.part-item.result) c.in-Leaf.number (part_member parts c.loop-part.part-index c.part-item.result c.loop-part-test.true c.part-item.is) own)
 
@@ -20,7 +19,7 @@ loop-part-preserved-in-Node c =
     let parts = c.args.parts.now in
     let ps = map plan_of (take c.loop-part.part-index parts) in
     let all : files_in (map plan_of (take (c.loop-part.part-index + 1) parts)) ≡ files_in ps =
-    ap files_in (parts_more parts c.loop-part.part-index c.part-item.result c.loop-part-test.true c.part-item.is) ∙ ap (λ (p : merging.Plan). files_in (ps ++ p ∷ [])) (node_is c.part-item.result c.in-Node.field-0 c.in-Node.field-0.items c.in-Node.is refl) ∙ node_no_file c.args.files.now ps _ in
+    ap files_in (parts_more parts c.loop-part.part-index c.part-item.result c.loop-part-test.true c.part-item.is) ∙ ap (λ (p : merging.Plan). files_in (ps ++ p ∷ [])) (node_is c.part-item.result c.in-Node.field-0 c.in-Node.is) ∙ node_no_file c.args.files.now ps _ in
     c.loop-part.invariant ∙ ap (λ (l : List ℕ). flat_map definitions (map (λ p. p.now) c.args.programs.now.items) ++ of_files c.args.files.now l) (sym all)
 
 pub loop-part-preserved : goal.loop-part-preserved

@@ -8,14 +8,12 @@ one_of_each-requires c =
     let Ks : List Collection = map (λ part. part.now) c.args.parts.now in
     let D : List Definition = flat_map definitions Ks in
     let m = c.args.numbering.now in
-    let copies : AreCopies m D c.in_ok-copies.copies.items = are_copies Ks m c.args.remaps.now c.in_ok-copies.copies.items c.requires (c.in_ok-copies.ensures.members m) (c.in_ok-copies.ensures.parts m) in
-    (D, subst (AreCopies m D) (sym c.deref.ensures.value) copies)
+    (D, subst (AreCopies m D) (sym c.deref.ensures.value) (are_copies Ks m c.args.remaps.now c.in_ok-copies.copies.items c.requires (c.in_ok-copies.ensures.members m) (c.in_ok-copies.ensures.parts m)))
 
 pub returns-in_err-classes-clause-fault : goal.returns-in_err-classes-clause-fault
 returns-in_err-classes-clause-fault c =
     let Ks : List Collection = map (λ part. part.now) c.args.parts.now in
     let D : List Definition = flat_map definitions Ks in
     let m = c.args.numbering.now in
-    let copies : AreCopies m D c.in_ok-copies.copies.items = are_copies Ks m c.args.remaps.now c.in_ok-copies.copies.items c.requires (c.in_ok-copies.ensures.members m) (c.in_ok-copies.ensures.parts m) in
     let p = err_from_is_err_and c.from_residual-in_err-classes.result c.from_residual-in_err-classes.ensures.1 in
-    rw (p.1, p.2) (c.in_err-classes.ensures.fault c.args.caps.now D (subst (AreCopies m D) (sym c.deref.ensures.value) copies))
+    rw (p.1, p.2) (c.in_err-classes.ensures.fault c.args.caps.now D (subst (AreCopies m D) (sym c.deref.ensures.value) (are_copies Ks m c.args.remaps.now c.in_ok-copies.copies.items c.requires (c.in_ok-copies.ensures.members m) (c.in_ok-copies.ensures.parts m))))

@@ -1,4 +1,4 @@
-use Rattle.dexmerge.proofs.Common.{◌≡◌, ◌<◌, ◌∙◌, ℕ, Option, List, [], sym, ap, subst, arith, length, Text, IsFirstCause, Conflict, type_at, ArePlaces}
+use Rattle.dexmerge.proofs.Common.{◌≡◌, ◌<◌, ◌∙◌, ℕ, Option, List, [], sym, ap, subst, arith, length, Text, IsFirstCause, Conflict, ArePlaces}
 use Rattle.dexmerge.specs.{classes_of, IsEqualCopy, IsFirstConflict, kept_classes}
 use Rattle.dexmerge.proofs.CandidatePlaces.{count_classes, names_below, places_of}
 use Rattle.dexmerge.proofs.MergeLaws.{copy_names, copies_conflict, copies_once}
@@ -15,12 +15,10 @@ kept-requires c = subst (ArePlaces (classes_of c.args.candidates.now)) (sym c.de
 
 pub returns-in-Some-clause-fault : goal.returns-in-Some-clause-fault
 returns-in-Some-clause-fault c = λ caps D h.
-    let m = c.args.numbering.now in
     let cs = classes_of c.args.candidates.now in
     let places = c.in_ok-places.places.items in
     let least : IsFirstConflict cs places c.in-Some.name = subst (λ (l : List (Option ℕ)). IsFirstConflict cs l c.in-Some.name) c.deref.ensures.value c.in-Some.ensures in
-    let name : type_at m c.in-Some.name ≡ c.in_ok-of-in-Some.field-0 = c.typ.ensures.is [] ∙ sym c.in_ok-of-in-Some.ensures in
-    subst (λ (t : Text). IsFirstCause caps D (Conflict t)) name (copies_conflict m D c.args.candidates.now h places (places_of c.args.candidates.now c.in_ok-places.places.items c.in_ok-places.ensures.classes) c.same_law.ensures caps c.in-Some.name least)
+    subst (λ (t : Text). IsFirstCause caps D (Conflict t)) (c.typ.ensures.is [] ∙ sym c.in_ok-of-in-Some.ensures) (copies_conflict c.args.numbering.now D c.args.candidates.now h places (places_of c.args.candidates.now c.in_ok-places.places.items c.in_ok-places.ensures.classes) c.same_law.ensures caps c.in-Some.name least)
 
 pub returns-clause-kept : goal.returns-clause-kept
 returns-clause-kept c = λ D h.

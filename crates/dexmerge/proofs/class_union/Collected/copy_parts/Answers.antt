@@ -27,5 +27,4 @@ loop-i-preserved c =
 pub returns : goal.returns
 returns c = λ m D all h.
     let parts = c.args.parts.now in
-    let Ks : List Collection = map (λ part. part.now) parts in
-    subst (λ (l : List Collection). AreCollected m (D ++ flat_map definitions l) c.loop-i.self.classes.items c.loop-i.self.is_name.items) (take_all c.loop-i.i Ks (omega (arith, length-map parts (λ part. part.now)))) (c.loop-i.invariant.collected m D all h)
+    subst (λ (l : List Collection). AreCollected m (D ++ flat_map definitions l) c.loop-i.self.classes.items c.loop-i.self.is_name.items) (take_all c.loop-i.i (map (λ part. part.now) parts) (omega (arith, length-map parts (λ part. part.now)))) (c.loop-i.invariant.collected m D all h)

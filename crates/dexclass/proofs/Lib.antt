@@ -2,7 +2,6 @@ pub mod Common
 pub mod Indices
 pub mod ClassStarts
 pub mod Interfaces
-pub mod RowConditions
 pub mod RowClasses
 pub mod Marked
 pub mod OwnUses
@@ -22,7 +21,6 @@ pub mod RowFaults
 pub mod RowsChecked
 pub mod Summing
 pub mod Mergeable
-pub mod ReadPrograms
 pub mod StrippedPrograms
 pub mod ProgramClasses
 pub mod EmptyPrograms

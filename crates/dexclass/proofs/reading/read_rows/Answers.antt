@@ -2,7 +2,7 @@ use Rattle.dexclass.proofs.Common.{map, subst, err_from_is_err_and}
 use Rattle.dexclass.specs.{definition_of}
 use Rattle.dexclass.proofs.RowFaults.{together_fault}
 use Rattle.dexclass.specs.internal.Trimming.{AreTrimmed}
-use Rattle.dexclass.proofs.ReadPrograms.{total_is, read_as, mergeable}
+use Rattle.dexclass.proofs.Mergeable.{total_is, read_as, mergeable}
 use Rattle.dexclass.proofs.reading.read_rows.Goals as goal
 use Rattle.dexclass.proofs.reading.read_rows.Goals.{In_ok-numbering}
 

@@ -1,6 +1,6 @@
 use Rattle.dexclass.proofs.Common.{subst, refl, false≢true}
 use Rattle.dexclass.specs.internal.Rows.{IsParentIndex, IsSourceIndex}
-use Rattle.dexclass.proofs.RowConditions.{class_of, parent_before_of, interfaces_of, seen_not, has_class}
+use Rattle.dexclass.proofs.Indices.{class_of, parent_before_of, interfaces_of, seen_not, has_class}
 use Rattle.dexclass.proofs.class_checks.KnownFile.holds.Goals as goal
 
 pub returns-then-not-is_class : goal.returns-then-not-is_class

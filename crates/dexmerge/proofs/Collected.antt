@@ -181,8 +181,7 @@ checked_greatest caps parts m remaps are j = record { joined = j.joined; good = 
 -- the same of owned parts and maps that are equal to those
 pub checked_parts : (caps : Caps) (owned given : List Collection) (files : List (Bor Collection)) (m : Mentions) (found remaps : List Maps) → AreCaps caps → given ≡ owned → remaps ≡ found →
     IsChecked caps (all_parts given files) m found → IsChecked greatest_caps (all_parts owned files) m remaps
-checked_parts caps owned given files m found remaps are parts maps j =
-    subst (IsChecked greatest_caps (all_parts owned files) m) (sym maps) (checked_greatest caps (all_parts owned files) m found are (subst (λ (l : List Collection). IsChecked caps (all_parts l files) m found) parts j))
+checked_parts caps owned given files m found remaps are parts maps j = subst (IsChecked greatest_caps (all_parts owned files) m) (sym maps) (checked_greatest caps (all_parts owned files) m found are (subst (λ (l : List Collection). IsChecked caps (all_parts l files) m found) parts j))
 
 -- the parts of a union
 pub parts_of : (whole parts : List Collection) (m : Mentions) (remaps : List Maps) → IsChecked greatest_caps whole m remaps → (given : List Maps) → ((K : Collection) → Contains parts K → Contains whole K) → length given ≡ length parts → AllZip (λ part remap. MapsAllInto (mentions (definitions part)) m remap) parts given → ArePartsOf m parts given
@@ -226,8 +225,7 @@ module _ (owned files : List Collection) (m : Mentions) (remaps : List Maps) (j 
 
 -- the part at a place
 pub part_is : (m : Mentions) (parts : List Collection) (remaps : List Maps) (i : ℕ) (K : Collection) (r : Maps) → ArePartsOf m parts remaps → i < length parts → K ≡ get_or parts i K → r ≡ get_or remaps i r → IsPartOf m K r
-part_is m parts remaps i K r h lt at to =
-    subst (λ (L : Collection). IsPartOf m L r) (sym at) (subst (IsPartOf m (get_or parts i K)) (sym to) (zip_at (IsPartOf m) parts remaps i K r h.each lt))
+part_is m parts remaps i K r h lt at to = subst (λ (L : Collection). IsPartOf m L r) (sym at) (subst (IsPartOf m (get_or parts i K)) (sym to) (zip_at (IsPartOf m) parts remaps i K r h.each lt))
 
 -- the definitions of one part more
 pub more_parts : (m : Mentions) (D : List Definition) (parts : List Collection) (i : ℕ) (K : Collection) (cs : List NumberedClass) (marks : List Bool) → i < length parts → K ≡ get_or parts i K → AreCollected m ((D ++ flat_map definitions (take i parts)) ++ definitions K) cs marks → AreCollected m (D ++ flat_map definitions (take (i + 1) parts)) cs marks

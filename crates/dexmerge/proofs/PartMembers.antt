@@ -46,10 +46,8 @@ module _ (keep : KeepMeaning) (maps_to : MapClasses) (m : Mentions) (K : Collect
   -- one part more
   pub members_more : (D : List Definition) (cs ps : List NumberedClass) → AreMembers m D cs → AreClassesOf K ps → AreWellFormed (definitions K) → AreMembers m (D ++ definitions K) (cs ++ map (renumbered r) ps)
   members_more D cs ps h are formed =
-      let remapped : map (definition_of m) (map (renumbered r) ps) ≡ in_class_order (definitions K) =
-      map_both (renumbered r) (definition_of m) (definition_of own) ps (λ i d lt. (stays (get_or ps i d) (are.known i d lt)).same) ∙ are.are in
-      let all : map (definition_of m) (cs ++ map (renumbered r) ps) ≡ map (definition_of m) cs ++ in_class_order (definitions K) =
-      map-append (definition_of m) cs (map (renumbered r) ps) ∙ ap (λ (l : List Definition). map (definition_of m) cs ++ l) remapped in
+      let remapped : map (definition_of m) (map (renumbered r) ps) ≡ in_class_order (definitions K) = map_both (renumbered r) (definition_of m) (definition_of own) ps (λ i d lt. (stays (get_or ps i d) (are.known i d lt)).same) ∙ are.are in
+      let all : map (definition_of m) (cs ++ map (renumbered r) ps) ≡ map (definition_of m) cs ++ in_class_order (definitions K) = map-append (definition_of m) cs (map (renumbered r) ps) ∙ ap (λ (l : List Definition). map (definition_of m) cs ++ l) remapped in
       record {
         known = All-append (IsKnownClass m) cs (map (renumbered r) ps) h.known (All-map (IsKnownClass m) (renumbered r) ps (λ i d lt. (stays (get_or ps i d) (are.known i d lt)).known));
         same = λ d. (
@@ -83,5 +81,4 @@ part_at parts i d lt e = ap (λ (p : Bor Collection). p.now) e ∙ sym (get_or-m
 
 -- the maps at a place map the part there into the whole
 pub mapped_at : (m : Mentions) (Ks : List Collection) (remaps : List Maps) (i : ℕ) (K : Collection) (r : Maps) → i < length Ks → K ≡ get_or Ks i K → r ≡ get_or remaps i r → AllZip (λ part remap. MapsAllInto (mentions (definitions part)) m remap) Ks remaps → MapsAllInto (mentions (definitions K)) m r
-mapped_at m Ks remaps i K r lt at to zip =
-    subst (λ (L : Collection). MapsAllInto (mentions (definitions L)) m r) (sym at) (subst (MapsAllInto (mentions (definitions (get_or Ks i K))) m) (sym to) (zip_at (λ part remap. MapsAllInto (mentions (definitions part)) m remap) Ks remaps i K r zip lt))
+mapped_at m Ks remaps i K r lt at to zip = subst (λ (L : Collection). MapsAllInto (mentions (definitions L)) m r) (sym at) (subst (MapsAllInto (mentions (definitions (get_or Ks i K))) m) (sym to) (zip_at (λ part remap. MapsAllInto (mentions (definitions part)) m remap) Ks remaps i K r zip lt))

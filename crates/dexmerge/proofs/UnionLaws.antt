@@ -148,8 +148,7 @@ module _ (m : Mentions) (rising : AreRising m) where
       kept_name i lt = ap (λ (c : NumberedClass). c.name) (kept_at i lt)
 
       pub kept_rise : (i j : ℕ) → i < j → j < length (kept_classes cs places) → name_number (kept_classes cs places) i < name_number (kept_classes cs places) j
-      kept_rise i j less lt =
-          omega (arith, names_rise (name_number cs) places 0 (λ t k e. omega (arith, (places_some cs places h t k e).1)) i j less (omega (arith, lt, count_kept)), kept_name i (omega (arith, less, lt)), kept_name j lt)
+      kept_rise i j less lt = omega (arith, names_rise (name_number cs) places 0 (λ t k e. omega (arith, (places_some cs places h t k e).1)) i j less (omega (arith, lt, count_kept)), kept_name i (omega (arith, less, lt)), kept_name j lt)
 
   -- ---- classes by name
 

@@ -84,10 +84,8 @@ module _ (D : List Definition) (depths : List (Option ℕ)) (names : List ℕ) (
   lesser_place i j lt less e =
       let m = own_name i lt in
       let k = own_name j less in
-      let first : nat_cmp (unwrap_or (get_or depths i None) 0) (unwrap_or (get_or depths j None) 0) ≡ nat_cmp (depth D (get_or D i d).0) (depth D (get_or D j d).0) =
-      λ t. nat_cmp ((own_depth i lt ∙ ap (depth D) m) t) ((own_depth j less ∙ ap (depth D) k) t) in
-      let names_less : nat_cmp (get_or names i 0) (get_or names j 0) ≡ Less → text_cmp (get_or D i d).0 (get_or D j d).0 ≡ Less =
-      λ f. (λ t. text_cmp (sym m t) (sym k t)) ∙ (n.order i j lt less).0 (ranked (get_or names i 0) (get_or names j 0) Less (sym f)) in
+      let first : nat_cmp (unwrap_or (get_or depths i None) 0) (unwrap_or (get_or depths j None) 0) ≡ nat_cmp (depth D (get_or D i d).0) (depth D (get_or D j d).0) = λ t. nat_cmp ((own_depth i lt ∙ ap (depth D) m) t) ((own_depth j less ∙ ap (depth D) k) t) in
+      let names_less : nat_cmp (get_or names i 0) (get_or names j 0) ≡ Less → text_cmp (get_or D i d).0 (get_or D j d).0 ≡ Less = λ f. (λ t. text_cmp (sym m t) (sym k t)) ∙ (n.order i j lt less).0 (ranked (get_or names i 0) (get_or names j 0) Less (sym f)) in
       less_along (nat_cmp (depth D (get_or D i d).0) (depth D (get_or D j d).0)) (nat_cmp (get_or names i 0) (get_or names j 0)) (text_cmp (get_or D i d).0 (get_or D j d).0) names_less
       (ap (λ o. ordering_then o (nat_cmp (get_or names i 0) (get_or names j 0))) (sym first) ∙ e)
 

@@ -18,8 +18,7 @@ parts-append xs ys (s ∷ ss) h =
 
 -- the added elements are the part from the old end to the new end
 part-added : (xs ys : List ℕ) (s : Span) → s.start ≡ length xs → s.end ≡ length (xs ++ ys) → part (xs ++ ys) s ≡ ys
-part-added xs ys s e f =
-    ap (λ n. take (s.end - s.start) (drop n (xs ++ ys))) e ∙ ap (take (s.end - s.start)) (drop-append_seam xs ys) ∙ take_all (s.end - s.start) ys (omega (arith, e, f, length-append xs ys))
+part-added xs ys s e f = ap (λ n. take (s.end - s.start) (drop n (xs ++ ys))) e ∙ ap (take (s.end - s.start)) (drop-append_seam xs ys) ∙ take_all (s.end - s.start) ys (omega (arith, e, f, length-append xs ys))
 
 -- one more part: the added elements
 pub parts_pushed : (xs ys zs : List ℕ) (ss ts : List Span) (s : Span) → All (IsPart (length xs)) ss → zs ≡ xs ++ ys → ts ≡ ss ++ s ∷ [] → s.start ≡ length xs → s.end ≡ length zs → map (part zs) ts ≡ map (part xs) ss ++ ys ∷ []

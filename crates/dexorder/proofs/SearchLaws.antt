@@ -17,8 +17,7 @@ work_unseen-set _ _ i lt same fresh = absurd (omega arith)
 
 -- so the first visit of a class takes fewer steps than were left
 pub begun_nearer : (classes : List (List ℕ)) (seen now : List Bool) (path visits : List Visit) (v : Visit) (i : ℕ) → i < length classes → length seen ≡ length classes → get_or seen i false ≡ false → now ≡ set seen i true → visits ≡ path ++ v ∷ [] → v.left.now ≡ parents_of classes i → work_unseen classes now + work_left visits < work_unseen classes seen + work_left path
-begun_nearer classes seen now path visits v i lt same fresh written grown rest =
-    omega (arith, ap (work_unseen classes) written, work_unseen-set classes seen i lt same fresh, ap work_left grown ∙ sum_by_push (λ (u : Visit). 1 + length u.left.now) path v, ap length rest)
+begun_nearer classes seen now path visits v i lt same fresh written grown rest = omega (arith, ap (work_unseen classes) written, work_unseen-set classes seen i lt same fresh, ap work_left grown ∙ sum_by_push (λ (u : Visit). 1 + length u.left.now) path v, ap length rest)
 
 module _ (classes : List (List ℕ)) where
   -- a class is under n if its parents are

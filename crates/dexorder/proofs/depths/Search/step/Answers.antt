@@ -4,8 +4,7 @@ use Rattle.dexorder.proofs.SearchLaws.{search_finished, search_deeper, search_cu
 use Rattle.dexorder.proofs.depths.Search.step.Goals as goal
 
 pub returns-in_default-clause-search : goal.returns-in_default-clause-search
-returns-in_default-clause-search c =
-    search_finished c.args.classes.now c.args.self.now c.args.self.now.path.items c.args.visit c.requires.search _ refl refl (nil_from_length c.args.visit.left.now c.in_default.ensures.cases)
+returns-in_default-clause-search c = search_finished c.args.classes.now c.args.self.now c.args.self.now.path.items c.args.visit c.requires.search _ refl refl (nil_from_length c.args.visit.left.now c.in_default.ensures.cases)
 
 pub index-requires : goal.index-requires
 index-requires c = let w = next_within c.args.classes.now c.args.self.now c.args.self.now.path.items c.args.visit c.requires.search c.in-Some.parent.now c.in-Some.left.now c.in-Some.ensures.cases.0 c.requires.within in omega (arith, w, c.requires.search.depth_count)

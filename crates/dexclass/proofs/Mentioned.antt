@@ -92,8 +92,7 @@ module _ (m : Mentions) (us : List Use) (ss : List Symbol) (marks : Marks) (zip 
 
   -- what occurs is marked
   pub is_marked : (u : Use) → Contains us u → IsMarkedUse marks u
-  is_marked u c =
-      h u.kind u.number ∙ list_any-member (λ (v : Use). same_kind v.kind u.kind && v.number == u.number) us u c (ap (λ (b : Bool). b && u.number == u.number) (is_same u.kind) ∙ eq-eqb u.number u.number refl)
+  is_marked u c = h u.kind u.number ∙ list_any-member (λ (v : Use). same_kind v.kind u.kind && v.number == u.number) us u c (ap (λ (b : Bool). b && u.number == u.number) (is_same u.kind) ∙ eq-eqb u.number u.number refl)
 
   pub occurring_marked : AreAmong ss (marked m marks)
   occurring_marked s c =

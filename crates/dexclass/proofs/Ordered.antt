@@ -25,8 +25,7 @@ module _ (m : Mentions) (cs : List NumberedClass) (named : AreNamed m cs) where
 
   -- the classes at places are the definitions there
   arranged_are : (order : List ℕ) → All (λ i. i < length cs) order → map (definition_of m) (map (λ i. get_or cs i no_class) order) ≡ map (λ i. get_or D i (definition_of m no_class)) order
-  arranged_are order within =
-      map_both (λ i. get_or cs i no_class) (definition_of m) (λ i. get_or D i (definition_of m no_class)) order (λ k d lt. sym (get_or-map (definition_of m) cs (get_or order k d) no_class (definition_of m no_class) (within k d lt)))
+  arranged_are order within = map_both (λ i. get_or cs i no_class) (definition_of m) (λ i. get_or D i (definition_of m no_class)) order (λ k d lt. sym (get_or-map (definition_of m) cs (get_or order k d) no_class (definition_of m no_class) (within k d lt)))
 
   module _ (H : List (List ℕ)) (h : IsHierarchy cs H) where
     pub are_classes : AreClassesOf D H
@@ -49,8 +48,7 @@ module _ (m : Mentions) (cs : List NumberedClass) (named : AreNamed m cs) where
 
   -- each name has a place there
   pub known_within : (by_name : List (Option ℕ)) → AreDepthsByName m D by_name → All (λ c. c.name < length by_name) cs
-  known_within by_name h i d lt =
-      omega (arith, named.names i lt, h.count, ap (λ (c : NumberedClass). c.name) (get_or_default cs i d no_class lt))
+  known_within by_name h i d lt = omega (arith, named.names i lt, h.count, ap (λ (c : NumberedClass). c.name) (get_or_default cs i d no_class lt))
 
   module _ (depths : List (Option ℕ)) (names order : List ℕ) (e : names ≡ map (λ c. c.name) cs) (p : IsPermutation (range_with_len 0 (length names)) order) (r : rises class_cmp (map (class_place depths names) order) ≡ true) where
     -- no place is there twice
@@ -65,8 +63,7 @@ module _ (m : Mentions) (cs : List NumberedClass) (named : AreNamed m cs) where
     order_count = length_permutation (range_with_len 0 (length names)) order p ∙ length-range_with_len 0 (length names) ∙ length_names
 
     pub order_within : All (λ i. i < length cs) order
-    order_within k d lt =
-        omega (arith, range_below (length names) (get_or order k d) (Contains-permutation order (range_with_len 0 (length names)) (get_or order k d) (IsPermutation-sym (range_with_len 0 (length names)) order p) (Contains-get_or order k d lt)), length_names)
+    order_within k d lt = omega (arith, range_below (length names) (get_or order k d) (Contains-permutation order (range_with_len 0 (length names)) (get_or order k d) (IsPermutation-sym (range_with_len 0 (length names)) order p) (Contains-get_or order k d lt)), length_names)
 
     -- each is one of the classes
     pub arranged_among : (arranged : List NumberedClass) → arranged ≡ map (λ i. get_or cs i no_class) order → (c : NumberedClass) → Contains arranged c → Contains cs c

@@ -18,8 +18,7 @@ AreDistinct-take n xs h i j d less lt e =
 
 -- and so has a suffix
 AreDistinct-drop : {X : Type 0} (n : ℕ) (xs : List X) → AreDistinct xs → AreDistinct (drop n xs)
-AreDistinct-drop n xs h i j d less lt e =
-    h (n + i) (n + j) d (omega (arith, less)) (omega (arith, lt, (length-drop n xs))) (sym (get_or-drop n xs i d) ∙ e ∙ get_or-drop n xs j d)
+AreDistinct-drop n xs h i j d less lt e = h (n + i) (n + j) d (omega (arith, less)) (omega (arith, lt, (length-drop n xs))) (sym (get_or-drop n xs i d) ∙ e ∙ get_or-drop n xs j d)
 
 -- ---- some of the classes
 

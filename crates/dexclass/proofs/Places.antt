@@ -13,8 +13,7 @@ one_place key xs apart i j d li lj e = elim (cases_order i j) [
 
 -- where what they are seen as is different
 pub seen_apart : {X Y : Type 0} (key : X → Y) (xs : List X) → AreDistinct (map key xs) → (i j : ℕ) (d : X) → i < j → j < length xs → key (get_or xs i d) ≡ key (get_or xs j d) → ⊥
-seen_apart key xs distinct i j d less lt e =
-    distinct i j (key d) less (omega (arith, lt, length-map xs key)) (get_or-map key xs i d (key d) (omega (arith, less, lt)) ∙ e ∙ sym (get_or-map key xs j d (key d) lt))
+seen_apart key xs distinct i j d less lt e = distinct i j (key d) less (omega (arith, lt, length-map xs key)) (get_or-map key xs i d (key d) (omega (arith, less, lt)) ∙ e ∙ sym (get_or-map key xs j d (key d) lt))
 
 -- the classes that are parents
 abbrev pub defined_parents : List (Option ℕ) → NumberedClass → List ℕ

@@ -21,8 +21,7 @@ module _ (D E : List Definition) (same : AreSame D E) (acyclic : IsAcyclic D) wh
   -- lists of the same members, of which no two have one name, give one list
   pub one_class_order : AreDistinct (map (λ d. d.0) D) → AreDistinct (map (λ d. d.0) E) → in_class_order D ≡ in_class_order E
   one_class_order apart other =
-      let places : map (class_place E) (in_class_order E) ≡ map (class_place D) (in_class_order E) =
-      mapped_equal (class_place E) (class_place D) (in_class_order E) (λ d c. sym (one_place d ((same d).1 (in_class_order-only E d c)))) in
+      let places : map (class_place E) (in_class_order E) ≡ map (class_place D) (in_class_order E) = mapped_equal (class_place E) (class_place D) (in_class_order E) (λ d c. sym (one_place d ((same d).1 (in_class_order-only E d c)))) in
       Rises-same (definition_cmp D) (definition_total D) (in_class_order D) (in_class_order E) (Rises-mapped place_cmp (class_place D) (in_class_order D) (class_places-rise D)) (Rises-mapped place_cmp (class_place D) (in_class_order E) (subst (Rises place_cmp) places (class_places-rise E)))
       (λ d c. in_class_order-has E d other ((same d).0 (in_class_order-only D d c)))
       (λ d c. in_class_order-has D d apart ((same d).1 (in_class_order-only E d c)))

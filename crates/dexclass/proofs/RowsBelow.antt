@@ -36,13 +36,11 @@ rows_more b r D d rows row = subst (λ (l : List ℕ). AllZip (IsRow b) l (D ++ 
 module _ (b : List ℕ) (classes : HasClasses b) where
   -- a name is in one row
   pub one_name : (n : ℕ) (D : List Definition) → AreRows b n D → (i j : ℕ) (d : Definition) → i < length D → j < length D → (get_or D i d).0 ≡ (get_or D j d).0 → i ≡ j
-  one_name n D rows i j d li lj e =
-      omega (arith, (same_class_row b classes (0 + i) (0 + j) (get_or D j d).0 (get_or D i d).1 (get_or D j d).1 (subst (λ (name : List ℕ). ClassRow b (0 + i) name (get_or D i d).1) e (at_row (IsRow b) n 0 D rows i d li)) (at_row (IsRow b) n 0 D rows j d lj)))
+  one_name n D rows i j d li lj e = omega (arith, (same_class_row b classes (0 + i) (0 + j) (get_or D j d).0 (get_or D i d).1 (get_or D j d).1 (subst (λ (name : List ℕ). ClassRow b (0 + i) name (get_or D i d).1) e (at_row (IsRow b) n 0 D rows i d li)) (at_row (IsRow b) n 0 D rows j d lj)))
 
   -- so no two rows are the same
   pub rows_distinct : (n : ℕ) (D : List Definition) → AreRows b n D → AreDistinct D
-  rows_distinct n D rows i j d less lt e =
-      omega (arith, (one_name n D rows i j d (omega (arith, less, lt)) lt (ap (λ (x : Definition). x.0) e)), less)
+  rows_distinct n D rows i j d less lt e = omega (arith, (one_name n D rows i j d (omega (arith, less, lt)) lt (ap (λ (x : Definition). x.0) e)), less)
 
   module _ (D : List Definition) (rows : AreRows b (table_size b ClassDefs) D) where
     -- fewer rows weigh no more
@@ -67,8 +65,7 @@ module _ (b : List ℕ) (h : HoldBelow 17 b) where
 
   -- so it does where the bodies alone do
   pub heavy_row : (r : ℕ) (D : List Definition) (d : Definition) → r < table_size b ClassDefs → ((k : ℕ) → k < r → IsReadable b k) → AreRows b r D → IsReadable b r → IsRow b r d → most_weight < bodies_weight D + body_weight d.1 → FailsAt Condition.Weight b r
-  heavy_row r D d lt readable rows is row heavy =
-      too_heavy r (D ++ d ∷ []) lt (below_more (IsReadable b) r readable is) (rows_more b r D d rows row) (omega (arith, heavy, weight_is (D ++ d ∷ []), bodies_more D d))
+  heavy_row r D d lt readable rows is row heavy = too_heavy r (D ++ d ∷ []) lt (below_more (IsReadable b) r readable is) (rows_more b r D d rows row) (omega (arith, heavy, weight_is (D ++ d ∷ []), bodies_more D d))
 
   module _ (D : List Definition) (readable : AreReadable b) (rows : AreRows b (table_size b ClassDefs) D) (light : weight D ≤ most_weight) where
     -- where all rows are readable and do not weigh too much, the file is accepted

@@ -71,8 +71,7 @@ module _ (b : List ℕ) (m : Mentions) (pools : ArePools b m) (h : HoldBelow 17 
 
     -- it is too much
     pub class_heavy : most_weight < old.weight + w → IsRefused b 23 r
-    class_heavy heavy =
-        heavy_refused b r (heavy_row b h r D (definition_of m row_class) lt before.readable before.rows are.readable class_row (omega (arith, heavy, class_weight, before.weight_is)))
+    class_heavy heavy = heavy_refused b r (heavy_row b h r D (definition_of m row_class) lt before.readable before.rows are.readable class_row (omega (arith, heavy, class_weight, before.weight_is)))
 
     -- it is not
     pub class_more : old.weight + w ≤ most_weight → (c : NumberedClass) → c ≡ row_class → (bodies : Bodies) → bodies.classes.items ≡ old.classes.items ++ c ∷ [] → bodies.weight ≡ old.weight + w → AreBodies b m (r + 1) bodies

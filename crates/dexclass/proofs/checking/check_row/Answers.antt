@@ -13,8 +13,7 @@ pub check_members-requires : goal.check_members-requires
 check_members-requires c = λ pools. c.requires.rows.checks_are
 
 pub returns-in-Err-clause-refused : goal.returns-in-Err-clause-refused
-returns-in-Err-clause-refused c =
-    row_fault c.args.frame.now c.args.r c.in-Err.fault c.at_row.result c.at_row.ensures c.requires.holds c.requires.row (c.in-Err.ensures.refused c.args.r c.at-row.ensures c.requires.pools (c.requires.holds Condition.Classes (omega arith) c.args.r c.requires.row))
+returns-in-Err-clause-refused c = row_fault c.args.frame.now c.args.r c.in-Err.fault c.at_row.result c.at_row.ensures c.requires.holds c.requires.row (c.in-Err.ensures.refused c.args.r c.at-row.ensures c.requires.pools (c.requires.holds Condition.Classes (omega arith) c.args.r c.requires.row))
 
 pub returns-then-weight-gt-MOST_WEIGHT-clause-refused : goal.returns-then-weight-gt-MOST_WEIGHT-clause-refused
 returns-then-weight-gt-MOST_WEIGHT-clause-refused c =

@@ -13,8 +13,7 @@ module _ (f g : ℕ → ℕ) where
 
   -- lists that are mapped to the same list are equal once mapped at each place
   pub equivalent_at : (xs ys : List ℕ) (k : ℕ) → map f xs ≡ map g ys → k < length xs → f (get_or xs k 0) ≡ g (get_or ys k 0)
-  equivalent_at xs ys k e lt =
-      sym (get_or-map f xs k 0 0 lt) ∙ ap (λ (l : List ℕ). get_or l k 0) e ∙ get_or-map g ys k 0 0 (omega (arith, lt, length-map xs f, ap length e, length-map ys g))
+  equivalent_at xs ys k e lt = sym (get_or-map f xs k 0 0 lt) ∙ ap (λ (l : List ℕ). get_or l k 0) e ∙ get_or-map g ys k 0 0 (omega (arith, lt, length-map xs f, ap length e, length-map ys g))
 
 pub returns-then-type_number : goal.returns-then-type_number
 returns-then-type_number c = (λ e. absurd (false≢true e), λ e. absurd (c.if-type_number.true (c.type_number.ensures

@@ -13,5 +13,4 @@ loop-r-preserved c =
     }
 
 pub returns-clause-accepted : goal.returns-clause-accepted
-returns-clause-accepted c =
-    hold_next c.args.frame.now Condition.Classes c.requires.before (λ k lt. c.loop-r.invariant.rows k (omega (arith, lt, c.loop-r-test.false, c.size-count.ensures)))
+returns-clause-accepted c = hold_next c.args.frame.now Condition.Classes c.requires.before (λ k lt. c.loop-r.invariant.rows k (omega (arith, lt, c.loop-r-test.false, c.size-count.ensures)))

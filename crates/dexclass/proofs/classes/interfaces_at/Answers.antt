@@ -6,8 +6,7 @@ pub rest-list-requires : goal.rest-list-requires
 rest-list-requires c = list_within c.args.frame.now c.args.off c.args.count c.requires.list c.requires.count
 
 pub u16_at-requires : goal.u16_at-requires
-u16_at-requires c =
-    omega (arith, ap length c.rest-list.ensures ∙ length-drop {A = ℕ} c.args.off c.args.frame.now, index_within c.args.frame.now c.args.off c.args.count c.requires.list c.requires.count c.loop-k.k c.loop-k-test.true)
+u16_at-requires c = omega (arith, ap length c.rest-list.ensures ∙ length-drop {A = ℕ} c.args.off c.args.frame.now, index_within c.args.frame.now c.args.off c.args.count c.requires.list c.requires.count c.loop-k.k c.loop-k-test.true)
 
 pub loop-k-preserved : goal.loop-k-preserved
 loop-k-preserved c =

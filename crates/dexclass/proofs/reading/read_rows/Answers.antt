@@ -8,8 +8,7 @@ use Rattle.dexclass.proofs.reading.read_rows.Goals.{In_ok-numbering}
 
 -- the classes as they are trimmed
 trimmed : (c : In_ok-numbering) → AreTrimmed (map (definition_of c.args.pools) c.in_ok-classes.field-0.classes.items) c.in_ok-numbering.numbering c.into_trimmed.new.classes.items
-trimmed c =
-    subst (λ m. AreTrimmed (map (definition_of m) c.in_ok-classes.field-0.classes.items) c.in_ok-numbering.numbering c.into_trimmed.new.classes.items) c.into_numbering.ensures c.in_ok-numbering.ensures
+trimmed c = subst (λ m. AreTrimmed (map (definition_of m) c.in_ok-classes.field-0.classes.items) c.in_ok-numbering.numbering c.into_trimmed.new.classes.items) c.into_numbering.ensures c.in_ok-numbering.ensures
 
 pub returns-in_err-total-clause-refused : goal.returns-in_err-total-clause-refused
 returns-in_err-total-clause-refused c =

@@ -19,8 +19,7 @@ pub into_kept-requires : goal.into_kept-requires
 into_kept-requires c = c.in_ok-marks.ensures.count
 
 pub cut_all-requires-clause-remapped : goal.cut_all-requires-clause-remapped
-cut_all-requires-clause-remapped c =
-    mapped (goal.at.cut_all-requires-clause-remapped c).In_ok-trimmed c.in-Some.remap (subst (λ o. IfSome o (MapsMarked c.in_ok-marks.marks)) c.in-Some.is c.in_ok-trimmed.ensures.marked)
+cut_all-requires-clause-remapped c = mapped (goal.at.cut_all-requires-clause-remapped c).In_ok-trimmed c.in-Some.remap (subst (λ o. IfSome o (MapsMarked c.in_ok-marks.marks)) c.in-Some.is c.in_ok-trimmed.ensures.marked)
 
 pub returns : goal.returns
 returns c =

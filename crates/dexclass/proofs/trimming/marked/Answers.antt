@@ -9,8 +9,7 @@ pub loop-class-init : goal.loop-class-init
 loop-class-init c = record { count = c.in_ok-marks.ensures.marks; marked = none_marked c.args.numbering.now c.in_ok-marks.marks c.in_ok-marks.ensures.marks c.in_ok-marks.ensures.none }
 
 pub mark-requires : goal.mark-requires
-mark-requires c =
-    c.uses_law.ensures.marks c.args.numbering.now c.loop-class.marks c.class-item.result c.loop-class.invariant.count (subst (IsKnownClass c.args.numbering.now) (sym c.class-item.is) (c.requires c.loop-class.class-index c.class-item.result c.loop-class-test.true))
+mark-requires c = c.uses_law.ensures.marks c.args.numbering.now c.loop-class.marks c.class-item.result c.loop-class.invariant.count (subst (IsKnownClass c.args.numbering.now) (sym c.class-item.is) (c.requires c.loop-class.class-index c.class-item.result c.loop-class-test.true))
 
 pub loop-class-preserved : goal.loop-class-preserved
 loop-class-preserved c = record {

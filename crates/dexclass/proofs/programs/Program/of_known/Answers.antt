@@ -20,6 +20,5 @@ arranged-requires-clause-depths c =
 pub arranged-requires-clause-total : goal.arranged-requires-clause-total
 arranged-requires-clause-total c =
     let m = c.args.numbering in
-    let weighed : c.weight_of-total.result ≡ min (2 ^ 64 - 1) (weight (map (definition_of m) c.args.classes.items)) =
-    subst (λ (l : List NumberedClass). c.weight_of-total.result ≡ min (2 ^ 64 - 1) (weight (map (definition_of m) l))) c.deref.ensures.value c.weight_of-total.ensures in
+    let weighed : c.weight_of-total.result ≡ min (2 ^ 64 - 1) (weight (map (definition_of m) c.args.classes.items)) = subst (λ (l : List NumberedClass). c.weight_of-total.result ≡ min (2 ^ 64 - 1) (weight (map (definition_of m) l))) c.deref.ensures.value c.weight_of-total.ensures in
     omega (arith, weighed, weight_bound m c.args.classes.items c.requires.mergeable c.is_numbering.ensures)

@@ -12,6 +12,5 @@ returns-clause-classes c =
 
 pub returns-clause-rises : goal.returns-clause-rises
 returns-clause-rises c =
-    let names = c.args.names.now in
-    let all = classes_rise c.args.depths.now names (length names) c.in_ok-places.places.items c.sort_unstable.new.self.items refl c.requires.names c.in_ok-places.ensures c.sort_unstable.ensures.permutation c.sort_unstable.ensures.sorted in
-    IfOk-weaker c.classes.result _ _ (λ order e. ap (λ ks. rises class_cmp (map (class_place c.args.depths.now names) ks)) (e ∙ ap (map (λ p. p.class)) c.deref.ensures.value) ∙ all) c.classes.ensures
+    let all = classes_rise c.args.depths.now c.args.names.now (length c.args.names.now) c.in_ok-places.places.items c.sort_unstable.new.self.items refl c.requires.names c.in_ok-places.ensures c.sort_unstable.ensures.permutation c.sort_unstable.ensures.sorted in
+    IfOk-weaker c.classes.result _ _ (λ order e. ap (λ ks. rises class_cmp (map (class_place c.args.depths.now c.args.names.now) ks)) (e ∙ ap (map (λ p. p.class)) c.deref.ensures.value) ∙ all) c.classes.ensures

@@ -7,14 +7,12 @@ use Rattle.dexrows.proofs.joining.+join.Goals as goal
 
 pub returns-in_ok-vec-in-len1 : goal.returns-in_ok-vec-in-len1
 returns-in_ok-vec-in-len1 g t c =
-    let m = c.in_ok-merged-in-len1.merged in
-    join_of_one g.R.Row.key_of (λ part. part.now) (λ image. image.items) c.args.parts.now m.rows.items c.part-item.result m.left_places c.in_ok-vec-in-len1.field-0.items m.right_places.items
+    join_of_one g.R.Row.key_of (λ part. part.now) (λ image. image.items) c.args.parts.now c.in_ok-merged-in-len1.merged.rows.items c.part-item.result c.in_ok-merged-in-len1.merged.left_places c.in_ok-vec-in-len1.field-0.items c.in_ok-merged-in-len1.merged.right_places.items
     (list_of_one c.args.parts.now c.part-item.result (omega arith) (omega arith) c.part-item.is) c.in_ok-vec-in-len1.ensures.items c.in_ok-merged-in-len1.ensures
 
 pub returns-in_ok-vec-in-len2 : goal.returns-in_ok-vec-in-len2
 returns-in_ok-vec-in-len2 g t c =
-    let m = c.in_ok-merged-in-len2.merged in
-    join_of_both g.R.Row.key_of (λ part. part.now) (λ image. image.items) c.args.parts.now m.rows.items c.left-item.result c.right-item.result m.left_places m.right_places c.in_ok-vec-in-len2.field-0.items
+    join_of_both g.R.Row.key_of (λ part. part.now) (λ image. image.items) c.args.parts.now c.in_ok-merged-in-len2.merged.rows.items c.left-item.result c.right-item.result c.in_ok-merged-in-len2.merged.left_places c.in_ok-merged-in-len2.merged.right_places c.in_ok-vec-in-len2.field-0.items
     (list_of_two c.args.parts.now c.left-item.result c.right-item.result (omega arith) (omega arith) c.left-item.is c.right-item.is) c.in_ok-vec-in-len2.ensures.items c.in_ok-merged-in-len2.ensures
 
 pub returns-in_ok-right-in_default : goal.returns-in_ok-right-in_default

@@ -6,16 +6,14 @@ use Rattle.dexrows.proofs.joining.join_two.Goals as goal
 
 pub compose_all-requires : goal.compose_all-requires
 compose_all-requires g c =
-    let joined = c.requires.left in
     let places = c.in_ok-merged.merged.left_places.items in
-    let within = within_images g.R.Row.key_of c.args.left.rows.items (length c.deref-3.result.now) (sym (ap length c.deref-3.ensures.value ∙ c.in_ok-merged.ensures.left_in.count ∙ ap length c.deref.ensures.value)) joined.0 _ joined.1.parts_in in
+    let within = within_images g.R.Row.key_of c.args.left.rows.items (length c.deref-3.result.now) (sym (ap length c.deref-3.ensures.value ∙ c.in_ok-merged.ensures.left_in.count ∙ ap length c.deref.ensures.value)) c.requires.left.0 _ c.requires.left.1.parts_in in
     subst (All (λ image. All (λ place. place < length c.deref-3.result.now) image.items)) (sym c.deref_mut.ensures.value)
     (all_seen (λ image. image.items) (All (λ place. place < length c.deref-3.result.now)) c.args.left.images.items within)
 
 pub compose_all-requires-2 : goal.compose_all-requires-2
 compose_all-requires-2 g c =
-    let joined = c.requires.right in
-    let within = within_images g.R.Row.key_of c.args.right.rows.items (length c.deref-4.result.now) (sym (ap length c.deref-4.ensures.value ∙ c.in_ok-merged.ensures.right_in.count ∙ ap length c.deref-2.ensures.value)) joined.0 _ joined.1.parts_in in
+    let within = within_images g.R.Row.key_of c.args.right.rows.items (length c.deref-4.result.now) (sym (ap length c.deref-4.ensures.value ∙ c.in_ok-merged.ensures.right_in.count ∙ ap length c.deref-2.ensures.value)) c.requires.right.0 _ c.requires.right.1.parts_in in
     subst (All (λ image. All (λ place. place < length c.deref-4.result.now) image.items)) (sym c.deref_mut-2.ensures.value)
     (all_seen (λ image. image.items) (All (λ place. place < length c.deref-4.result.now)) c.args.right.images.items within)
 

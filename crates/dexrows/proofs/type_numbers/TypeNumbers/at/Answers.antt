@@ -11,8 +11,7 @@ returns-in-Words c = c.word_at.ensures ∙ ap (λ (ns : List ℕ). slice_index n
 
 pub short_at-requires : goal.short_at-requires
 short_at-requires c =
-    let b = c.in-Shorts.bytes.now in
-    omega (arith, subst (λ (ns : List ℕ). c.args.place < length ns) (sym c.self.view_is ∙ ap numbers_in c.in-Shorts.is) c.requires, length-ushorts_at b 0 (length b / 2))
+    omega (arith, subst (λ (ns : List ℕ). c.args.place < length ns) (sym c.self.view_is ∙ ap numbers_in c.in-Shorts.is) c.requires, length-ushorts_at c.in-Shorts.bytes.now 0 (length c.in-Shorts.bytes.now / 2))
 
 pub returns-in-Shorts : goal.returns-in-Shorts
 returns-in-Shorts c =

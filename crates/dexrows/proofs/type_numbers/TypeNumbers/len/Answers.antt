@@ -4,5 +4,4 @@ use Rattle.dexrows.proofs.type_numbers.TypeNumbers.len.Goals as goal
 
 pub returns-in-Shorts : goal.returns-in-Shorts
 returns-in-Shorts c =
-    let b = c.in-Shorts.bytes.now in
-    sym (length-ushorts_at b 0 (length b / 2)) ∙ ap length (sym (ap numbers_in c.in-Shorts.is) ∙ c.self.view_is)
+    sym (length-ushorts_at c.in-Shorts.bytes.now 0 (length c.in-Shorts.bytes.now / 2)) ∙ ap length (sym (ap numbers_in c.in-Shorts.is) ∙ c.self.view_is)

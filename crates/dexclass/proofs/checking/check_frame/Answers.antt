@@ -11,7 +11,5 @@ returns-in_err-check_classes-clause-refused c =
 
 pub returns-in-Ok-clause-accepted : goal.returns-in-Ok-clause-accepted
 returns-in-Ok-clause-accepted c =
-    let b = c.args.frame.now in
-    let whole = c.in-Ok.ensures.accepted in
-    let light : 1024 + mentions_weight c.in_ok-pools.pools + c.in_ok-bodies.bodies ≤ most_weight = omega (arith, whole.weight_is, whole.light, ap mentions_weight c.numbering.ensures) in
-    subst (IsCheckedAs b) (sym c.size.ensures) (all_checked b c.in_ok-pools.pools c.in_ok-pools.ensures.rows c.in_ok-check_classes.ensures.accepted c.in_ok-bodies.bodies c.in_ok-bodies.ensures.accepted light)
+    let light : 1024 + mentions_weight c.in_ok-pools.pools + c.in_ok-bodies.bodies ≤ most_weight = omega (arith, c.in-Ok.ensures.accepted.weight_is, c.in-Ok.ensures.accepted.light, ap mentions_weight c.numbering.ensures) in
+    subst (IsCheckedAs c.args.frame.now) (sym c.size.ensures) (all_checked c.args.frame.now c.in_ok-pools.pools c.in_ok-pools.ensures.rows c.in_ok-check_classes.ensures.accepted c.in_ok-bodies.bodies c.in_ok-bodies.ensures.accepted light)

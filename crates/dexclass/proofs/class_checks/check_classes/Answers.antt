@@ -5,11 +5,10 @@ use Rattle.dexclass.proofs.class_checks.check_classes.Goals as goal
 
 pub loop-r-preserved : goal.loop-r-preserved
 loop-r-preserved c =
-    let b = c.args.frame.now in
     let r = c.loop-r.r in
     record {
-      marks = c.mark.ensures b r c.at-row.ensures.class_is c.loop-r.invariant.marks;
-      rows = below_more (HasClass b) r c.loop-r.invariant.rows ((c.if-not-holds.ensures r (subst (AreDefinedMarks b r) (sym c.deref-in-loop-r.ensures.value) c.loop-r.invariant.marks) c.at-row.ensures).0 refl);
+      marks = c.mark.ensures c.args.frame.now r c.at-row.ensures.class_is c.loop-r.invariant.marks;
+      rows = below_more (HasClass c.args.frame.now) r c.loop-r.invariant.rows ((c.if-not-holds.ensures r (subst (AreDefinedMarks c.args.frame.now r) (sym c.deref-in-loop-r.ensures.value) c.loop-r.invariant.marks) c.at-row.ensures).0 refl);
     }
 
 pub returns-clause-accepted : goal.returns-clause-accepted

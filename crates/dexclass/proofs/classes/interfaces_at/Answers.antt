@@ -10,9 +10,8 @@ u16_at-requires c = omega (arith, ap length c.rest-list.ensures ∙ length-drop 
 
 pub loop-k-preserved : goal.loop-k-preserved
 loop-k-preserved c =
-    let b = c.args.frame.now in
-    appended_more [] c.loop-k.interfaces.items c.push.new.self.items b (c.args.off + 4) c.loop-k.k _ c.loop-k.invariant c.in_ok-push.ensures.items
-    (index_is b c.rest-list.result.now c.args.off c.loop-k.k _ _ c.from.ensures c.u16_at.ensures c.rest-list.ensures)
+    appended_more [] c.loop-k.interfaces.items c.push.new.self.items c.args.frame.now (c.args.off + 4) c.loop-k.k _ c.loop-k.invariant c.in_ok-push.ensures.items
+    (index_is c.args.frame.now c.rest-list.result.now c.args.off c.loop-k.k _ _ c.from.ensures c.u16_at.ensures c.rest-list.ensures)
 
 pub returns : goal.returns
 returns c =

@@ -24,14 +24,12 @@ arrange-requires-clause-distinct c =
 
 pub returns-clause-order : goal.returns-clause-order
 returns-clause-order c =
-    let cs = c.args.classes.now.items in
     on_ok_weaker c.arrange.result (λ is m named are.
-    ordered_are m cs named c.args.depths.now _ c.in_ok-order.order.items (names_are (goal.at.returns-clause-order c).In_ok-order) c.in_ok-order.ensures.classes c.in_ok-order.ensures.rises
-    are c.arrange.new.elements.items (is no_class ∙ ap (map (λ (i : ℕ). slice_index_or cs i no_class)) c.deref-3.ensures.value)) c.arrange.ensures
+    ordered_are m c.args.classes.now.items named c.args.depths.now _ c.in_ok-order.order.items (names_are (goal.at.returns-clause-order c).In_ok-order) c.in_ok-order.ensures.classes c.in_ok-order.ensures.rises
+    are c.arrange.new.elements.items (is no_class ∙ ap (map (λ (i : ℕ). slice_index_or c.args.classes.now.items i no_class)) c.deref-3.ensures.value)) c.arrange.ensures
 
 pub returns-clause-members : goal.returns-clause-members
 returns-clause-members c =
-    let cs = c.args.classes.now.items in
     on_ok_weaker c.arrange.result (λ is.
-    arranged_among c.requires.numbering.0 cs c.requires.numbering.1 c.args.depths.now _ c.in_ok-order.order.items (names_are (goal.at.returns-clause-members c).In_ok-order) c.in_ok-order.ensures.classes c.in_ok-order.ensures.rises
-    c.arrange.new.elements.items (is no_class ∙ ap (map (λ (i : ℕ). slice_index_or cs i no_class)) c.deref-3.ensures.value)) c.arrange.ensures
+    arranged_among c.requires.numbering.0 c.args.classes.now.items c.requires.numbering.1 c.args.depths.now _ c.in_ok-order.order.items (names_are (goal.at.returns-clause-members c).In_ok-order) c.in_ok-order.ensures.classes c.in_ok-order.ensures.rises
+    c.arrange.new.elements.items (is no_class ∙ ap (map (λ (i : ℕ). slice_index_or c.args.classes.now.items i no_class)) c.deref-3.ensures.value)) c.arrange.ensures

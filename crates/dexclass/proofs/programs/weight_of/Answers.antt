@@ -5,7 +5,5 @@ use Rattle.dexclass.proofs.programs.weight_of.Goals as goal
 
 pub returns : goal.returns
 returns c =
-    let m = c.args.numbering.now in
-    let cs = c.args.classes.now in
-    c.loop-class.invariant ∙ ap (λ (l : List NumberedClass). min (2 ^ 64 - 1) (1024 + mentions_weight m + sum_by (λ (x : NumberedClass). body_weight (definition_of m x).1) l)) (take_all c.loop-class.class-index cs c.loop-class-test.false)
-    ∙ ap (min (2 ^ 64 - 1)) (sym (weight_parts m cs c.requires.mentions))
+    c.loop-class.invariant ∙ ap (λ (l : List NumberedClass). min (2 ^ 64 - 1) (1024 + mentions_weight c.args.numbering.now + sum_by (λ (x : NumberedClass). body_weight (definition_of c.args.numbering.now x).1) l)) (take_all c.loop-class.class-index c.args.classes.now c.loop-class-test.false)
+    ∙ ap (min (2 ^ 64 - 1)) (sym (weight_parts c.args.numbering.now c.args.classes.now c.requires.mentions))

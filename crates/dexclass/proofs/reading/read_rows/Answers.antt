@@ -19,9 +19,8 @@ returns-in_err-total-clause-refused c =
 
 pub weighing-requires-clause-mergeable : goal.weighing-requires-clause-mergeable
 weighing-requires-clause-mergeable c =
-    let read = c.in_ok-classes.ensures.accepted in
-    mergeable c.args.frame.now c.requires.before (map (definition_of c.args.pools) c.in_ok-classes.field-0.classes.items) read.readable read.rows c.in_ok-numbering.numbering c.into_trimmed.new.classes.items
-    (trimmed (goal.at.weighing-requires-clause-mergeable c).In_ok-numbering) c.in_ok-classes.field-0.weight c.in_ok-total.total read.weight_is c.in_ok-total.ensures.accepted
+    mergeable c.args.frame.now c.requires.before (map (definition_of c.args.pools) c.in_ok-classes.field-0.classes.items) c.in_ok-classes.ensures.accepted.readable c.in_ok-classes.ensures.accepted.rows c.in_ok-numbering.numbering c.into_trimmed.new.classes.items
+    (trimmed (goal.at.weighing-requires-clause-mergeable c).In_ok-numbering) c.in_ok-classes.field-0.weight c.in_ok-total.total c.in_ok-classes.ensures.accepted.weight_is c.in_ok-total.ensures.accepted
     (λ K. c.denoted_is_good.ensures.good c.args.frame.now K c.requires.bytes) (λ K. c.denoted_is_good.ensures.formed c.args.frame.now K c.requires.bytes)
 
 pub weighing-requires-clause-total : goal.weighing-requires-clause-total
@@ -31,6 +30,5 @@ weighing-requires-clause-total c =
 
 pub returns-clause-accepted : goal.returns-clause-accepted
 returns-clause-accepted c =
-    let read = c.in_ok-classes.ensures.accepted in
-    read_as c.args.frame.now c.requires.before (map (definition_of c.args.pools) c.in_ok-classes.field-0.classes.items) read.readable read.rows c.in_ok-numbering.numbering c.into_trimmed.new.classes.items
-    (trimmed (goal.at.returns-clause-accepted c).In_ok-numbering) c.in_ok-classes.field-0.weight c.in_ok-total.total read.weight_is c.in_ok-total.ensures.accepted c.in_ok-weighing.field-0 c.in_ok-weighing.ensures
+    read_as c.args.frame.now c.requires.before (map (definition_of c.args.pools) c.in_ok-classes.field-0.classes.items) c.in_ok-classes.ensures.accepted.readable c.in_ok-classes.ensures.accepted.rows c.in_ok-numbering.numbering c.into_trimmed.new.classes.items
+    (trimmed (goal.at.returns-clause-accepted c).In_ok-numbering) c.in_ok-classes.field-0.weight c.in_ok-total.total c.in_ok-classes.ensures.accepted.weight_is c.in_ok-total.ensures.accepted c.in_ok-weighing.field-0 c.in_ok-weighing.ensures

@@ -17,10 +17,9 @@ into_trimmed-requires c =
 -- the classes as they are trimmed
 trimmed : (c : In_ok-trimmed) → AreTrimmed (strip (in_class_order (definitions c.args.program))) c.in_ok-trimmed.trimmed c.into_trimmed.new.classes.items
 trimmed c =
-    let old = c.strip_all.new.classes.items in
     subst (λ D. AreTrimmed D c.in_ok-trimmed.trimmed c.into_trimmed.new.classes.items)
-    (all_stripped c.args.program c.into_parts-numbering.result.1.items c.into_parts-numbering.ensures.classes (λ n x. class_stripped n x (c.members_stripped_law.ensures.same n x.members)) old c.strip_all.ensures)
-    (subst (λ n. AreTrimmed (map (definition_of n) old) c.in_ok-trimmed.trimmed c.into_trimmed.new.classes.items) c.into_parts-numbering.ensures.numbering c.in_ok-trimmed.ensures)
+    (all_stripped c.args.program c.into_parts-numbering.result.1.items c.into_parts-numbering.ensures.classes (λ n x. class_stripped n x (c.members_stripped_law.ensures.same n x.members)) c.strip_all.new.classes.items c.strip_all.ensures)
+    (subst (λ n. AreTrimmed (map (definition_of n) c.strip_all.new.classes.items) c.in_ok-trimmed.trimmed c.into_trimmed.new.classes.items) c.into_parts-numbering.ensures.numbering c.in_ok-trimmed.ensures)
 
 pub of-requires : goal.of-requires
 of-requires c =
@@ -29,5 +28,4 @@ of-requires c =
 
 pub returns : goal.returns
 returns c =
-    let K = c.args.program in
-    if_ok_map _ _ c.of.result (λ L is. stripped_collection K c.in_ok-trimmed.trimmed c.into_trimmed.new.classes.items (trimmed (goal.at.returns c).In_ok-trimmed) (c.strip_collection_law.ensures.listed (in_class_order (definitions K)) K) L is) c.of.ensures
+    if_ok_map _ _ c.of.result (λ L is. stripped_collection c.args.program c.in_ok-trimmed.trimmed c.into_trimmed.new.classes.items (trimmed (goal.at.returns c).In_ok-trimmed) (c.strip_collection_law.ensures.listed (in_class_order (definitions c.args.program)) c.args.program) L is) c.of.ensures

@@ -12,8 +12,7 @@ marks_of c = subst (λ (cs : List NumberedClass). MarkClasses c.args.numbering c
 -- each number that occurs has an image
 mapped : (c : In_ok-trimmed) → (r : Maps) → MapsMarked c.in_ok-marks.marks r → All (IsMappedClass r) c.args.classes.now.items
 mapped c r =
-    let m = c.args.numbering in
-    all_map_to m c.args.classes.now.items c.requires (λ class. c.uses_law.ensures.uses m class c.is_numbering.ensures.rising) c.in_ok-marks.marks (marks_of c).uses_marked r
+    all_map_to c.args.numbering c.args.classes.now.items c.requires (λ class. c.uses_law.ensures.uses c.args.numbering class c.is_numbering.ensures.rising) c.in_ok-marks.marks (marks_of c).uses_marked r
 
 pub into_kept-requires : goal.into_kept-requires
 into_kept-requires c = c.in_ok-marks.ensures.count

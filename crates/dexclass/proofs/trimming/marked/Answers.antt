@@ -19,11 +19,9 @@ loop-class-preserved c = record {
 
 pub returns : goal.returns
 returns c =
-    let m = c.args.numbering.now in
-    let cs = c.args.classes.now in
-    let all = subst (λ (l : List NumberedClass). HaveMarked (flat_map class_uses l) c.loop-class.marks) (take_all c.loop-class.class-index cs c.loop-class-test.false) c.loop-class.invariant.marked in
+    let all = subst (λ (l : List NumberedClass). HaveMarked (flat_map class_uses l) c.loop-class.marks) (take_all c.loop-class.class-index c.args.classes.now c.loop-class-test.false) c.loop-class.invariant.marked in
     record {
       count = c.loop-class.invariant.count;
       uses_marked = all;
-      mentioned = marked_mentions m cs c.requires (λ class. c.uses_law.ensures.uses m class c.is_numbering.ensures.rising) c.loop-class.marks all;
+      mentioned = marked_mentions c.args.numbering.now c.args.classes.now c.requires (λ class. c.uses_law.ensures.uses c.args.numbering.now class c.is_numbering.ensures.rising) c.loop-class.marks all;
     }

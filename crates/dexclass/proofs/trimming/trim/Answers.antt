@@ -12,8 +12,7 @@ marks_of c = subst (λ (cs : List NumberedClass). MarkClasses c.args.numbering.n
 -- each number that occurs has an image
 mapped : (c : In_ok-trimmed) → All (IsMappedClass c.in_ok-trimmed.remap) c.args.classes.now.items
 mapped c =
-    let m = c.args.numbering.now in
-    all_map_to m c.args.classes.now.items c.requires (λ class. c.uses_law.ensures.uses m class c.is_numbering.ensures.rising) c.in_ok-marks.marks (marks_of c).uses_marked c.in_ok-trimmed.remap c.in_ok-trimmed.ensures.marked
+    all_map_to c.args.numbering.now c.args.classes.now.items c.requires (λ class. c.uses_law.ensures.uses c.args.numbering.now class c.is_numbering.ensures.rising) c.in_ok-marks.marks (marks_of c).uses_marked c.in_ok-trimmed.remap c.in_ok-trimmed.ensures.marked
 
 pub keep-requires : goal.keep-requires
 keep-requires c = c.in_ok-marks.ensures.count

@@ -8,6 +8,5 @@ are_same-requires-clause-second c = kept_within c.args.candidates.now c.args.pla
 
 pub returns-in-Some : goal.returns-in-Some
 returns-in-Some c =
-    let cs = c.args.candidates.now in
-    let name : c.name.result ≡ name_number (classes_of cs) c.args.i = c.name.ensures ∙ name_at_place cs c.args.i c.index-candidates-i.result c.requires.within c.index-candidates-i.is in
-    equivalent_by (classes_of cs) c.args.places.now c.args.i c.in-Some.kept (IsTrue c.are_same.result) (ap (λ (k : ℕ). get_or c.args.places.now k None) (sym name) ∙ sym c.class_of_type.ensures ∙ c.in-Some.is) c.are_same.ensures
+    let name : c.name.result ≡ name_number (classes_of c.args.candidates.now) c.args.i = c.name.ensures ∙ name_at_place c.args.candidates.now c.args.i c.index-candidates-i.result c.requires.within c.index-candidates-i.is in
+    equivalent_by (classes_of c.args.candidates.now) c.args.places.now c.args.i c.in-Some.kept (IsTrue c.are_same.result) (ap (λ (k : ℕ). get_or c.args.places.now k None) (sym name) ∙ sym c.class_of_type.ensures ∙ c.in-Some.is) c.are_same.ensures

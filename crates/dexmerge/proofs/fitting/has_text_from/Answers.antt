@@ -5,5 +5,4 @@ use Rattle.dexmerge.proofs.fitting.has_text_from.Goals as goal
 
 pub returns-then-not-has_more : goal.returns-then-not-has_more
 returns-then-not-has_more c =
-    let m = c.args.numbering.now in
-    sym (few_texts m (classes_of c.args.classes.now) c.args.cap c.requires.known (ltb-false c.args.cap (length m.texts) (sym c.has_more.ensures ∙ c.if-not-has_more.true)))
+    sym (few_texts c.args.numbering.now (classes_of c.args.classes.now) c.args.cap c.requires.known (ltb-false c.args.cap (length c.args.numbering.now.texts) (sym c.has_more.ensures ∙ c.if-not-has_more.true)))

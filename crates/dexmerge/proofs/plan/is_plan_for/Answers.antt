@@ -7,7 +7,6 @@ use Rattle.dexmerge.proofs.plan.is_plan_for.Goals as goal
 pub returns : goal.returns
 returns c =
     let p = plan_of c.args.plan.now in
-    let marks = c.mark_files.new.is_named.items in
     let old : c.in_ok-is_named.is_named.items ≡ replicate c.args.files false = c.in_ok-is_named.ensures.items_if_clones_equal (λ y e. e) in
-    checked_by p c.args.files marks (subst (λ (l : List Bool). IsMarkedBy p 64 l marks) old c.if-not-mark_files.ensures.checked) (c.mark_files.ensures.count ∙ ap length old) c.are_all_named.result
+    checked_by p c.args.files c.mark_files.new.is_named.items (subst (λ (l : List Bool). IsMarkedBy p 64 l c.mark_files.new.is_named.items) old c.if-not-mark_files.ensures.checked) (c.mark_files.ensures.count ∙ ap length old) c.are_all_named.result
     (subst (λ (l : List Bool). MatchBool c.are_all_named.result ((i : ℕ) → i < length l → IsNamed l i) (HasUnnamed l)) c.deref.ensures.value c.are_all_named.ensures)

@@ -14,18 +14,15 @@ file-requires t c = (subst (AreKnown c.args.files.now) (leaf_is c.args.plan.now 
 
 pub returns-in-Leaf-clause-fault : goal.returns-in-Leaf-clause-fault
 returns-in-Leaf-clause-fault t c =
-    let files = c.args.files.now in
-    IfErr-weaker c.merge_leaf.result _ _ (λ f h. subst (λ (p : merging.Plan). Reports (IsCauseOf c.args.caps.now files p) f) (sym (leaf_is c.args.plan.now c.in-Leaf.number c.in-Leaf.is))
-    (first_reports files c.args.caps.now (merging.Leaf c.in-Leaf.number) f (subst (λ (D : List Definition). Reports (IsFirstCause c.args.caps.now D) f) (sym (ap (λ (l : List Definition). l ++ []) (sym c.file.ensures))) h))) c.merge_leaf.ensures.fault
+    IfErr-weaker c.merge_leaf.result _ _ (λ f h. subst (λ (p : merging.Plan). Reports (IsCauseOf c.args.caps.now c.args.files.now p) f) (sym (leaf_is c.args.plan.now c.in-Leaf.number c.in-Leaf.is))
+    (first_reports c.args.files.now c.args.caps.now (merging.Leaf c.in-Leaf.number) f (subst (λ (D : List Definition). Reports (IsFirstCause c.args.caps.now D) f) (sym (ap (λ (l : List Definition). l ++ []) (sym c.file.ensures))) h))) c.merge_leaf.ensures.fault
 
 pub loop-part-preserved-in-Leaf-part : goal.loop-part-preserved-in-Leaf-part
 loop-part-preserved-in-Leaf-part t c =
-    let files = c.args.files.now in
-    let parts = c.deref-part-items.result.now in
-    let ps = map plan_of (take c.loop-part.part-index parts) in
-    let all : nodes_in (map plan_of (take (c.loop-part.part-index + 1) parts)) ≡ nodes_in ps =
-    ap nodes_in (parts_more parts c.loop-part.part-index c.part-item.result c.loop-part-test.true c.part-item.is) ∙ ap (λ (p : merging.Plan). nodes_in (ps ++ p ∷ [])) (leaf_is c.part-item.result _ c.in-Leaf-part.is) ∙ leaf_no_node files ps _ in
-    subst (λ (l : List merging.Plan). AreSame (flat_map definitions c.loop-part.inner.items) (of_plans files l)) (sym all) c.loop-part.invariant
+    let ps = map plan_of (take c.loop-part.part-index c.deref-part-items.result.now) in
+    let all : nodes_in (map plan_of (take (c.loop-part.part-index + 1) c.deref-part-items.result.now)) ≡ nodes_in ps =
+    ap nodes_in (parts_more c.deref-part-items.result.now c.loop-part.part-index c.part-item.result c.loop-part-test.true c.part-item.is) ∙ ap (λ (p : merging.Plan). nodes_in (ps ++ p ∷ [])) (leaf_is c.part-item.result _ c.in-Leaf-part.is) ∙ leaf_no_node c.args.files.now ps _ in
+    subst (λ (l : List merging.Plan). AreSame (flat_map definitions c.loop-part.inner.items) (of_plans c.args.files.now l)) (sym all) c.loop-part.invariant
 
 pub merge_parts-requires : goal.merge_parts-requires
 merge_parts-requires t c =

@@ -23,7 +23,6 @@ returns-in-Some-clause-fault c = λ caps D h.
 pub returns-clause-kept : goal.returns-clause-kept
 returns-clause-kept c = λ D h.
     let cs = classes_of c.args.candidates.now in
-    let places = c.in_ok-places.places.items in
-    let equivalent : (i : ℕ) → i < length cs → IsEqualCopy cs places i = λ i lt. subst (λ (l : List (Option ℕ)). IsEqualCopy cs l i) c.deref.ensures.value (c.in-None.ensures i (omega (arith, lt, count_classes c.args.candidates.now))) in
-    let are : classes_of c.in_ok-kept-in-None.field-0.items ≡ kept_classes cs places = c.in_ok-kept-in-None.ensures.kept ∙ ap (kept_classes cs) c.deref-in-None.ensures.value in
-    copies_once c.args.numbering.now D c.args.candidates.now h places (places_of c.args.candidates.now c.in_ok-places.places.items c.in_ok-places.ensures.classes) c.in_ok-kept-in-None.field-0.items are c.in_ok-kept-in-None.ensures.within equivalent
+    let equivalent : (i : ℕ) → i < length cs → IsEqualCopy cs c.in_ok-places.places.items i = λ i lt. subst (λ (l : List (Option ℕ)). IsEqualCopy cs l i) c.deref.ensures.value (c.in-None.ensures i (omega (arith, lt, count_classes c.args.candidates.now))) in
+    let are : classes_of c.in_ok-kept-in-None.field-0.items ≡ kept_classes cs c.in_ok-places.places.items = c.in_ok-kept-in-None.ensures.kept ∙ ap (kept_classes cs) c.deref-in-None.ensures.value in
+    copies_once c.args.numbering.now D c.args.candidates.now h c.in_ok-places.places.items (places_of c.args.candidates.now c.in_ok-places.places.items c.in_ok-places.ensures.classes) c.in_ok-kept-in-None.field-0.items are c.in_ok-kept-in-None.ensures.within equivalent

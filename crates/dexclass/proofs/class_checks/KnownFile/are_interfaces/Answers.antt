@@ -10,8 +10,7 @@ returns-then-not-is_interface c = λ r marks. (λ e. absurd (false≢true e), λ
 
 pub loop-k-preserved : goal.loop-k-preserved
 loop-k-preserved c = λ r marks.
-    let b = c.args.self.now.frame.now in
-    interface_more b r (c.args.off + 4) c.loop-k.k _ (c.loop-k.invariant r marks) (index_is b c.rest-list.result.now c.args.off c.loop-k.k _ _ c.from-index.ensures c.u16_at.ensures c.rest-list.ensures) ((c.if-not-is_interface.ensures r marks).0 refl)
+    interface_more c.args.self.now.frame.now r (c.args.off + 4) c.loop-k.k _ (c.loop-k.invariant r marks) (index_is c.args.self.now.frame.now c.rest-list.result.now c.args.off c.loop-k.k _ _ c.from-index.ensures c.u16_at.ensures c.rest-list.ensures) ((c.if-not-is_interface.ensures r marks).0 refl)
 
 pub returns : goal.returns
 returns c = λ r marks. (λ e. all_indices c.args.self.now.frame.now c.args.off c.args.count c.requires.room (IsInterfaceIndex c.args.self.now.frame.now r) (λ k lt. c.loop-k.invariant r marks k (omega (arith, lt, c.loop-k-test.false))), λ all. refl)

@@ -20,9 +20,8 @@ returns-then-not-has_parent_before c = λ r seen is. (λ e. absurd (false≢true
 
 pub returns : goal.returns
 returns c = λ r seen is.
-    let b = c.args.self.now.frame.now in
     let row = c.args.row.now in (
-      λ e. has_class b r row is c.args.seen.now seen (c.if-not-is_class.ensures.0 refl) c.if-seen-row.false (c.if-not-is_parent.ensures.0 refl) (c.if-not-is_source.ensures.0 refl)
+      λ e. has_class c.args.self.now.frame.now r row is c.args.seen.now seen (c.if-not-is_class.ensures.0 refl) c.if-seen-row.false (c.if-not-is_parent.ensures.0 refl) (c.if-not-is_source.ensures.0 refl)
           ((c.if-not-has_parent_before.ensures r seen).0 refl) ((c.has_interfaces.ensures r seen).0 e),
-      λ h. (c.has_interfaces.ensures r seen).1 (interfaces_of b r row is h),
+      λ h. (c.has_interfaces.ensures r seen).1 (interfaces_of c.args.self.now.frame.now r row is h),
     )

@@ -6,6 +6,4 @@ use Rattle.dexclass.proofs.classes.Class.cut.Goals as goal
 
 pub renumber-requires : goal.renumber-requires
 renumber-requires c =
-    let r = c.args.remap.now in
-    let x = c.args.self.now in
-    c.members_cut_law.ensures r x.members c.requires.down (subst (λ (y : NumberedClass). NumbersFit y.members) c.self.view_is c.numbers_fit.ensures) (members_mapped r x c.requires.remapped)
+    c.members_cut_law.ensures c.args.remap.now c.args.self.now.members c.requires.down (subst (λ (y : NumberedClass). NumbersFit y.members) c.self.view_is c.numbers_fit.ensures) (members_mapped c.args.remap.now c.args.self.now c.requires.remapped)

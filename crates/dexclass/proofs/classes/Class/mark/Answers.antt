@@ -13,15 +13,13 @@ mark-requires c = All-head (HasMark c.args.marks.now) (type_use c.self.inside.na
 
 pub mark_optional_type-requires : goal.mark_optional_type-requires
 mark_optional_type-requires c =
-    let s = c.self.inside in
-    all_prefix (HasMark c.mark.new.self) (map type_use (option_to_list s.superclass)) _ (rest_marked (type_use s.name ∷ []) _ c.args.marks.now _ c.mark.ensures (has_all c.args.marks.now _ _ c.self.view_is c.requires))
+    all_prefix (HasMark c.mark.new.self) (map type_use (option_to_list c.self.inside.superclass)) _ (rest_marked (type_use c.self.inside.name ∷ []) _ c.args.marks.now _ c.mark.ensures (has_all c.args.marks.now _ _ c.self.view_is c.requires))
 
 pub mark_types-requires : goal.mark_types-requires
 mark_types-requires c =
-    let s = c.self.inside in
     subst (λ (l : List ℕ). All (HasMark c.mark_optional_type.new.marks) (map type_use l)) (sym c.deref.ensures.value)
-    (all_prefix (HasMark c.mark_optional_type.new.marks) (map type_use s.interfaces.items) _ (rest_marked (map type_use (option_to_list s.superclass)) _ c.mark.new.self _ c.mark_optional_type.ensures
-    (rest_marked (type_use s.name ∷ []) _ c.args.marks.now _ c.mark.ensures (has_all c.args.marks.now _ _ c.self.view_is c.requires))))
+    (all_prefix (HasMark c.mark_optional_type.new.marks) (map type_use c.self.inside.interfaces.items) _ (rest_marked (map type_use (option_to_list c.self.inside.superclass)) _ c.mark.new.self _ c.mark_optional_type.ensures
+    (rest_marked (type_use c.self.inside.name ∷ []) _ c.args.marks.now _ c.mark.ensures (has_all c.args.marks.now _ _ c.self.view_is c.requires))))
 
 pub mark_optional_text-requires : goal.mark_optional_text-requires
 mark_optional_text-requires c =

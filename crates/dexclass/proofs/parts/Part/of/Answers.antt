@@ -5,5 +5,4 @@ use Rattle.dexclass.proofs.parts.Part.of.Goals as goal
 
 pub invariant_of-result : goal.invariant_of-result
 invariant_of-result c =
-    let K = c.args.program.now in
-    program_mergeable K c.in_ok-copy.field-0 c.in_ok-copied.field-0.items (c.in_ok-copy.ensures ∙ c.numbering.ensures) (subst (AreClassesOf K) (sym c.in_ok-copied.ensures) c.classes-classes.ensures) c.is_good.ensures.good c.is_good.ensures.formed
+    program_mergeable c.args.program.now c.in_ok-copy.field-0 c.in_ok-copied.field-0.items (c.in_ok-copy.ensures ∙ c.numbering.ensures) (subst (AreClassesOf c.args.program.now) (sym c.in_ok-copied.ensures) c.classes-classes.ensures) c.is_good.ensures.good c.is_good.ensures.formed

@@ -10,32 +10,25 @@ all_of parts = flat_map (λ part. part) parts
 
 pub loop-alloc-init : goal.loop-alloc-init
 loop-alloc-init c =
-    let m = c.self.inside.numbering in
-    let cs = c.self.inside.classes.items in
     record {
-      joined = ap (λ parts. all_of parts ++ map (definition_of m) cs) c.new-parts.ensures.items ∙ c.self.view_is;
-      good = all_good m cs c.self.invariant c.is_numbering.ensures;
+      joined = ap (λ parts. all_of parts ++ map (definition_of c.self.inside.numbering) c.self.inside.classes.items) c.new-parts.ensures.items ∙ c.self.view_is;
+      good = all_good c.self.inside.numbering c.self.inside.classes.items c.self.invariant c.is_numbering.ensures;
       short = subst (All (λ (part : List Definition). length part ≤ c.args.size)) (sym c.new-parts.ensures.items) (All-nil (λ (part : List Definition). length part ≤ c.args.size));
     }
 
 pub trimmed-requires : goal.trimmed-requires
 trimmed-requires c =
-    let m = c.self.inside.numbering in
-    subst (AreGoodClasses m) (sym c.in_ok-others.ensures.items) (prefix_good m c.loop-alloc.classes.items c.loop-alloc.invariant.good c.min.result)
+    subst (AreGoodClasses c.self.inside.numbering) (sym c.in_ok-others.ensures.items) (prefix_good c.self.inside.numbering c.loop-alloc.classes.items c.loop-alloc.invariant.good c.min.result)
 
 pub loop-alloc-preserved : goal.loop-alloc-preserved
 loop-alloc-preserved c =
-    let m = c.self.inside.numbering in
-    let f = definition_of m in
-    let cs = c.loop-alloc.classes.items in
-    let n = c.min.result in
-    let parts = c.loop-alloc.parts.items in
+    let f = definition_of c.self.inside.numbering in
     let part = c.in_ok-trimmed.field-0 in
     let front = c.split_off.new.self.items in
     let back = c.in_ok-others.others.items in
-    let fits : length part ≤ c.args.size = omega (arith, ap (λ (l : List Definition). length l) c.in_ok-trimmed.ensures, length-map front f, ap (λ l. length l) c.in_ok-others.ensures.items, length-take n cs, c.min.ensures) in
+    let fits : length part ≤ c.args.size = omega (arith, ap (λ (l : List Definition). length l) c.in_ok-trimmed.ensures, length-map front f, ap (λ l. length l) c.in_ok-others.ensures.items, length-take c.min.result c.loop-alloc.classes.items, c.min.ensures) in
     record {
-      joined = ap (λ ps. all_of ps ++ map f back) c.in_ok-push.ensures.items ∙ one_more_part f parts part cs front back n c.args.self c.loop-alloc.invariant.joined c.in_ok-others.ensures.items c.in_ok-others.ensures.tail c.in_ok-trimmed.ensures;
-      good = subst (AreGoodClasses m) (sym c.in_ok-others.ensures.tail) (back_good m cs c.loop-alloc.invariant.good n);
-      short = subst (All (λ (l : List Definition). length l ≤ c.args.size)) (sym c.in_ok-push.ensures.items) (All-push (λ (l : List Definition). length l ≤ c.args.size) parts part c.loop-alloc.invariant.short fits);
+      joined = ap (λ ps. all_of ps ++ map f back) c.in_ok-push.ensures.items ∙ one_more_part f c.loop-alloc.parts.items part c.loop-alloc.classes.items front back c.min.result c.args.self c.loop-alloc.invariant.joined c.in_ok-others.ensures.items c.in_ok-others.ensures.tail c.in_ok-trimmed.ensures;
+      good = subst (AreGoodClasses c.self.inside.numbering) (sym c.in_ok-others.ensures.tail) (back_good c.self.inside.numbering c.loop-alloc.classes.items c.loop-alloc.invariant.good c.min.result);
+      short = subst (All (λ (l : List Definition). length l ≤ c.args.size)) (sym c.in_ok-push.ensures.items) (All-push (λ (l : List Definition). length l ≤ c.args.size) c.loop-alloc.parts.items part c.loop-alloc.invariant.short fits);
     }

@@ -11,14 +11,11 @@ put_in_order-requires-clause-count c = c.requires.depths.count ∙ length-map c.
 
 pub invariant_of-result : goal.invariant_of-result
 invariant_of-result c =
-    let m = c.args.numbering in
     let cs = c.args.classes.items in
     let h = c.requires.mergeable in
-    program_is m cs h c.is_numbering.ensures c.put_in_order.new.classes.items c.in_ok-put_in_order.ensures.members (c.in_ok-put_in_order.ensures.order m (named m cs h c.is_numbering.ensures) c.requires.depths) c.args.total c.requires.total
+    program_is c.args.numbering cs h c.is_numbering.ensures c.put_in_order.new.classes.items c.in_ok-put_in_order.ensures.members (c.in_ok-put_in_order.ensures.order c.args.numbering (named c.args.numbering cs h c.is_numbering.ensures) c.requires.depths) c.args.total c.requires.total
 
 pub returns : goal.returns
 returns c =
-    let m = c.args.numbering in
-    let cs = c.args.classes.items in
     let h = c.requires.mergeable in
-    collection_is m cs h c.is_numbering.ensures c.put_in_order.new.classes.items c.in_ok-put_in_order.ensures.members (c.in_ok-put_in_order.ensures.order m (named m cs h c.is_numbering.ensures) c.requires.depths)
+    collection_is c.args.numbering c.args.classes.items h c.is_numbering.ensures c.put_in_order.new.classes.items c.in_ok-put_in_order.ensures.members (c.in_ok-put_in_order.ensures.order c.args.numbering (named c.args.numbering c.args.classes.items h c.is_numbering.ensures) c.requires.depths)

@@ -5,10 +5,8 @@ use Rattle.dexclass.proofs.programs.Program.class.Goals as goal
 
 pub index-requires : goal.index-requires
 index-requires c =
-    let cs = c.self.inside.classes.items in
-    omega (arith, (classes_count c.args.self.now cs (subst (λ (K : Collection). AreClassesOf K cs) c.self.view_is c.self.invariant.classes_are)))
+    omega (arith, (classes_count c.args.self.now c.self.inside.classes.items (subst (λ (K : Collection). AreClassesOf K c.self.inside.classes.items) c.self.view_is c.self.invariant.classes_are)))
 
 pub returns : goal.returns
 returns c =
-    let cs = c.self.inside.classes.items in
-    class_is_at c.args.self.now cs (subst (λ (K : Collection). AreClassesOf K cs) c.self.view_is c.self.invariant.classes_are) c.args.i c.index.result.now c.requires (sym c.index.ensures)
+    class_is_at c.args.self.now c.self.inside.classes.items (subst (λ (K : Collection). AreClassesOf K c.self.inside.classes.items) c.self.view_is c.self.invariant.classes_are) c.args.i c.index.result.now c.requires (sym c.index.ensures)

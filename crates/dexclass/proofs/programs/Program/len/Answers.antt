@@ -5,5 +5,4 @@ use Rattle.dexclass.proofs.programs.Program.len.Goals as goal
 
 pub returns : goal.returns
 returns c =
-    let cs = c.self.inside.classes.items in
-    omega (arith, (classes_count c.args.self.now cs (subst (λ (K : Collection). AreClassesOf K cs) c.self.view_is c.self.invariant.classes_are)))
+    omega (arith, (classes_count c.args.self.now c.self.inside.classes.items (subst (λ (K : Collection). AreClassesOf K c.self.inside.classes.items) c.self.view_is c.self.invariant.classes_are)))

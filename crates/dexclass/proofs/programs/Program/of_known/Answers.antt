@@ -6,16 +6,13 @@ use Rattle.dexclass.proofs.programs.Program.of_known.Goals as goal
 
 pub known_depths-requires : goal.known_depths-requires
 known_depths-requires c =
-    let m = c.args.numbering in
-    let cs = c.args.classes.items in
-    subst (All (λ (x : NumberedClass). x.name < length c.args.depths.now)) (sym c.deref-2.ensures.value) (known_within m cs (named m cs c.requires.mergeable c.is_numbering.ensures) c.args.depths.now c.requires.depths)
+    subst (All (λ (x : NumberedClass). x.name < length c.args.depths.now)) (sym c.deref-2.ensures.value) (known_within c.args.numbering c.args.classes.items (named c.args.numbering c.args.classes.items c.requires.mergeable c.is_numbering.ensures) c.args.depths.now c.requires.depths)
 
 pub arranged-requires-clause-depths : goal.arranged-requires-clause-depths
 arranged-requires-clause-depths c =
-    let m = c.args.numbering in
     let cs = c.args.classes.items in
     let at : NumberedClass → Option ℕ = λ x. slice_index_or c.args.depths.now x.name None in
-    subst (AreDepthsOf (map (definition_of m) cs)) (sym (c.deref-3.ensures.value ∙ c.in_ok-known.ensures ∙ ap (map at) c.deref-2.ensures.value)) (known_are m cs (named m cs c.requires.mergeable c.is_numbering.ensures) c.args.depths.now c.requires.depths)
+    subst (AreDepthsOf (map (definition_of c.args.numbering) cs)) (sym (c.deref-3.ensures.value ∙ c.in_ok-known.ensures ∙ ap (map at) c.deref-2.ensures.value)) (known_are c.args.numbering cs (named c.args.numbering cs c.requires.mergeable c.is_numbering.ensures) c.args.depths.now c.requires.depths)
 
 pub arranged-requires-clause-total : goal.arranged-requires-clause-total
 arranged-requires-clause-total c =

@@ -5,14 +5,12 @@ use Rattle.dexclass.proofs.programs.Program.weighing.Goals as goal
 
 pub depths_of-requires : goal.depths_of-requires
 depths_of-requires c =
-    let m = c.args.numbering in
-    (m, sym c.count-types.ensures, subst (AreNamed m) (sym c.deref.ensures.value) (named m c.args.classes.items c.requires.mergeable c.is_numbering.ensures))
+    (c.args.numbering, sym c.count-types.ensures, subst (AreNamed c.args.numbering) (sym c.deref.ensures.value) (named c.args.numbering c.args.classes.items c.requires.mergeable c.is_numbering.ensures))
 
 pub arranged-requires-clause-depths : goal.arranged-requires-clause-depths
 arranged-requires-clause-depths c =
     let m = c.args.numbering in
-    let cs = c.args.classes.items in
-    let found : AreDepthsOf (map (definition_of m) cs) c.in_ok-depths.depths.items =
+    let found : AreDepthsOf (map (definition_of m) c.args.classes.items) c.in_ok-depths.depths.items =
     (subst (λ (l : List NumberedClass). AreNamed m l → IsAcyclic (map (definition_of m) l) → AreDepthsOf (map (definition_of m) l) c.in_ok-depths.depths.items) c.deref.ensures.value (c.in_ok-depths.ensures m))
-    (named m cs c.requires.mergeable c.is_numbering.ensures) c.requires.mergeable.good.acyclic in
-    subst (AreDepthsOf (map (definition_of m) cs)) (sym c.deref-2.ensures.value) found
+    (named m c.args.classes.items c.requires.mergeable c.is_numbering.ensures) c.requires.mergeable.good.acyclic in
+    subst (AreDepthsOf (map (definition_of m) c.args.classes.items)) (sym c.deref-2.ensures.value) found

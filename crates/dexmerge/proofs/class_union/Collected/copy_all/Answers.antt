@@ -30,7 +30,6 @@ loop-class-preserved c =
 
 pub returns-clause-collected : goal.returns-clause-collected
 returns-clause-collected c = λ m D part h.
-    let K = c.args.part.now in
     let ps = c.classes-class-items.result.now in
-    part_done m D K ps c.loop-class.self.classes.items c.loop-class.self.is_name.items c.classes-class-items.ensures
-    (subst (λ (l : List NumberedClass). AreCollected m (D ++ map (definition_of (mentions (definitions K))) l) c.loop-class.self.classes.items c.loop-class.self.is_name.items) (take_all c.loop-class.class-index ps (omega arith)) (c.loop-class.invariant.collected m D part h))
+    part_done m D c.args.part.now ps c.loop-class.self.classes.items c.loop-class.self.is_name.items c.classes-class-items.ensures
+    (subst (λ (l : List NumberedClass). AreCollected m (D ++ map (definition_of (mentions (definitions c.args.part.now))) l) c.loop-class.self.classes.items c.loop-class.self.is_name.items) (take_all c.loop-class.class-index ps (omega arith)) (c.loop-class.invariant.collected m D part h))

@@ -6,18 +6,16 @@ use Rattle.dexmerge.proofs.class_union.Collected.copy_parts.Goals as goal
 
 pub copy_all-requires : goal.copy_all-requires
 copy_all-requires c =
-    let parts = c.args.parts.now in
-    let Ks : List Collection = map (λ part. part.now) parts in
-    let few : c.loop-i.i < length Ks = omega (arith, c.loop-i-test.true, length-map parts (λ part. part.now)) in
-    (c.requires.0, part_is c.requires.0 Ks c.args.remaps.now c.loop-i.i c.index-parts-i.result.now c.index-remaps-i.result c.requires.1 few (part_at parts c.loop-i.i c.index-parts-i.result c.loop-i-test.true c.index-parts-i.is) c.index-remaps-i.is, c.loop-i.invariant.count ∙ c.requires.2)
+    let Ks : List Collection = map (λ part. part.now) c.args.parts.now in
+    let few : c.loop-i.i < length Ks = omega (arith, c.loop-i-test.true, length-map c.args.parts.now (λ part. part.now)) in
+    (c.requires.0, part_is c.requires.0 Ks c.args.remaps.now c.loop-i.i c.index-parts-i.result.now c.index-remaps-i.result c.requires.1 few (part_at c.args.parts.now c.loop-i.i c.index-parts-i.result c.loop-i-test.true c.index-parts-i.is) c.index-remaps-i.is, c.loop-i.invariant.count ∙ c.requires.2)
 
 pub loop-i-preserved : goal.loop-i-preserved
 loop-i-preserved c =
-    let parts = c.args.parts.now in
-    let Ks : List Collection = map (λ part. part.now) parts in
+    let Ks : List Collection = map (λ part. part.now) c.args.parts.now in
     let K = c.index-parts-i.result.now in
-    let few : c.loop-i.i < length Ks = omega (arith, c.loop-i-test.true, length-map parts (λ part. part.now)) in
-    let at : K ≡ get_or Ks c.loop-i.i K = part_at parts c.loop-i.i c.index-parts-i.result c.loop-i-test.true c.index-parts-i.is in
+    let few : c.loop-i.i < length Ks = omega (arith, c.loop-i-test.true, length-map c.args.parts.now (λ part. part.now)) in
+    let at : K ≡ get_or Ks c.loop-i.i K = part_at c.args.parts.now c.loop-i.i c.index-parts-i.result c.loop-i-test.true c.index-parts-i.is in
     record {
       count = c.in_ok-copy_all.ensures.count ∙ c.loop-i.invariant.count;
       collected = λ m D all h. more_parts m D Ks c.loop-i.i K c.copy_all.new.self.classes.items c.copy_all.new.self.is_name.items few at

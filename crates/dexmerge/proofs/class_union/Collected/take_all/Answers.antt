@@ -32,8 +32,7 @@ loop-class-preserved c =
 
 pub returns-clause-collected : goal.returns-clause-collected
 returns-clause-collected c = λ m D part h.
-    let K = c.args.part in
     let ps = c.into_classes-class-items.result.items in
     let t = YieldsList-end (YieldsList-from_vec {s = c.into_iter-class-iterator.result} ps c.into_iter-class-iterator.ensures.into_iter_gives.0 (omega (arith, c.into_iter-class-iterator.ensures.into_iter_gives.1))) c.loop-class.yielded c.loop-class.class-iterator c.loop-class.yielded_by c.next.result c.next.new.self c.in-None.is c.next.ensures.steps in
-    part_done m D K ps c.loop-class.self.classes.items c.loop-class.self.is_name.items c.into_classes-class-items.ensures
-    (subst (λ (l : List NumberedClass). AreCollected m (D ++ map (definition_of (mentions (definitions K))) l) c.loop-class.self.classes.items c.loop-class.self.is_name.items) (sym (map-id c.loop-class.yielded) ∙ t.0) (c.loop-class.invariant.collected m D part h))
+    part_done m D c.args.part ps c.loop-class.self.classes.items c.loop-class.self.is_name.items c.into_classes-class-items.ensures
+    (subst (λ (l : List NumberedClass). AreCollected m (D ++ map (definition_of (mentions (definitions c.args.part))) l) c.loop-class.self.classes.items c.loop-class.self.is_name.items) (sym (map-id c.loop-class.yielded) ∙ t.0) (c.loop-class.invariant.collected m D part h))

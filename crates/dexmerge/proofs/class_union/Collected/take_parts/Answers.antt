@@ -21,13 +21,12 @@ take_all-requires c =
 pub loop-part-preserved : goal.loop-part-preserved
 loop-part-preserved c =
     let Ks : List Collection = c.args.parts.items in
-    let K = c.in-Some.part in
     let p = place (goal.at.loop-part-preserved c).In-Some in
     record {
-      place = omega (arith, c.loop-part.invariant.place, length-append c.loop-part.yielded (K ∷ []));
+      place = omega (arith, c.loop-part.invariant.place, length-append c.loop-part.yielded (c.in-Some.part ∷ []));
       count = c.in_ok-take_all.ensures.count ∙ c.loop-part.invariant.count;
-      collected = λ m D all h. more_parts m D Ks c.loop-part.i K c.take_all.new.self.classes.items c.take_all.new.self.is_name.items p.0 p.1
-          (c.in_ok-take_all.ensures.collected m (D ++ flat_map definitions (take c.loop-part.i Ks)) (part_is m Ks c.args.remaps.now c.loop-part.i K c.index-remaps-i.result all p.0 p.1 c.index-remaps-i.is) (c.loop-part.invariant.collected m D all h));
+      collected = λ m D all h. more_parts m D Ks c.loop-part.i c.in-Some.part c.take_all.new.self.classes.items c.take_all.new.self.is_name.items p.0 p.1
+          (c.in_ok-take_all.ensures.collected m (D ++ flat_map definitions (take c.loop-part.i Ks)) (part_is m Ks c.args.remaps.now c.loop-part.i c.in-Some.part c.index-remaps-i.result all p.0 p.1 c.index-remaps-i.is) (c.loop-part.invariant.collected m D all h));
     }
 
 pub returns-clause-collected : goal.returns-clause-collected

@@ -18,7 +18,8 @@ pub use Rattle.dexspec.proofs.size.SizeItems.{offsets_bytes-size, uleb128-size, 
 pub use Rattle.dexspec.proofs.size.SizeSums.{sum_by-map}
 pub use Rattle.dexspec.proofs.wellformed.FormedRows.{length-uints_at, length-zip}
 pub use Rattle.dexspec.specs.Annotations.{AnnotationAt, AnnotationSet, Directory, DirectoryAt, PairAt, PairsAt, RefListAt, SetAt, fields_count, methods_count, pairs_at, parameters_count}
-pub use Rattle.dexspec.specs.Bytes.{BytesAt, bytes_of, number_of, round_up, signed_in, uint, uint_at, uints_at}
+pub use Rattle.dexspec.specs.Bytes.{BytesAt, round_up, signed_in, uint, uint_at, uints_at}
+unfoldable pub use Rattle.dexspec.specs.Bytes.{bytes_of, number_of}
 pub use Rattle.dexspec.specs.Header.{data_off}
 pub use Rattle.dexspec.specs.Lists.{AreDistinct, OrNone, rank, rises}
 pub use Rattle.dexspec.specs.Mentions.{Mentions, annotation_symbols, elements_symbols, set_symbols, value_symbols, values_symbols}
@@ -42,7 +43,8 @@ pub use Rattle.dexval.specs.Numbered.{Annotated, AreKnown, Array, BooleanLiteral
 pub use Rattle.dexval.specs.Reading.{EncodedValueAt, IsDirectoryAt, IsDirectoryFault, IsDirectoryFaultWithin, IsSetAt, IsSetFault}
 pub use Rattle.dexval.specs.Renumbering.{AnnotationHasPlaces, ElementHasPlaces, ElementsHavePlaces, HasPlaces, HavePlaces, MapsNarrow, SetHasPlaces, remapped, renumbered, renumbered_annotation, renumbered_element, renumbered_elements, renumbered_set, renumbered_values}
 pub use Rattle.dexval.specs.Shared.{HoldsPlaces, IsNamedBy, NamesAll, lists_of_members, sets_of_members}
-pub use Rattle.dexval.specs.Spelled.{AreCounted, HaveCounted, IsCounted, IsCountedAnnotation, count_bytes, elements_count, encoded_annotation_bytes, literal_bytes, numbered_annotation_bytes, numbered_annotation_weight, numbered_array_bytes, numbered_bytes, numbered_elements_bytes, numbered_elements_weight, numbered_offsets, numbered_set_bytes, numbered_set_weight, numbered_values_bytes, numbered_values_weight, numbered_weight, reference_code, values_count}
+pub use Rattle.dexval.specs.Spelled.{AreCounted, HaveCounted, IsCounted, IsCountedAnnotation, elements_count, encoded_annotation_bytes, literal_bytes, numbered_annotation_bytes, numbered_annotation_weight, numbered_array_bytes, numbered_bytes, numbered_elements_bytes, numbered_elements_weight, numbered_offsets, numbered_set_bytes, numbered_set_weight, numbered_values_bytes, numbered_values_weight, numbered_weight, reference_code, values_count}
+unfoldable pub use Rattle.dexval.specs.Spelled.{count_bytes}
 pub use Rattle.dexval.specs.Tables.{AreNewNamed, Extends, HoldsLists, IsListed, IsPlaceIn, IsRemappedSet, NumberedTable, places_at, set_at, sets_at}
 pub use Rattle.dexval.specs.Uses.{annotation_uses, element_uses, elements_uses, set_uses, value_uses, values_uses}
 pub use Rattle.dexval.specs.declared.annotation.Annotation.{Annotation}

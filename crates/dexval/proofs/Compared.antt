@@ -13,9 +13,7 @@ module _ {X Y Z : Type 0} (of : X → Y) (f g : Y → Z) (xs ys : List X) where
       let inside : i < length (map of xs) = omega (arith, length-map xs of) in
       let inside' : i < length (map of ys) = omega (arith, length-map ys of) in
       let inside'' : i < length (map g (map of ys)) = omega (arith, length-map (map of ys) g) in
-      let mine : get_or (map f (map of xs)) i (g (of y)) ≡ f (of x) = get_or-map f (map of xs) i (of x) (g (of y)) inside ∙ ap f (get_or-map of xs i x (of x) lt) ∙ ap (λ z. f (of z)) (sym is) in
-      let theirs : get_or (map g (map of ys)) i (g (of y)) ≡ g (of y) = get_or-map g (map of ys) i (of y) (g (of y)) inside' ∙ ap g (get_or-map of ys i y (of y) lt') ∙ ap (λ z. g (of z)) (sym is') in
-      sym mine ∙ ap (λ zs. get_or zs i (g (of y))) e ∙ theirs
+      sym (get_or-map f (map of xs) i (of x) (g (of y)) inside ∙ ap f (get_or-map of xs i x (of x) lt) ∙ ap (λ z. f (of z)) (sym is)) ∙ ap (λ zs. get_or zs i (g (of y))) e ∙ (get_or-map g (map of ys) i (of y) (g (of y)) inside' ∙ ap g (get_or-map of ys i y (of y) lt') ∙ ap (λ z. g (of z)) (sym is'))
 
   pub same_all : (i : ℕ) → length xs ≤ i → length ys ≤ i → map f (map of (take i xs)) ≡ map g (map of (take i ys)) → map f (map of xs) ≡ map g (map of ys)
   same_all i end end' e = ap (λ zs. map f (map of zs)) (sym (take_all i xs end)) ∙ e ∙ ap (λ zs. map g (map of zs)) (take_all i ys end')
@@ -49,8 +47,7 @@ elements_listed [] = refl
 elements_listed ((name, x) ∷ xs) = ap (λ l. (name, x) ∷ l) (elements_listed xs)
 
 pub elements_same : (r q : Maps) (xs ys : List (ℕ × NumberedValue)) → renumbered_elements r (elements_of_list xs) ≡ renumbered_elements q (elements_of_list ys) → map (renumbered_element r) xs ≡ map (renumbered_element q) ys
-elements_same r q xs ys e =
-    sym (elements_listed (map (renumbered_element r) xs)) ∙ ap list_of_elements (elements_renumbered r xs ∙ e ∙ sym (elements_renumbered q ys)) ∙ elements_listed (map (renumbered_element q) ys)
+elements_same r q xs ys e = sym (elements_listed (map (renumbered_element r) xs)) ∙ ap list_of_elements (elements_renumbered r xs ∙ e ∙ sym (elements_renumbered q ys)) ∙ elements_listed (map (renumbered_element q) ys)
 
 pub same_elements : (r q : Maps) (xs ys : List (ℕ × NumberedValue)) → map (renumbered_element r) xs ≡ map (renumbered_element q) ys → renumbered_elements r (elements_of_list xs) ≡ renumbered_elements q (elements_of_list ys)
 same_elements r q xs ys e = sym (elements_renumbered r xs) ∙ ap elements_of_list e ∙ elements_renumbered q ys

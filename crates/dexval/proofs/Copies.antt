@@ -5,8 +5,7 @@ module _ {X Y Z : Type 0} (f : X → Z) (g : Y → Z) (ys seen : List Y) (same :
   -- one more, of the next member
   pub copied_more : (xs zs : List X) (i : ℕ) (x : X) (y : Y) → i < length seen → y ≡ get_or seen i y → map f xs ≡ map g (take i ys) → zs ≡ xs ++ x ∷ [] → f x ≡ g y → map f zs ≡ map g (take (i + 1) ys)
   copied_more xs zs i x y lt at before more is =
-      let here : f x ≡ g (get_or ys i y) = is ∙ ap g (at ∙ ap (λ (l : List Y). get_or l i y) same) in
-      ap (map f) more ∙ map-append f xs (x ∷ []) ∙ (λ k. before k ++ here k ∷ []) ∙ sym (map_more g ys i y (subst (λ (l : List Y). i < length l) same lt))
+      ap (map f) more ∙ map-append f xs (x ∷ []) ∙ (λ k. before k ++ (is ∙ ap g (at ∙ ap (λ (l : List Y). get_or l i y) same)) k ∷ []) ∙ sym (map_more g ys i y (subst (λ (l : List Y). i < length l) same lt))
 
   -- all of them
   pub copied_all : (xs : List X) (i : ℕ) → length seen ≤ i → map f xs ≡ map g (take i ys) → map f xs ≡ map g ys

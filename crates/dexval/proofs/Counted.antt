@@ -45,8 +45,7 @@ pub statics_are_counted : (m : Mentions) (xs : List NumberedValue) → static_va
 statics_are_counted m [] lt = (omega arith, tt)
 statics_are_counted m (x ∷ xs) lt =
     let all = values_of_list (x ∷ xs) in
-    let light : numbered_values_weight all < 2 ^ 32 = omega (arith, lt, values_weight_is m all) in
-    (omega (arith, light, values_few all, count_of_list (x ∷ xs)), values_counted all light)
+    let light : numbered_values_weight all < 2 ^ 32 = omega (arith, lt, values_weight_is m all) in (omega (arith, light, values_few all, count_of_list (x ∷ xs)), values_counted all light)
 
 -- an annotation
 annotation_counted : (a : NumberedAnnotation) → numbered_annotation_weight a < 2 ^ 32 → IsCountedAnnotation a
@@ -69,8 +68,7 @@ heavy_offsets m from (a ∷ s) lt =
 set_counted : (s : NumberedSet) → sum_by (λ (a : NumberedAnnotation). 4 + numbered_annotation_weight a) s < 2 ^ 32 → All IsCountedAnnotation s
 set_counted [] lt = λ i d none. absurd (omega arith)
 set_counted (a ∷ s) lt =
-    let sum = sum_by-cons (λ (x : NumberedAnnotation). 4 + numbered_annotation_weight x) a s in
-    All-cons IsCountedAnnotation a s (annotation_counted a (omega (arith, lt, sum))) (set_counted s (omega (arith, lt, sum)))
+    let sum = sum_by-cons (λ (x : NumberedAnnotation). 4 + numbered_annotation_weight x) a s in All-cons IsCountedAnnotation a s (annotation_counted a (omega (arith, lt, sum))) (set_counted s (omega (arith, lt, sum)))
 
 sum_less : (s : NumberedSet) → sum_by (λ (a : NumberedAnnotation). 4 + numbered_annotation_weight a) s ≤ numbered_set_weight s
 sum_less [] = omega arith

@@ -1,7 +1,6 @@
 -- The bytes of counts.
-use Rattle.dexval.proofs.Common.{◌≡◌, ℕ, ◌-◌, ◌^◌, ◌<◌, ◌≤◌, min, inl, inr, length, refl, ap, sym, ◌∙◌, arith, cases_lt, le-ltb, uleb128, size_u, uleb128-size}
+use Rattle.dexval.proofs.Common.{◌≡◌, ℕ, ◌-◌, ◌^◌, ◌<◌, ◌≤◌, min, inl, inr, length, refl, ap, sym, ◌∙◌, arith, cases_lt, le-ltb, uleb128, size_u, uleb128-size, count_bytes}
 use Rattle.dexspec.proofs.numbers.Groups.{length-groups}
-use Rattle.dexval.specs.Spelled.{count_bytes}
 
 -- the bytes of a count
 bytes_of_count : (n : ℕ) → count_bytes n ≡ uleb128 (min (2 ^ 32 - 1) n)

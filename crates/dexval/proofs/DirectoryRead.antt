@@ -99,14 +99,7 @@ set_part b o i list m kept lt some read ss h =
 
 -- all were read
 pub list_read : (b : List ℕ) (o : ℕ) (m : Mentions) (i : ℕ) (ss : List NumberedSet) → HasOffsets b o → i ≡ uint_at b o → HaveReadList b (o + 4) m i ss → IsRefListAt b o m ss
-list_read b o m i ss has e h = record {
-  known = h.known;
-  at = record {
-    in_data = has.in_data;
-    aligned = has.aligned;
-    sets = subst (λ (n : ℕ). AllZip (OrNone SetAt [] b) (uints_at b (o + 4) n) (map (set_in m) ss)) e h.are_encoded;
-  };
-}
+list_read b o m i ss has e h = record { known = h.known; at = record { in_data = has.in_data; aligned = has.aligned; sets = subst (λ (n : ℕ). AllZip (OrNone SetAt [] b) (uints_at b (o + 4) n) (map (set_in m) ss)) e h.are_encoded } }
 
 -- without room for the offsets there is no list
 pub no_list_room : (b : List ℕ) (o : ℕ) → (HasOffsets b o → ⊥) → NoRefListAt b o
@@ -115,9 +108,7 @@ no_list_room b o none ss h = none (record { in_data = h.in_data; aligned = h.ali
 -- ---- pairs
 
 pairs_more : (b : List ℕ) (p k : ℕ) → pairs_at b p (suc k) ≡ pairs_at b p k ++ (uint_at b (p + 8 * k), uint_at b (p + 8 * k + 4)) ∷ []
-pairs_more b p zero =
-    let place : p ≡ p + 8 * zero = omega arith in
-    ap (λ (x : ℕ). (uint_at b x, uint_at b (x + 4)) ∷ []) place
+pairs_more b p zero = let place : p ≡ p + 8 * zero = omega arith in ap (λ (x : ℕ). (uint_at b x, uint_at b (x + 4)) ∷ []) place
 pairs_more b p (suc k) =
     let place : p + 8 + 8 * k ≡ p + 8 * suc k = omega arith in
     ap (λ (l : List (ℕ × ℕ)). (uint_at b p, uint_at b (p + 4)) ∷ l) (pairs_more b (p + 8) k) ∙ ap (λ (x : ℕ). (uint_at b p, uint_at b (p + 4)) ∷ (pairs_at b (p + 8) k ++ (uint_at b x, uint_at b (x + 4)) ∷ [])) place
@@ -158,8 +149,7 @@ rise_at : (b : List ℕ) (p n i : ℕ) → suc i < n → rises nat_cmp (indices_
 rise_at b p n i lt h =
     let index : ℕ → ℕ = λ k. uint_at b (p + 8 * k) in
     let split = split_at (indices_at b p) index (indices_more b p) n (suc i) lt in
-    let whole = split.1 ∙ ap (λ (l : List ℕ). l ++ index (suc i) ∷ split.0) (indices_more b p i) ∙ append_assoc (indices_at b p i) (index i ∷ []) (index (suc i) ∷ split.0) in
-    less_is (index i) (index (suc i)) (rises_next nat_cmp (indices_at b p i) (index i) (index (suc i)) split.0 (ap (rises nat_cmp) (sym whole) ∙ h))
+    less_is (index i) (index (suc i)) (rises_next nat_cmp (indices_at b p i) (index i) (index (suc i)) split.0 (ap (rises nat_cmp) (sym (split.1 ∙ ap (λ (l : List ℕ). l ++ index (suc i) ∷ split.0) (indices_more b p i) ∙ append_assoc (indices_at b p i) (index i ∷ []) (index (suc i) ∷ split.0))) ∙ h))
 
 -- the least value of the next index
 abbrev pub least_after : List ℕ → ℕ → ℕ → ℕ
@@ -180,10 +170,7 @@ pub record HaveReadPairs {X Y : Type 0} (Known : X → Type 0) (inside : X → Y
   pub least_is : least ≡ least_after b p i
 
 pub no_pair_yet : {X Y : Type 0} (Known : X → Type 0) (inside : X → Y) (At : List ℕ → ℕ → Y → Type 0) (b : List ℕ) (p limit : ℕ) → HaveReadPairs Known inside At b p limit 0 0 []
-no_pair_yet Known inside At b p limit = record {
-  pairs_read = record { members_known = All-nil _; pairs_encoded = record { pairs = tt; rise = refl } };
-  least_is = refl;
-}
+no_pair_yet Known inside At b p limit = record { pairs_read = record { members_known = All-nil _; pairs_encoded = record { pairs = tt; rise = refl } }; least_is = refl }
 
 -- one more pair was read
 pub one_pair_more : {X Y : Type 0} (Known : X → Type 0) (inside : X → Y) (At : List ℕ → ℕ → Y → Type 0) (b : List ℕ) (p limit i least : ℕ) (xs : List (ℕ × X)) (number : ℕ) (x : X)
@@ -197,7 +184,6 @@ one_pair_more {X} {Y} Known inside At b p limit i least xs number x h pair is kn
     let count_more : suc i ≡ i + 1 = omega arith in
     let below : number < limit = omega (arith, is, pair.below) in
     let index : IsIndexBelow limit b (uint_at b (p + 8 * i)) number = record { is = is; below = pair.below } in
-    let both : IsIndexBelow limit b (uint_at b (p + 8 * i)) number × (uint_at b (p + 8 * i + 4) ≢ 0) × At b (uint_at b (p + 8 * i + 4)) (inside x) = (index, pair.offset, encodes) in
     subst (λ (k : ℕ). HaveReadPairs Known inside At b p limit k (number + 1) (xs ++ new ∷ [])) count_more
     (record {
       pairs_read = record {
@@ -205,7 +191,7 @@ one_pair_more {X} {Y} Known inside At b p limit i least xs number x h pair is kn
         pairs_encoded = record {
           pairs = subst (λ (l : List (ℕ × ℕ)). AllZip R l (map entry (xs ++ new ∷ []))) (sym (pairs_more b p i))
               (subst (λ (l : List (ℕ × Y)). AllZip R (pairs_at b p i ++ (uint_at b (p + 8 * i), uint_at b (p + 8 * i + 4)) ∷ []) l) (sym (map-append entry xs (new ∷ [])))
-              (zip_more R (pairs_at b p i) (map entry xs) (uint_at b (p + 8 * i), uint_at b (p + 8 * i + 4)) (entry new) h.pairs_read.pairs_encoded.pairs both));
+              (zip_more R (pairs_at b p i) (map entry xs) (uint_at b (p + 8 * i), uint_at b (p + 8 * i + 4)) (entry new) h.pairs_read.pairs_encoded.pairs (index, pair.offset, encodes)));
           rise = rise_on b p i least h.least_is pair.above h.pairs_read.pairs_encoded.rise;
         };
       };
@@ -216,14 +202,11 @@ one_pair_more {X} {Y} Known inside At b p limit i least xs number x h pair is kn
 pub no_pair_next : {X Y : Type 0} (Known : X → Type 0) (inside : X → Y) (At : List ℕ → ℕ → Y → Type 0) (b : List ℕ) (p n limit i least : ℕ) (xs : List (ℕ × X)) → i < n → HaveReadPairs Known inside At b p limit i least xs
     → (HasPair b (p + 8 * i) least limit → ⊥) → NoPairsAt At b p n limit
 no_pair_next Known inside At b p n limit i least xs lt h none entries g =
-    let x = pair_of At (λ y. 0) b p n limit i entries lt g in
-    none (record { above = least_at b p n i least lt h.least_is g.rise; below = x.encodes.0.below; offset = x.encodes.1 })
+    let x = pair_of At (λ y. 0) b p n limit i entries lt g in none (record { above = least_at b p n i least lt h.least_is g.rise; below = x.encodes.0.below; offset = x.encodes.1 })
 
 -- or its offset has no item
 pub no_item_next : {Y : Type 0} (At : List ℕ → ℕ → Y → Type 0) (b : List ℕ) (p n limit i : ℕ) → i < n → ((y : Y) → At b (uint_at b (p + 8 * i + 4)) y → ⊥) → NoPairsAt At b p n limit
-no_item_next At b p n limit i lt none entries g =
-    let x = pair_of At (λ y. 0) b p n limit i entries lt g in
-    none x.member.1 x.encodes.2
+no_item_next At b p n limit i lt none entries g = let x = pair_of At (λ y. 0) b p n limit i entries lt g in none x.member.1 x.encodes.2
 
 -- the item of the next pair is a part of all
 pub item_part : {X Y : Type 0} (Known : X → Type 0) (inside : X → Y) (At : List ℕ → ℕ → Y → Type 0) (weighs : Y → ℕ) → ((b : List ℕ) (o : ℕ) (x y : Y) → At b o x → At b o y → x ≡ y) → (b : List ℕ) (p n limit i least : ℕ) (kept : List (ℕ × X)) → i < n
@@ -231,8 +214,7 @@ pub item_part : {X Y : Type 0} (Known : X → Type 0) (inside : X → Y) (At : L
 item_part {X} {Y} Known inside At weighs one b p n limit i least kept lt h entries g =
     let x = pair_of At weighs b p n limit i entries lt g in
     let entry : ℕ × X → ℕ × Y = λ e. (e.0, inside e.1) in
-    let same : x.before ≡ map entry kept = one_pairs At one b limit (pairs_at b p i) x.before (map entry kept) x.are_before h.pairs_read.pairs_encoded.pairs in
-    record { part = x.member.1; is = x.encodes.2; lighter = omega (arith, x.lighter, ap (sum_by (λ (e : ℕ × Y). weighs e.1)) same, sum_by-map (λ (e : ℕ × Y). weighs e.1) entry kept) }
+    record { part = x.member.1; is = x.encodes.2; lighter = omega (arith, x.lighter, ap (sum_by (λ (e : ℕ × Y). weighs e.1)) (one_pairs At one b limit (pairs_at b p i) x.before (map entry kept) x.are_before h.pairs_read.pairs_encoded.pairs), sum_by-map (λ (e : ℕ × Y). weighs e.1) entry kept) }
 
 -- all were read
 pub pairs_end : {X Y : Type 0} (Known : X → Type 0) (inside : X → Y) (At : List ℕ → ℕ → Y → Type 0) (b : List ℕ) (p n limit i least : ℕ) (xs : List (ℕ × X)) → i ≡ n → HaveReadPairs Known inside At b p limit i least xs → ArePairsAt Known inside At b p n limit xs
@@ -259,8 +241,7 @@ part_moved At weighs b before total {p} {q} {n} {k} {limit} {most} place count b
 rows_encoded : {M X Y : Type 0} (Row : List ℕ → ℕ → M → Type 0) (member : ℕ → M) (inside : X → Y) (At : List ℕ → ℕ → Y → Type 0) (b : List ℕ) (limit : ℕ) → ((i : ℕ) → i < limit → Row b i (member i)) → (ps : List (ℕ × ℕ)) (xs : List (ℕ × X))
     → AllZip (PairAt (IsIndexBelow limit) At b) ps (map (λ e. (e.0, inside e.1)) xs) → AllZip (PairAt Row At b) ps (map (λ e. (member e.0, inside e.1)) xs)
 rows_encoded Row member inside At b limit row [] [] h = tt
-rows_encoded Row member inside At b limit row (p ∷ ps) (x ∷ xs) h =
-    ((subst (λ (i : ℕ). Row b p.0 (member i)) (sym h.0.0.is) (row p.0 h.0.0.below), h.0.1, h.0.2), rows_encoded Row member inside At b limit row ps xs h.1)
+rows_encoded Row member inside At b limit row (p ∷ ps) (x ∷ xs) h = ((subst (λ (i : ℕ). Row b p.0 (member i)) (sym h.0.0.is) (row p.0 h.0.0.below), h.0.1, h.0.2), rows_encoded Row member inside At b limit row ps xs h.1)
 rows_encoded Row member inside At b limit row v y h = absurd h
 
 -- members by number
@@ -288,8 +269,7 @@ numbered_weigh : {M Y : Type 0} (R : ℕ × ℕ → M × Y → Type 0) (weighs :
 numbered_weigh R weighs [] [] h = refl
 numbered_weigh R weighs [] (e ∷ es) h = absurd h
 numbered_weigh R weighs (p ∷ ps) [] h = absurd h
-numbered_weigh {M} {Y} R weighs (p ∷ ps) (e ∷ es) h =
-    omega (arith, sum_by-cons (λ (x : ℕ × Y). weighs x.1) (p.0, e.1) (numbered ps es), sum_by-cons (λ (x : M × Y). weighs x.1) e es, numbered_weigh R weighs ps es h.1)
+numbered_weigh {M} {Y} R weighs (p ∷ ps) (e ∷ es) h = omega (arith, sum_by-cons (λ (x : ℕ × Y). weighs x.1) (p.0, e.1) (numbered ps es), sum_by-cons (λ (x : M × Y). weighs x.1) e es, numbered_weigh R weighs ps es h.1)
 
 -- the members of a directory, by their numbers, are a part of it
 pub rows_part : {M Y : Type 0} (Row : List ℕ → ℕ → M → Type 0) (At : List ℕ → ℕ → Y → Type 0) (weighs : Y → ℕ) (b : List ℕ) (p n limit before total : ℕ) → ((i : ℕ) (x : M) → Row b i x → i < limit) → (es : List (M × Y)) → PairsAt Row At b p n es

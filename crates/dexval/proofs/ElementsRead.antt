@@ -1,8 +1,9 @@
 -- Elements that are read one after the other: the numbers of their names rise as the names do, the elements that were
 -- read are in the file, and the other elements come after them.
-use Rattle.dexval.proofs.Common.{◌≡◌, ℕ, suc, ◌+◌, ◌-◌, ◌<◌, ◌≤◌, max, true, List, [], ◌∷◌, ◌++◌, length, refl, ap, sym, subst, ◌∙◌, arith, is_lt, length-append, rises, Uleb128At, Text, text_cmp, StringRow, TypeRow, Elements, NoElements, ThenElement, ValueAt, ElementsAt, value_depth, elements_depth, names_of, Mentions, and_first, and_second, one_uleb128, one_string, one_value, NumberedValue, NumberedElements, HaveKnown, IsKnown, elements_in, value_in, elements_of_list, text_at, type_at, HasPools, NoElementAt, IsElementReadAt, NoElementsAt, AreElementsReadAt, NoAnnotationAt, IsAnnotationReadAt}
+use Rattle.dexval.proofs.Common.{◌≡◌, ℕ, suc, ◌+◌, ◌-◌, ◌<◌, ◌≤◌, max, true, List, [], ◌∷◌, ◌++◌, length, refl, ap, sym, subst, ◌∙◌, arith, is_lt, length-append, rises, Uleb128At, Text, text_cmp, StringRow, TypeRow, Elements, NoElements, ThenElement, ValueAt, ElementsAt, value_depth, elements_depth, names_of, Mentions, and_first, and_second, one_uleb128, one_string, one_value, NumberedValue, NumberedElements, HaveKnown, IsKnown, elements_in, value_in, elements_of_list, text_at, type_at, HasPools, NoElementAt, IsElementReadAt, NoElementsAt, AreElementsReadAt, NoAnnotationAt, IsAnnotationReadAt, ◌≢◌, Option, Some, None, Result, Ok, Err, slice_index, MatchOption, ArePools, NumberedValues, Array, Annotated, NoValueAt, IsReadAt, NoArrayAt, AreReadAt}
 use Rattle.dexspec.specs.Values.{Value}
 use Rattle.dexval.proofs.Rising.{is_less, is_greater, rises_more}
+use Rattle.dexval.proofs.Shapes.{is_at_byte, value_within, array_only, annotation_only}
 
 -- the name of the first element, if there is one, has at least this number
 abbrev pub IsAbove : List ℕ → ℕ → Elements → Type 0
@@ -60,17 +61,7 @@ module _ (b : List ℕ) (m : Mentions) (file : HasPools b m) where
   encoded_more : (o : ℕ) (es : List (ℕ × NumberedValue)) (e : ℕ × NumberedValue) (k head size : ℕ) → ElementsAt b o (elements_in m (elements_of_list es)) k
       → Uleb128At b (o + k) e.0 head → e.0 < length m.texts → ValueAt b (o + k + head) (value_in m e.1) size → ElementsAt b o (elements_in m (elements_of_list (es ++ e ∷ []))) (k + (head + size))
   encoded_more o [] e k head size h u lt v =
-      let none : o + k ≡ o = omega (arith, h) in (
-        head,
-        size,
-        0,
-        e.0,
-        subst (λ (p : ℕ). Uleb128At b p e.0 head) none u,
-        row_encoded e.0 lt,
-        subst (λ (p : ℕ). ValueAt b (p + head) (value_in m e.1) size) none v,
-        refl,
-        omega (arith, h),
-      )
+      let none : o + k ≡ o = omega (arith, h) in (head, size, 0, e.0, subst (λ (p : ℕ). Uleb128At b p e.0 head) none u, row_encoded e.0 lt, subst (λ (p : ℕ). ValueAt b (p + head) (value_in m e.1) size) none v, refl, omega (arith, h))
   encoded_more o (f ∷ fs) e k head size h u lt v =
       let place : o + k ≡ o + h.0 + h.1 + h.2 = omega (arith, h.8) in (
         h.0,
@@ -101,8 +92,7 @@ module _ (b : List ℕ) (m : Mentions) (file : HasPools b m) where
   above_next : (index : ℕ) (name : Text) (es : Elements) → StringRow b index name → rises text_cmp (name ∷ names_of es) ≡ true → IsAbove b (index + 1) es
   above_next index name NoElements r h = tt
   above_next index name (ThenElement second v es) r h = λ other row.
-      let less = and_first (is_lt (text_cmp name second)) (rises text_cmp (second ∷ names_of es)) h in
-      let texts : is_lt (text_cmp (text_at m index) (text_at m other)) ≡ true = ap is_lt (ap (λ (s : Text). text_cmp s (text_at m other)) (sym (row_text index name r)) ∙ ap (text_cmp name) (sym (row_text other second row))) ∙ less in
+      let texts : is_lt (text_cmp (text_at m index) (text_at m other)) ≡ true = ap is_lt (ap (λ (s : Text). text_cmp s (text_at m other)) (sym (row_text index name r)) ∙ ap (text_cmp name) (sym (row_text other second row))) ∙ (and_first (is_lt (text_cmp name second)) (rises text_cmp (second ∷ names_of es)) h) in
       omega (arith, is_greater m.texts file.rising.texts_rise index other (row_within index name r) (row_within other second row) texts)
 
   rise_next : (name : Text) (es : Elements) → rises text_cmp (name ∷ names_of es) ≡ true → rises text_cmp (names_of es) ≡ true
@@ -156,8 +146,7 @@ module _ (b : List ℕ) (m : Mentions) (file : HasPools b m) where
         rest = λ all.
             let n = next (o + k) depth (count - i) least (omega arith) (h.rest all) in
             let name = one_uleb128 b (o + k) n.index e.0 n.head r.head n.names r.index in
-            let same = one_value b (o + k + r.head) n.value (value_in m e.1) n.size r.size (subst (λ (x : ℕ). ValueAt b (o + k + x) n.value n.size) name.1 n.encodes) r.value.encodes in
-            let place : o + k + n.head + n.size ≡ o + (k + j) = omega (arith, name.1, same.1, r.sum) in
+            let place : o + k + n.head + n.size ≡ o + (k + j) = omega (arith, name.1, (one_value b (o + k + r.head) n.value (value_in m e.1) n.size r.size (subst (λ (x : ℕ). ValueAt b (o + k + x) n.value n.size) name.1 n.encodes) r.value.encodes).1, r.sum) in
             let left : count - i - 1 ≡ count - (i + 1) = omega arith in
             subst (λ (x : ℕ). RestOf b (o + (k + j)) depth (count - (i + 1)) (x + 1)) name.0
             (subst (λ (c : ℕ). RestOf b (o + (k + j)) depth c (n.index + 1)) left (subst (λ (p : ℕ). RestOf b p depth (count - i - 1) (n.index + 1)) place n.following));
@@ -167,8 +156,7 @@ module _ (b : List ℕ) (m : Mentions) (file : HasPools b m) where
   pub no_next_element : (o depth count i least : ℕ) (es : List (ℕ × NumberedValue)) (k : ℕ) → i < count → HaveReadOf b o m depth count i least es k → NoElementAt b (o + k) depth least → NoElementsAt b o depth count
   no_next_element o depth count i least es k lt h none fs n are_encoded number rise shallow =
       let all : RestOf b o depth count 0 = record { elements = fs; size = n; are_encoded = are_encoded; number = number; rise = rise; above = above_all fs; shallow = shallow } in
-      let x = next (o + k) depth (count - i) least (omega arith) (h.rest all) in
-      none x.index x.name x.value x.head x.size x.names x.row x.above x.encodes x.shallow
+      let x = next (o + k) depth (count - i) least (omega arith) (h.rest all) in none x.index x.name x.value x.head x.size x.names x.row x.above x.encodes x.shallow
     where
       above_all : (gs : Elements) → IsAbove b 0 gs
       above_all NoElements = tt
@@ -176,13 +164,7 @@ module _ (b : List ℕ) (m : Mentions) (file : HasPools b m) where
 
   -- all of them were read
   pub all_elements_read : (o depth count i least : ℕ) (es : List (ℕ × NumberedValue)) (k : ℕ) → i ≡ count → HaveReadOf b o m depth count i least es k → AreElementsReadAt b o m depth count (elements_of_list es) k
-  all_elements_read o depth count i least es k e h = record {
-    known = h.known;
-    encodes = h.are_encoded;
-    number = number_is es ∙ h.number ∙ e;
-    rise = h.rise;
-    shallow = h.shallow;
-  }
+  all_elements_read o depth count i least es k e h = record { known = h.known; encodes = h.are_encoded; number = number_is es ∙ h.number ∙ e; rise = h.rise; shallow = h.shallow }
 
   -- ---- one element
 
@@ -192,13 +174,11 @@ module _ (b : List ℕ) (m : Mentions) (file : HasPools b m) where
 
   pub no_such_name : (o depth least index head : ℕ) → Uleb128At b o index head → (least ≤ index → index < length m.texts → ⊥) → NoElementAt b o depth least
   no_such_name o depth least index head u none other name v i j w row above h shallow =
-      let same = one_uleb128 b o other index i head w u in
-      none (omega (arith, above, same.0)) (omega (arith, row_within other name row, same.0))
+      let same = one_uleb128 b o other index i head w u in none (omega (arith, above, same.0)) (omega (arith, row_within other name row, same.0))
 
   -- the bytes of the value are no value
   pub no_value : (o depth least index head : ℕ) → Uleb128At b o index head → ((v : Value) (n : ℕ) → ValueAt b (o + head) v n → value_depth v ≤ depth → ⊥) → NoElementAt b o depth least
-  no_value o depth least index head u none other name v i j w row above h shallow =
-      none v j (subst (λ (x : ℕ). ValueAt b (o + x) v j) (one_uleb128 b o other index i head w u).1 h) shallow
+  no_value o depth least index head u none other name v i j w row above h shallow = none v j (subst (λ (x : ℕ). ValueAt b (o + x) v j) (one_uleb128 b o other index i head w u).1 h) shallow
 
   -- ---- annotations
 
@@ -212,19 +192,16 @@ module _ (b : List ℕ) (m : Mentions) (file : HasPools b m) where
   no_type o depth none t es n h shallow = none h.3 h.0 h.4
 
   pub no_such_type : (o depth index head : ℕ) → Uleb128At b o index head → (index < length m.types → ⊥) → NoAnnotationAt b o depth
-  no_such_type o depth index head u none t es n h shallow =
-      none (omega (arith, type_within h.3 t h.5, (one_uleb128 b o h.3 index h.0 head h.4 u).0))
+  no_such_type o depth index head u none t es n h shallow = none (omega (arith, type_within h.3 t h.5, (one_uleb128 b o h.3 index h.0 head h.4 u).0))
 
   pub no_element_count : (o depth index head : ℕ) → Uleb128At b o index head → ((count i : ℕ) → Uleb128At b (o + head) count i → ⊥) → NoAnnotationAt b o depth
-  no_element_count o depth index head u none t es n h shallow =
-      none (length (names_of es)) h.1 (subst (λ (x : ℕ). Uleb128At b (o + x) (length (names_of es)) h.1) (one_uleb128 b o h.3 index h.0 head h.4 u).1 h.6)
+  no_element_count o depth index head u none t es n h shallow = none (length (names_of es)) h.1 (subst (λ (x : ℕ). Uleb128At b (o + x) (length (names_of es)) h.1) (one_uleb128 b o h.3 index h.0 head h.4 u).1 h.6)
 
   pub no_elements : (o depth index head count second : ℕ) → Uleb128At b o index head → Uleb128At b (o + head) count second → NoElementsAt b (o + head + second) depth count → NoAnnotationAt b o depth
   no_elements o depth index head count second u w none t es n h shallow =
       let same = one_uleb128 b o h.3 index h.0 head h.4 u in
       let number = one_uleb128 b (o + head) (length (names_of es)) count h.1 second (subst (λ (x : ℕ). Uleb128At b (o + x) (length (names_of es)) h.1) same.1 h.6) w in
-      let place : o + h.0 + h.1 ≡ o + head + second = omega (arith, same.1, number.1) in
-      none es h.2 (subst (λ (p : ℕ). ElementsAt b p es h.2) place h.7) number.0 h.8 shallow
+      let place : o + h.0 + h.1 ≡ o + head + second = omega (arith, same.1, number.1) in none es h.2 (subst (λ (p : ℕ). ElementsAt b p es h.2) place h.7) number.0 h.8 shallow
 
   pub annotation_read : (o depth index head count second : ℕ) (es : NumberedElements) (k : ℕ) → Uleb128At b o index head → index < length m.types → Uleb128At b (o + head) count second → AreElementsReadAt b (o + head + second) m depth count es k
       → IsAnnotationReadAt b o m depth index es (head + second + k)
@@ -234,3 +211,41 @@ module _ (b : List ℕ) (m : Mentions) (file : HasPools b m) where
     encodes = (head, second, k, index, u, type_encoded index lt, subst (λ (c : ℕ). Uleb128At b (o + head) c second) (sym r.number) w, r.encodes, r.rise, refl);
     shallow = r.shallow;
   }
+
+-- ---- Arrays and annotations as values
+
+-- a result is not both a value and an error
+pub ok_no_err : {A E : Type 0} (r : Result A E) (x : A) (e : E) → r ≡ Ok x → r ≡ Err e → ⊥
+ok_no_err r x e p q = absurd cc
+
+module _ (b : List ℕ) (o depth : ℕ) (m : Mentions) (p : ArePools b m) where
+  -- there is no value after the end
+  pub nothing_after : length b ≤ o → NoValueAt b o depth
+  nothing_after le v n h d = omega (arith, value_within b o m v n p h)
+
+  -- without depth there is no value that holds other values
+  pub no_deep_array : slice_index b o ≡ 28 → depth ≡ 0 → NoValueAt b o depth
+  no_deep_array is none v n h d = omega (arith, subst (λ (x : Value). value_depth x ≤ depth) (array_only b o m v n p is h).1 d)
+
+  pub no_deep_annotation : slice_index b o ≡ 29 → depth ≡ 0 → NoValueAt b o depth
+  no_deep_annotation is none v n h d = omega (arith, subst (λ (x : Value). value_depth x ≤ depth) (annotation_only b o m v n p is h).2 d)
+
+  -- an array after its first byte
+  pub array_encoded : (xs : NumberedValues) (n : ℕ) → o < length b → slice_index b o ≡ 28 → depth ≢ 0 → AreReadAt b (o + 1) m (depth - 1) xs n → IsReadAt b o m depth (Array xs) (1 + n)
+  array_encoded xs n lt is some r = record { known = r.known; encodes = (is_at_byte b o 28 lt is, n, r.encodes, refl); shallow = omega (arith, r.shallow, some) }
+
+  pub no_array : slice_index b o ≡ 28 → NoArrayAt b (o + 1) (depth - 1) → NoValueAt b o depth
+  no_array is none v n h d = let a = array_only b o m v n p is h in let w = subst (λ (x : Value). ValueAt b o x n) a.1 h in none a.0 w.1 w.2 (omega (arith, subst (λ (x : Value). value_depth x ≤ depth) a.1 d))
+
+  -- an annotation after its first byte
+  pub annotation_encoded : (t : ℕ) (es : NumberedElements) (n : ℕ) → o < length b → slice_index b o ≡ 29 → depth ≢ 0 → IsAnnotationReadAt b (o + 1) m (depth - 1) t es n → IsReadAt b o m depth (Annotated t es) (1 + n)
+  annotation_encoded t es n lt is some r = record { known = (r.type_known, r.known); encodes = (is_at_byte b o 29 lt is, n, r.encodes, refl); shallow = omega (arith, r.shallow, some) }
+
+  pub no_annotation : slice_index b o ≡ 29 → NoAnnotationAt b (o + 1) (depth - 1) → NoValueAt b o depth
+  no_annotation is none v n h d =
+      let a = annotation_only b o m v n p is h in let w = subst (λ (x : Value). ValueAt b o x n) a.2 h in none a.0 a.1 w.1 w.2 (omega (arith, subst (λ (x : Value). value_depth x ≤ depth) a.2 d))
+
+  -- a value that holds no other value nests at most as deep as any bound
+  pub deeper : {X : Type 0} (x_of : X → NumberedValue) (n_of : X → ℕ) (r : Option X) → MatchOption r ((d : ℕ) → NoValueAt b o d) (λ x. IsReadAt b o m 0 (x_of x) (n_of x)) → MatchOption r (NoValueAt b o depth) (λ x. IsReadAt b o m depth (x_of x) (n_of x))
+  deeper x_of n_of None h = h depth
+  deeper x_of n_of (Some x) h = record { known = h.known; encodes = h.encodes; shallow = omega (arith, h.shallow) }

@@ -3,8 +3,7 @@ use Rattle.dexval.proofs.Common.{◌≡◌, ℕ, ◌+◌, ◌<◌, ◌≤◌, Li
 use Rattle.std.proofs.lemmas.List.Folds.{flat_map-map}
 use Rattle.std.specs.Hash as fed
 use Rattle.dexval.specs.declared.value.Value.TheVariants as variants
-use Rattle.dexval.proofs.CodeForms.{element_is, array_is, annotation_is}
-use Rattle.dexval.proofs.Members.{count_values_is, count_elements_is}
+use Rattle.dexval.proofs.Members.{element_is, array_is, annotation_is, count_values_is, count_elements_is}
 
 -- ---- lists, member by member
 
@@ -34,8 +33,7 @@ values_are_fed (x ∷ xs) = ap (λ (l : fed.HashWrites). value_fed x ++ l) (valu
 
 pub elements_are_fed : (xs : List Element) → flat_map element_fed xs ≡ elements_fed xs
 elements_are_fed [] = refl
-elements_are_fed (x ∷ xs) =
-    ap (λ (l : fed.HashWrites). element_fed x ++ l) (elements_are_fed xs) ∙ ap (λ (e : ℕ × NumberedValue). elements_input (elements_of_list (e ∷ map element_of xs))) (sym (element_is x))
+elements_are_fed (x ∷ xs) = ap (λ (l : fed.HashWrites). element_fed x ++ l) (elements_are_fed xs) ∙ ap (λ (e : ℕ × NumberedValue). elements_input (elements_of_list (e ∷ map element_of xs))) (sym (element_is x))
 
 pub annotations_are_fed : (xs : List Annotation) → fed.usize (length xs) ++ flat_map annotation_fed xs ≡ fed.slice annotation_input (map annotation_of xs)
 annotations_are_fed xs = λ k. fed.usize (sym (length-map xs annotation_of) k) ++ sym (flat_map-map annotation_input annotation_of xs) k

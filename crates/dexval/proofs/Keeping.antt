@@ -30,8 +30,7 @@ list_adds m list s ss = omega (arith, sum_by-append (set_weight_in m) ss (s ∷ 
 
 weights_join : (m : Mentions) (list : ℕ) (ss : List NumberedSet) → (length ss ≡ 0 → list ≡ 0) → (0 < length ss → list ≡ 8 + 4 * length ss) → list + sum_by (set_weight_in m) ss ≡ sets_weight_in m ss
 weights_join m list [] none some = omega (arith, none refl)
-weights_join m list (s ∷ ss) none some =
-    omega (arith, some (omega arith), sum_by-map set_weight (set_in m) (s ∷ ss), length-map (s ∷ ss) (set_in m))
+weights_join m list (s ∷ ss) none some = omega (arith, some (omega arith), sum_by-map set_weight (set_in m) (s ∷ ss), length-map (s ∷ ss) (set_in m))
 
 -- all sets with the list
 pub list_weighs : (b : List ℕ) (p : ℕ) (m : Mentions) (i list : ℕ) (ss : List NumberedSet) → (i ≡ 0 → list ≡ 0) → (0 < i → list ≡ 8 + 4 * i) → HaveReadList b p m i ss → list + sum_by (set_weight_in m) ss ≡ sets_weight_in m ss

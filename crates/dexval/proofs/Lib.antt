@@ -1,5 +1,4 @@
 pub mod Common
-pub mod CodeForms
 pub mod Counted
 pub mod Counts
 pub mod Compared
@@ -23,7 +22,6 @@ pub mod Meanings
 pub mod Members
 pub mod Naming
 pub mod NestedChecked
-pub mod NestedRead
 pub mod Offsets
 pub mod Ranked
 pub mod Refusals
@@ -37,9 +35,7 @@ pub mod Shapes
 pub mod Spelled
 pub mod Spelling
 pub mod TableGrowth
-pub mod Tables
 pub mod TablesRemapped
-pub mod ValueForms
 pub mod ValuesRead
 pub mod Weights
 pub mod PlacedItems

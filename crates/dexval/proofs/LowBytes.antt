@@ -1,8 +1,7 @@
 -- Numbers written as their lowest bytes.
-use Rattle.dexval.proofs.Common.{◌≡◌, ℕ, zero, suc, ◌+◌, ◌-◌, ◌*◌, ◌/◌, ◌%◌, ◌^◌, ◌<◌, ◌≤◌, List, ◌∷◌, ◌++◌, length, take, ◌⊎◌, inl, inr, refl, ap, sym, ◌∙◌, subst, arith, ℤ, pos, negsuc, ◌≢◌, bytes_low_first, take-append-le, little_bytes, mul_assoc, mul-suc, mul-mod_right, mul-div_cancel_left, div-add-mod, cases_lt, pow-add, magnitude, value_byte, unsigned_width, signed_width, bits_width, complement, signed_bytes, bits_bytes, pow_256, pow_256_pos}
+use Rattle.dexval.proofs.Common.{◌≡◌, ℕ, zero, suc, ◌+◌, ◌-◌, ◌*◌, ◌/◌, ◌%◌, ◌^◌, ◌<◌, ◌≤◌, List, ◌∷◌, ◌++◌, length, take, ◌⊎◌, inl, inr, refl, ap, sym, ◌∙◌, subst, arith, ℤ, pos, negsuc, ◌≢◌, bytes_low_first, take-append-le, little_bytes, mul_assoc, mul-suc, mul-mod_right, mul-div_cancel_left, div-add-mod, cases_lt, pow-add, magnitude, value_byte, unsigned_width, signed_width, bits_width, complement, signed_bytes, bits_bytes, pow_256, pow_256_pos, bytes_of}
 use Rattle.byteorder.proofs.Bytes.{take-bytes_low_first}
 use native.Mathlib.Nat.{div-div-eq-div-mul}
-use Rattle.dexspec.specs.Bytes.{bytes_of}
 use Rattle.dexspec.proofs.numbers.Widths.{signed_width_is, bits_width_is}
 
 -- the lowest bytes of a number, as `byteorder` writes them
@@ -12,8 +11,7 @@ low_first i zero v = refl
 low_first zero (suc n) v =
     let whole : v / 256 ^ 0 ≡ v = omega arith in
     let first : v % 256 ≡ v / 256 ^ 0 % 256 = ap (λ (x : ℕ). x % 256) (sym whole) in
-    let rest : v / 256 ^ 1 ≡ v / 256 ^ 0 / 256 = omega arith in
-    ap (λ (r : List ℕ). v % 256 ∷ r) (low_first 1 n v ∙ ap (bytes_of n) rest) ∙ ap (λ (x : ℕ). x ∷ bytes_of n (v / 256 ^ 0 / 256)) first
+    let rest : v / 256 ^ 1 ≡ v / 256 ^ 0 / 256 = omega arith in ap (λ (r : List ℕ). v % 256 ∷ r) (low_first 1 n v ∙ ap (bytes_of n) rest) ∙ ap (λ (x : ℕ). x ∷ bytes_of n (v / 256 ^ 0 / 256)) first
 low_first (suc i) (suc n) v =
     let power : 256 ^ suc (suc i) ≡ 256 ^ suc i * 256 = omega arith in
     let rest : v / 256 ^ suc (suc i) ≡ v / 256 ^ suc i / 256 = ap (λ (p : ℕ). v / p) power ∙ sym (div-div-eq-div-mul v (256 ^ suc i) 256) in
@@ -22,8 +20,7 @@ low_first (suc i) (suc n) v =
 pub low_bytes : (n v : ℕ) (r : List ℕ) → n ≤ 8 → take n (little_bytes 8 v ++ r) ≡ bytes_of n v
 low_bytes n v r few =
     let size : length (little_bytes 8 v) ≡ 8 = refl in
-    let whole : v / 256 ^ 0 ≡ v = omega arith in
-    take-append-le n (little_bytes 8 v) r (omega (arith, size, few)) ∙ take-bytes_low_first 0 8 n v few ∙ low_first 0 n v ∙ ap (bytes_of n) whole
+    let whole : v / 256 ^ 0 ≡ v = omega arith in take-append-le n (little_bytes 8 v) r (omega (arith, size, few)) ∙ take-bytes_low_first 0 8 n v few ∙ low_first 0 n v ∙ ap (bytes_of n) whole
 
 -- adding a multiple of 256 ^ n keeps the n lowest bytes
 bytes_of-more : (n v k : ℕ) → bytes_of n (v + 256 ^ n * k) ≡ bytes_of n v
@@ -39,18 +36,14 @@ bytes_of-more (suc n) v k =
 -- a product with one factor reduced by one
 one_less : (a b : ℕ) → 0 < b → a * b ≡ a + a * (b - 1)
 one_less a zero some = absurd (omega arith)
-one_less a (suc b) some =
-    let e : suc b - 1 ≡ b = omega arith in
-    omega (arith, mul-suc a b, ap (λ (x : ℕ). a * x) e)
+one_less a (suc b) some = let e : suc b - 1 ≡ b = omega arith in omega (arith, mul-suc a b, ap (λ (x : ℕ). a * x) e)
 
 -- the lowest bytes of a number in two's complement
 low_complement : (n : ℕ) (z : ℤ) → n ≤ 8 → 2 * magnitude z < 256 ^ n → bytes_of n (complement 8 z) ≡ bytes_of n (complement n z)
 low_complement n (pos v) few room = refl
 low_complement n (negsuc v) few room =
     let parts : n + (8 - n) ≡ 8 = omega arith in
-    let whole : 256 ^ 8 ≡ 256 ^ n * 256 ^ (8 - n) = ap (λ (k : ℕ). 256 ^ k) (sym parts) ∙ pow-add 256 n (8 - n) in
-    let less : 256 ^ n * 256 ^ (8 - n) ≡ 256 ^ n + 256 ^ n * (256 ^ (8 - n) - 1) = one_less (256 ^ n) (256 ^ (8 - n)) (pow_256_pos (8 - n)) in
-    let is : 256 ^ 8 - suc v ≡ (256 ^ n - suc v) + 256 ^ n * (256 ^ (8 - n) - 1) = omega (arith, whole, less, room) in
+    let is : 256 ^ 8 - suc v ≡ (256 ^ n - suc v) + 256 ^ n * (256 ^ (8 - n) - 1) = omega (arith, ap (λ (k : ℕ). 256 ^ k) (sym parts) ∙ pow-add 256 n (8 - n), one_less (256 ^ n) (256 ^ (8 - n)) (pow_256_pos (8 - n)), room) in
     ap (bytes_of n) is ∙ bytes_of-more n (256 ^ n - suc v) (256 ^ (8 - n) - 1)
 
 -- a signed number: its lowest bytes in its least width
@@ -81,10 +74,8 @@ ends_in_zero width n w v rest few less is none =
     let v_is : v ≡ 256 ^ (width - w) * q = omega (arith, div-add-mod v (256 ^ (width - w)), none) in
     let inner : 256 ^ (width - w) * q ≡ 256 ^ k * (256 ^ suc j * q) = ap (λ (x : ℕ). x * q) power ∙ mul_assoc (256 ^ k) (256 ^ suc j) q in
     let some = pow_256_pos k in
-    let rest_is : rest ≡ 256 ^ suc j * q = sym (mul-div_cancel_left rest some) ∙ ap (λ (x : ℕ). x / 256 ^ k) (sym is ∙ v_is ∙ inner) ∙ mul-div_cancel_left (256 ^ suc j * q) some in
     let one_more : 256 ^ suc j ≡ 256 * 256 ^ j = omega arith in
-    let last : 256 ^ suc j * q ≡ 256 * (256 ^ j * q) = ap (λ (x : ℕ). x * q) one_more ∙ mul_assoc 256 (256 ^ j) q in
-    omega (arith, rest_is, last)
+    omega (arith, sym (mul-div_cancel_left rest some) ∙ ap (λ (x : ℕ). x / 256 ^ k) (sym is ∙ v_is ∙ inner) ∙ mul-div_cancel_left (256 ^ suc j * q) some, ap (λ (x : ℕ). x * q) one_more ∙ mul_assoc 256 (256 ^ j) q)
 
 -- after the zeros at the low end are dropped, the number of bytes left is the least
 pub left_is : (width n v rest : ℕ) → 1 ≤ n → n ≤ width → width ≤ 8 → v ≡ 256 ^ (width - n) * rest → (n ≤ 1) ⊎ (rest % 256 ≢ 0) → n ≡ bits_width width v
@@ -102,8 +93,7 @@ left_is width n v rest some few most is end =
 
 -- a bit pattern without the zeros at its low end, in its least width
 pub bits_shifted : (code width n v : ℕ) → n ≡ bits_width width v → value_byte (n - 1) code ∷ bytes_of n (v / 2 ^ (8 * (width - n))) ≡ bits_bytes code width v
-bits_shifted code width n v is =
-    ap (λ (p : ℕ). value_byte (n - 1) code ∷ bytes_of n (v / p)) (pow_256 (width - n)) ∙ ap (λ (k : ℕ). value_byte (k - 1) code ∷ bytes_of k (v / 256 ^ (width - k))) is
+bits_shifted code width n v is = ap (λ (p : ℕ). value_byte (n - 1) code ∷ bytes_of n (v / p)) (pow_256 (width - n)) ∙ ap (λ (k : ℕ). value_byte (k - 1) code ∷ bytes_of k (v / 256 ^ (width - k))) is
 
 -- the signed number
 pub signed_spelled : (code : ℕ) (z : ℤ) (width bits : ℕ) → 2 * magnitude z < 256 ^ 8 → width ≡ signed_width z → width ≤ 8 → bits ≡ complement 8 z

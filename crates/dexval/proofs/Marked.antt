@@ -1,6 +1,6 @@
 -- The symbols of lists are those of each item.
 use Rattle.dexval.proofs.Common.{◌≡◌, ℕ, List, [], ◌∷◌, ◌++◌, map, refl, ap, sym, ◌∙◌, flat_map, Annotation, Value, Element, value_of, element_of, annotation_of, NumberedValue, values_of_list, elements_of_list, Use, value_uses, values_uses, element_uses, elements_uses, annotation_uses, set_uses}
-use Rattle.dexval.proofs.CodeForms.{element_is}
+use Rattle.dexval.proofs.Members.{element_is}
 
 -- the symbols of a value of the code
 abbrev pub code_uses : Value → List Use

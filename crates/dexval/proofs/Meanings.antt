@@ -22,9 +22,7 @@ annotation_with v t es = record { visibility = v; type = t; elements = es }
 remapped_to : {X : Type 0} (from to : List X) (images : List (Option ℕ)) (i j : ℕ) (d : X) → MapsTo from to images → image images i ≡ Some j
     → (unwrap_or (image images i) i < length to) × (get_or to (unwrap_or (image images i) i) d ≡ get_or from i d)
 remapped_to from to images i j d l e =
-    let at = l.same i j d e in
-    let is : unwrap_or (image images i) i ≡ j = ap (λ (o : Option ℕ). unwrap_or o i) e in
-    (subst (λ (k : ℕ). k < length to) (sym is) at.within, ap (λ (k : ℕ). get_or to k d) is ∙ at.is d)
+    let at = l.same i j d e in let is : unwrap_or (image images i) i ≡ j = ap (λ (o : Option ℕ). unwrap_or o i) e in (subst (λ (k : ℕ). k < length to) (sym is) at.within, ap (λ (k : ℕ). get_or to k d) is ∙ at.is d)
 
 module _ (m n : Mentions) (r : Maps) (maps_to : AllMapTo m n r) where
   text_remapped : (i : ℕ) → IsSome (image r.texts i) → (remapped r kinds.Text i < length n.texts) × (text_at n (remapped r kinds.Text i) ≡ text_at m i)
@@ -72,8 +70,7 @@ module _ (m n : Mentions) (r : Maps) (maps_to : AllMapTo m n r) where
         let rest = elements_remapped es (all_back (IsMappedUse r) (value_uses x) (elements_uses es) following) in (
           (named.0, first.0, rest.0),
           ap (λ (s : Text). ThenElement s (value_in n (renumbered r x)) (elements_in n (renumbered_elements r es))) named.1
-              ∙ ap (λ (v : Value). ThenElement (text_at m name) v (elements_in n (renumbered_elements r es))) first.1
-              ∙ ap (ThenElement (text_at m name) (value_in m x)) rest.1,
+              ∙ ap (λ (v : Value). ThenElement (text_at m name) v (elements_in n (renumbered_elements r es))) first.1 ∙ ap (ThenElement (text_at m name) (value_in m x)) rest.1,
         )
 
   annotation_remapped : (a : NumberedAnnotation) → All (IsMappedUse r) (annotation_uses a) → IsKnownAnnotation n (renumbered_annotation r a) × (annotation_in n (renumbered_annotation r a) ≡ annotation_in m a)

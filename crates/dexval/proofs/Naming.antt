@@ -1,8 +1,7 @@
 -- The items of a directory that were read, and their places in the table.
 use Rattle.dexval.proofs.Common.{◌≡◌, ℕ, ◌<◌, List, [], ◌∷◌, ◌++◌, length, ap, sym, subst, inl, inr, arith, Option, Some, All, Contains, All-append, All-cons, All-nil, Contains-append_left, Contains-push, DirectoryCache, IsNoted, IsNamedOf, NumberedSet, HoldsPlaces, NamesAll, IsNamedBy, sets_of_members, NumberedTable, Extends, IsListed, IsPlaceIn, set_at}
 use Rattle.dexval.proofs.CachedSets.{one_place}
-use Rattle.dexval.proofs.TableGrowth.{extends_then, new_then}
-use Rattle.dexval.proofs.Tables.{map_stays, all_as}
+use Rattle.dexval.proofs.TableGrowth.{extends_then, new_then, map_stays, all_as}
 
 -- ---- lists of sets
 
@@ -10,12 +9,11 @@ use Rattle.dexval.proofs.Tables.{map_stays, all_as}
 pub list_step : (old mid new : DirectoryCache) (ps qs : List (Option ℕ)) (place : Option ℕ) → IsNoted (λ i. Contains ps (Some i)) (λ i. ⊥) (All (IsPlaceIn mid.table.sets) ps) old mid → IsNoted (λ i. place ≡ Some i) (λ i. ⊥) (IsPlaceIn new.table.sets place) mid new
     → qs ≡ ps ++ place ∷ [] → IsNoted (λ i. Contains qs (Some i)) (λ i. ⊥) (All (IsPlaceIn new.table.sets) qs) old new
 list_step old mid new ps qs place h g pushed =
-    let before : All (IsPlaceIn new.table.sets) ps = all_as (IsPlaceIn mid.table.sets) (IsPlaceIn new.table.sets) g.extended.sets_hold ps h.held in
     subst (λ l. IsNoted (λ i. Contains l (Some i)) (λ i. ⊥) (All (IsPlaceIn new.table.sets) l) old new) (sym pushed)
     (record {
       extended = extends_then old.table mid.table new.table h.extended g.extended;
       noted_held = g.noted_held;
-      held = All-append (IsPlaceIn new.table.sets) ps (place ∷ []) before (All-cons (IsPlaceIn new.table.sets) place [] g.held (All-nil (IsPlaceIn new.table.sets)));
+      held = All-append (IsPlaceIn new.table.sets) ps (place ∷ []) (all_as (IsPlaceIn mid.table.sets) (IsPlaceIn new.table.sets) g.extended.sets_hold ps h.held) (All-cons (IsPlaceIn new.table.sets) place [] g.held (All-nil (IsPlaceIn new.table.sets)));
       named = new_then old.table mid.table new.table (λ i c. Contains-append_left ps (place ∷ []) (Some i) c) (λ i f. f) (λ i e. subst (Contains (ps ++ place ∷ [])) e (Contains-push ps place)) (λ i f. f) h.named g.named;
     })
 
@@ -33,12 +31,11 @@ module _ (is_held : NumberedTable → Option ℕ → Type 0) (names_set : Number
   members_step old mid new es fs number place h g pushed =
       let Held = λ (e : ℕ × ℕ). is_held new.table (Some e.1) in
       let last = (number, place) ∷ [] in
-      let before : All Held es = all_as (λ e. is_held mid.table (Some e.1)) Held (λ e. holds mid.table new.table (Some e.1) g.extended) es h.held in
       subst (AreNoted is_held names_set names_list old new) (sym pushed)
       (record {
         extended = extends_then old.table mid.table new.table h.extended g.extended;
         noted_held = g.noted_held;
-        held = All-append Held es last before (All-cons Held (number, place) [] g.held (All-nil Held));
+        held = All-append Held es last (all_as (λ e. is_held mid.table (Some e.1)) Held (λ e. holds mid.table new.table (Some e.1) g.extended) es h.held) (All-cons Held (number, place) [] g.held (All-nil Held));
         named = new_then old.table mid.table new.table (λ i c. (c.0, c.1, Contains-append_left es last (c.0, c.1) c.2, names mid.table new.table (Some c.1) i g.extended c.3)) (λ i c. (c.0, c.1, Contains-append_left es last (c.0, c.1) c.2, c.3))
             (λ i c. (number, place, Contains-push es (number, place), c)) (λ i c. (number, place, Contains-push es (number, place), c)) h.named g.named;
       })
@@ -108,8 +105,7 @@ module _ (old first second third new : DirectoryCache) (own : Option ℕ) (field
   own_stays = from_first.sets_stay own of_own.held
 
   pub fields_stay : sets_of_members new.table fields ≡ sets_of_members second.table fields
-  fields_stay =
-      map_stays (with_set second.table) (with_set new.table) (λ e. IsPlaceIn second.table.sets (Some e.1)) (λ e h. ap (λ (s : NumberedSet). (e.0, s)) (from_second.sets_stay (Some e.1) h)) fields of_fields.held
+  fields_stay = map_stays (with_set second.table) (with_set new.table) (λ e. IsPlaceIn second.table.sets (Some e.1)) (λ e h. ap (λ (s : NumberedSet). (e.0, s)) (from_second.sets_stay (Some e.1) h)) fields of_fields.held
 
   pub methods_stay : sets_of_members new.table methods ≡ sets_of_members third.table methods
   methods_stay =

@@ -42,18 +42,15 @@ offsets_spelled first xs = flat_map uint (numbered_offsets first (map annotation
 
 one_item : (xs : List Annotation) (i : ℕ) (d : Annotation) → i < length xs → d ≡ get_or xs i d → items_of (take (i + 1) xs) ≡ items_of (take i xs) ++ numbered_annotation_bytes (annotation_of d) ∷ []
 one_item xs i d lt e =
-    ap items_of (take_more xs i d lt ∙ ap (λ (x : Annotation). take i xs ++ x ∷ []) (sym e))
-    ∙ ap (map numbered_annotation_bytes) (map-append annotation_of (take i xs) (d ∷ []))
+    ap items_of (take_more xs i d lt ∙ ap (λ (x : Annotation). take i xs ++ x ∷ []) (sym e)) ∙ ap (map numbered_annotation_bytes) (map-append annotation_of (take i xs) (d ∷ []))
     ∙ map-append numbered_annotation_bytes (map annotation_of (take i xs)) (annotation_of d ∷ [])
 
 -- one more annotation has one more offset
 pub one_offset : (first : ℕ) (xs : List Annotation) (i : ℕ) (d : Annotation) → i < length xs → d ≡ get_or xs i d → offsets_spelled first (take (i + 1) xs) ≡ offsets_spelled first (take i xs) ++ uint (end_of first (take i xs))
 one_offset first xs i d lt e =
     let before = items_of (take i xs) in
-    ap (λ (l : List (List ℕ)). flat_map uint (offsets_from 1 first l)) (one_item xs i d lt e)
-    ∙ ap (λ (l : List ℕ). flat_map uint l) (offsets_after first before (numbered_annotation_bytes (annotation_of d)))
-    ∙ flat_map-append uint (offsets_from 1 first before) (end_from 1 first before ∷ [])
-    ∙ ap (λ (l : List ℕ). flat_map uint (offsets_from 1 first before) ++ l) (append-nil (uint (end_from 1 first before)))
+    ap (λ (l : List (List ℕ)). flat_map uint (offsets_from 1 first l)) (one_item xs i d lt e) ∙ ap (λ (l : List ℕ). flat_map uint l) (offsets_after first before (numbered_annotation_bytes (annotation_of d)))
+    ∙ flat_map-append uint (offsets_from 1 first before) (end_from 1 first before ∷ []) ∙ ap (λ (l : List ℕ). flat_map uint (offsets_from 1 first before) ++ l) (append-nil (uint (end_from 1 first before)))
 
 -- and moves the end by its length
 pub next_offset : (first : ℕ) (xs : List Annotation) (i : ℕ) (d : Annotation) → i < length xs → d ≡ get_or xs i d → end_of first (take (i + 1) xs) ≡ end_of first (take i xs) + length (numbered_annotation_bytes (annotation_of d))
@@ -63,9 +60,8 @@ next_offset first xs i d lt e = ap (λ (l : List (List ℕ)). end_from 1 first l
 pub offset_fits : (first : ℕ) (xs : List Annotation) (i : ℕ) → i < length xs → All (λ n. n < 2 ^ 32) (numbered_offsets first (map annotation_of xs)) → end_of first (take i xs) < 2 ^ 32
 offset_fits first xs i lt all =
     let count : length (items_of xs) ≡ length xs = length-map (map annotation_of xs) numbered_annotation_bytes ∙ length-map xs annotation_of in
-    let at = all i 0 (omega (arith, lt, count, length-offsets_from 1 first (items_of xs))) in
     let items : take i (items_of xs) ≡ items_of (take i xs) = take-map numbered_annotation_bytes i (map annotation_of xs) ∙ ap (map numbered_annotation_bytes) (take-map annotation_of i xs) in
-    subst (λ (n : ℕ). n < 2 ^ 32) (offset_at first i (items_of xs) (omega (arith, lt, count)) ∙ ap (λ (l : List (List ℕ)). end_from 1 first l) items) at
+    subst (λ (n : ℕ). n < 2 ^ 32) (offset_at first i (items_of xs) (omega (arith, lt, count)) ∙ ap (λ (l : List (List ℕ)). end_from 1 first l) items) (all i 0 (omega (arith, lt, count, length-offsets_from 1 first (items_of xs))))
 
 -- an annotation_item has at least two bytes
 two_bytes : (a : NumberedAnnotation) → 2 ≤ length (numbered_annotation_bytes a)
@@ -95,8 +91,7 @@ set_size first s = omega (arith, offsets_bytes-size (numbered_offsets first s), 
 
 -- it begins with the number of annotations
 pub set_begins : (first : ℕ) (xs : List Annotation) → uint (length xs) ++ offsets_spelled first xs ≡ numbered_set_bytes first (map annotation_of xs)
-set_begins first xs =
-    ap (λ (n : ℕ). uint n ++ offsets_spelled first xs) (sym (length-offsets_from 1 first (items_of xs) ∙ length-map (map annotation_of xs) numbered_annotation_bytes ∙ length-map xs annotation_of))
+set_begins first xs = ap (λ (n : ℕ). uint n ++ offsets_spelled first xs) (sym (length-offsets_from 1 first (items_of xs) ∙ length-map (map annotation_of xs) numbered_annotation_bytes ∙ length-map xs annotation_of))
 
 heavy : (s : NumberedSet) → 4 * length s ≤ sum_by (λ (a : NumberedAnnotation). 4 + numbered_annotation_weight a) s
 heavy [] = omega arith
@@ -111,9 +106,8 @@ set_size_is first (a ∷ s) some = omega (arith, set_size first (a ∷ s), heavy
 offsets_are : (m : Mentions) (from : ℕ) (s : NumberedSet) → AreRising m → IsKnownSet m s → numbered_offsets from s ≡ offsets_from 1 from (map (annotation_bytes m) (set_in m s))
 offsets_are m from [] rising known = refl
 offsets_are m from (a ∷ s) rising known =
-    let size = annotation_lengths_are m a (annotation_in m a) rising (record { known = known 0 a (omega arith); means = refl }) in
     let rest = offsets_are m (round_up 1 from + length (annotation_bytes m (annotation_in m a))) s rising (λ i d lt. known (suc i) d (omega (arith, lt))) in
-    ap (λ (l : List ℕ). round_up 1 from ∷ l) (ap (λ (n : ℕ). numbered_offsets (round_up 1 from + n) s) size ∙ rest)
+    ap (λ (l : List ℕ). round_up 1 from ∷ l) (ap (λ (n : ℕ). numbered_offsets (round_up 1 from + n) s) (annotation_lengths_are m a (annotation_in m a) rising (record { known = known 0 a (omega arith); means = refl })) ∙ rest)
 
 -- the set that the numbers denote
 pub set_put_is : {T E : Type 0} {u w : Vec ℕ} {r : Result T E} (m : Mentions) (first : ℕ) (x : NumberedSet) → AreRising m → Puts (numbered_set_bytes first x) u w r → (s : AnnotationSet) → DenotesSet m x s

@@ -19,12 +19,9 @@ at-below zero i d lt = absurd (omega (arith, lt))
 at-below (suc n) zero d lt = omega arith
 at-below (suc n) (suc i) d lt = omega (arith, at-below n i d (omega (arith, lt)))
 
-Contains-below : (n k : ℕ) → k < n → Contains (below n) k
-Contains-below n k lt = (n - suc k, omega (arith, lt, length-below n), omega (arith, lt, at-below n (n - suc k) k (omega (arith, lt))))
-
 -- distinct numbers below m are at most m
 few_below : (m : ℕ) (xs : List ℕ) → AreDistinct xs → ((x : ℕ) → Contains xs x → x < m) → length xs ≤ m
-few_below m xs distinct small = omega (arith, length-among xs (below m) distinct (λ x c. Contains-below m x (small x c)), length-below m)
+few_below m xs distinct small = omega (arith, length-among xs (below m) distinct (λ x c. (m - suc x, omega (arith, (small x c), length-below m), omega (arith, (small x c), at-below m (m - suc x) x (omega (arith, (small x c)))))), length-below m)
 
 -- a list without repeats, after a member that it does not have
 distinct_more : (x : ℕ) (xs : List ℕ) → ((y : ℕ) → Contains xs y → x ≢ y) → AreDistinct xs → AreDistinct (x ∷ xs)
@@ -36,13 +33,7 @@ distinct_more x xs other rest (suc i) (suc j) d lt le = rest i j d (omega (arith
 
 -- no item is recorded yet
 pub none_placed : (f : ℕ → Option ℕ) → HaveOffsets f 0
-none_placed f = record {
-  offsets = [];
-  counted = refl;
-  distinct = λ i j d lt le. absurd (omega (arith, le));
-  small = λ off c. absurd (Contains-nil off c);
-  recorded = λ off c. absurd (Contains-nil off c);
-}
+none_placed f = record { offsets = []; counted = refl; distinct = λ i j d lt le. absurd (omega (arith, le)); small = λ off c. absurd (Contains-nil off c); recorded = λ off c. absurd (Contains-nil off c) }
 
 -- an offset at which none is recorded
 module _ (f : ℕ → Option ℕ) (count off : ℕ) (placed : HaveOffsets f count) (fresh : f off ≡ None) (lt : off < 2 ^ 32) where

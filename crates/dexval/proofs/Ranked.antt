@@ -69,8 +69,7 @@ module _ (m : Mentions) (ranks : RanksAreNumbers m) where
     elements_ranked NoElement h = refl
     elements_ranked (ThenNamed name x es) h =
         ap (λ (i : ℕ). ThenNamed i (ranked m (value_in m x)) (ranked_elements m (elements_in m es))) (ranks.texts_are name [] h.0)
-        ∙ ap (λ (y : NumberedValue). ThenNamed name y (ranked_elements m (elements_in m es))) (value_ranked x h.1)
-        ∙ ap (ThenNamed name x) (elements_ranked es h.2)
+        ∙ ap (λ (y : NumberedValue). ThenNamed name y (ranked_elements m (elements_in m es))) (value_ranked x h.1) ∙ ap (ThenNamed name x) (elements_ranked es h.2)
 
   annotation_ranked : (a : NumberedAnnotation) → IsKnownAnnotation m a → ranked_annotation m (annotation_in m a) ≡ a
   annotation_ranked a h =
@@ -97,10 +96,7 @@ module _ (m n whole : Mentions) (r s : Maps) (ranks : RanksAreNumbers whole) (fr
   pub same_value : (x y : NumberedValue) (v w : Value) → All (IsMappedUse r) (value_uses x) → All (IsMappedUse s) (value_uses y) → Denotes m x v → Denotes n y w → (renumbered r x ≡ renumbered s y) ↔ (v ≡ w)
   same_value x y v w images images' h k =
       let mine = value_keeps m whole r x v from_first images h in
-      let theirs = value_keeps n whole s y w from_second images' k in (
-        (λ e. sym mine.means ∙ ap (value_in whole) e ∙ theirs.means),
-        (λ e. one_value whole ranks (renumbered r x) (renumbered s y) w (subst (Denotes whole (renumbered r x)) e mine) theirs),
-      )
+      let theirs = value_keeps n whole s y w from_second images' k in ((λ e. sym mine.means ∙ ap (value_in whole) e ∙ theirs.means), (λ e. one_value whole ranks (renumbered r x) (renumbered s y) w (subst (Denotes whole (renumbered r x)) e mine) theirs))
 
   pub same_values : (xs ys : NumberedValues) (vs ws : Values) → All (IsMappedUse r) (values_uses xs) → All (IsMappedUse s) (values_uses ys) → Denote m xs vs → Denote n ys ws → (renumbered_values r xs ≡ renumbered_values s ys) ↔ (vs ≡ ws)
   same_values xs ys vs ws images images' h k =

@@ -8,11 +8,9 @@ pub split_at : {X : Type 0} (f : ℕ → List X) (g : ℕ → X) → ((k : ℕ) 
 split_at f g more zero i lt = absurd (omega arith)
 split_at {X} f g more (suc n) i lt = elim (cases_lt i n) [
   | inl less ↦
-      let r = split_at f g more n i less in
-      (r.0 ++ g n ∷ [], more n ∙ ap (λ (xs : List X). xs ++ g n ∷ []) r.1 ∙ append_assoc (f i) (g i ∷ r.0) (g n ∷ []))
+      let r = split_at f g more n i less in (r.0 ++ g n ∷ [], more n ∙ ap (λ (xs : List X). xs ++ g n ∷ []) r.1 ∙ append_assoc (f i) (g i ∷ r.0) (g n ∷ []))
   | inr le ↦
-      let last : n ≡ i = omega (arith, lt, le) in
-      ([], more n ∙ ap (λ (k : ℕ). f k ++ g k ∷ []) last)
+      let last : n ≡ i = omega (arith, lt, le) in ([], more n ∙ ap (λ (k : ℕ). f k ++ g k ∷ []) last)
 ]
 
 module _ {X : Type 0} (R : X → X → Ordering) where
@@ -42,6 +40,4 @@ module _ (ts : List Text) (rise : rises text_cmp ts ≡ true) where
 
   -- at most one number has a text
   pub one_number : (i j : ℕ) → i < length ts → j < length ts → slice_index_or ts i [] ≡ slice_index_or ts j [] → i ≡ j
-  one_number i j lt lt' e =
-      let tied : nat_cmp i j ≡ nat_cmp j j = texts_agree i j lt lt' ∙ ap (λ (t : Text). text_cmp t (slice_index_or ts j [])) e ∙ sym (texts_agree j j lt' lt') in
-      grind arith
+  one_number i j lt lt' e = let tied : nat_cmp i j ≡ nat_cmp j j = texts_agree i j lt lt' ∙ ap (λ (t : Text). text_cmp t (slice_index_or ts j [])) e ∙ sym (texts_agree j j lt' lt') in grind arith

@@ -7,8 +7,7 @@ module _ (b : List ℕ) (o : ℕ) (m : Mentions) (p : ArePools b m) where
   -- bytes of a type code, if the code is known
   as_code : (code c width wide : ℕ) (bytes : List ℕ) (n : ℕ) → code ≡ c → width_of code ≡ Some width → width_of c ≡ Some wide → SizedAt code width b o bytes n → SizedAt c wide b o bytes n
   as_code code c width wide bytes n e w x h =
-      let same : width ≡ wide = let both : Some width ≡ Some wide = sym w ∙ ap width_of e ∙ x in cc in
-      subst (λ (k : ℕ). SizedAt c k b o bytes n) same (subst (λ (k : ℕ). SizedAt k width b o bytes n) e h)
+      let same : width ≡ wide = let both : Some width ≡ Some wide = sym w ∙ ap width_of e ∙ x in cc in subst (λ (k : ℕ). SizedAt c k b o bytes n) same (subst (λ (k : ℕ). SizedAt k width b o bytes n) e h)
 
   -- the value of the bytes is at the offset
   pub spelled_encoded : (code width : ℕ) (bytes : List ℕ) (n : ℕ) (x : NumberedValue) → width_of code ≡ Some width → SizedAt code width b o bytes n → Spells m code bytes x → IsReadAt b o m 0 x n
@@ -35,12 +34,10 @@ module _ (b : List ℕ) (o : ℕ) (m : Mentions) (p : ArePools b m) where
     pub no_number : (width : ℕ) → width_of (slice_index b o % 32) ≡ Some width → ((xs : List ℕ) (n : ℕ) → SizedAt (slice_index b o % 32) width b o xs n → ⊥) → NoValueAt b o depth
     no_number width w none v n h shallow =
         let s = sized_only b o m v n p c d e f t h in
-        let same : s.width ≡ width = let both : Some s.width ≡ Some width = sym s.wide ∙ w in cc in
-        none s.bytes n (subst (λ (k : ℕ). SizedAt (slice_index b o % 32) k b o s.bytes n) same s.encodes)
+        let same : s.width ≡ width = let both : Some s.width ≡ Some width = sym s.wide ∙ w in cc in none s.bytes n (subst (λ (k : ℕ). SizedAt (slice_index b o % 32) k b o s.bytes n) same s.encodes)
 
     -- the bytes are the number of no symbol
     pub no_symbol : (width : ℕ) (xs : List ℕ) (k : ℕ) → width_of (slice_index b o % 32) ≡ Some width → SizedAt (slice_index b o % 32) width b o xs k → IsUnknown m (slice_index b o % 32) xs → NoValueAt b o depth
     no_symbol width xs k w g u v n h shallow =
         let s = sized_only b o m v n p c d e f t h in
-        let named = u.names width w in
-        omega (arith, u.unknown named.0 named.1, s.known named.0 named.1, ap number_of (one_number (slice_index b o % 32) s.width width b o s.bytes xs n k s.encodes g))
+        let named = u.names width w in omega (arith, u.unknown named.0 named.1, s.known named.0 named.1, ap number_of (one_number (slice_index b o % 32) s.width width b o s.bytes xs n k s.encodes g))

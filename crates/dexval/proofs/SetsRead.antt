@@ -25,8 +25,7 @@ module _ (b : List ℕ) (off : ℕ) (m : Mentions) where
 pub uints_more : (b : List ℕ) (p k : ℕ) → uints_at b p (suc k) ≡ uints_at b p k ++ uint_at b (p + 4 * k) ∷ []
 uints_more b p zero = ap (λ (x : ℕ). uint_at b x ∷ []) (omega arith)
 uints_more b p (suc k) =
-    let place : p + 4 + 4 * k ≡ p + 4 * suc k = omega arith in
-    ap (λ (l : List ℕ). uint_at b p ∷ l) (uints_more b (p + 4) k) ∙ ap (λ (x : ℕ). uint_at b p ∷ (uints_at b (p + 4) k ++ uint_at b x ∷ [])) place
+    let place : p + 4 + 4 * k ≡ p + 4 * suc k = omega arith in ap (λ (l : List ℕ). uint_at b p ∷ l) (uints_more b (p + 4) k) ∙ ap (λ (x : ℕ). uint_at b p ∷ (uints_at b (p + 4) k ++ uint_at b x ∷ [])) place
 
 pub zip_more : {A X : Type 0} (R : A → X → Type 0) (keys : List A) (xs : List X) (a : A) (x : X) → AllZip R keys xs → R a x → AllZip R (keys ++ a ∷ []) (xs ++ x ∷ [])
 zip_more R [] [] a x h r = (r, tt)
@@ -64,8 +63,7 @@ module _ (b : List ℕ) (m : Mentions) (file : HasPools b m) where
   above_next : (index : ℕ) (t : Text) (s : AnnotationSet) → TypeRow b index t → rises text_cmp (t ∷ map (λ a. a.type) s) ≡ true → IsAbove b (index + 1) s
   above_next index t [] r h = tt
   above_next index t (a ∷ s) r h = λ other row.
-      let less = and_first (is_lt (text_cmp t a.type)) (rises text_cmp (a.type ∷ map (λ a. a.type) s)) h in
-      let texts : is_lt (text_cmp (type_at m index) (type_at m other)) ≡ true = ap is_lt (ap (λ (x : Text). text_cmp x (type_at m other)) (sym (row_type index t r)) ∙ ap (text_cmp t) (sym (row_type other a.type row))) ∙ less in
+      let texts : is_lt (text_cmp (type_at m index) (type_at m other)) ≡ true = ap is_lt (ap (λ (x : Text). text_cmp x (type_at m other)) (sym (row_type index t r)) ∙ ap (text_cmp t) (sym (row_type other a.type row))) ∙ (and_first (is_lt (text_cmp t a.type)) (rises text_cmp (a.type ∷ map (λ a. a.type) s)) h) in
       omega (arith, is_greater m.types file.rising.types_rise index other (row_within index t r) (row_within other a.type row) texts)
 
   rise_next : (t : Text) (s : AnnotationSet) → rises text_cmp (t ∷ map (λ a. a.type) s) ≡ true → rises text_cmp (map (λ a. a.type) s) ≡ true
@@ -84,16 +82,14 @@ module _ (b : List ℕ) (m : Mentions) (file : HasPools b m) where
   next_of : (p left least : ℕ) (s : AnnotationSet) → AllZip (AnnotationAt b) (uints_at b p (suc left)) s → rises text_cmp (map (λ a. a.type) s) ≡ true → IsAbove b least s → Next p (suc left) least
   next_of p left least [] h r a = absurd h
   next_of p left least (x ∷ s) h r a =
-      let row = h.0.annotation.1.5 in
-      let index = h.0.annotation.1.3 in
       let one : left ≡ suc left - 1 = omega arith in
       record {
         first = x;
-        index = index;
+        index = h.0.annotation.1.3;
         encodes = h.0;
-        row = row;
-        above = a index row;
-        following = record { set = s; are_encoded = subst (λ (n : ℕ). AllZip (AnnotationAt b) (uints_at b (p + 4) n) s) one h.1; rise = rise_next x.type s r; above = above_next index x.type s row r };
+        row = h.0.annotation.1.5;
+        above = a h.0.annotation.1.3 h.0.annotation.1.5;
+        following = record { set = s; are_encoded = subst (λ (n : ℕ). AllZip (AnnotationAt b) (uints_at b (p + 4) n) s) one h.1; rise = rise_next x.type s r; above = above_next h.0.annotation.1.3 x.type s h.0.annotation.1.5 r };
       }
 
   next : (p left least : ℕ) → 0 < left → RestOf b p left least → Next p left least
@@ -141,29 +137,20 @@ module _ (b : List ℕ) (m : Mentions) (file : HasPools b m) where
 
   -- the next item is no annotation
   pub no_next : (o i least : ℕ) (xs : List NumberedAnnotation) → i < uint_at b o → HaveReadSet b (o + 4) m (uint_at b o) i least xs → NoItemAt b (uint_at b (o + 4 + 4 * i)) → NoSetAt b o
-  no_next o i least xs lt h none s set =
-      let n = next (o + 4 + 4 * i) (uint_at b o - i) least (omega arith) (h.rest (rest_of o s set)) in
-      none n.first n.encodes
+  no_next o i least xs lt h none s set = let n = next (o + 4 + 4 * i) (uint_at b o - i) least (omega arith) (h.rest (rest_of o s set)) in none n.first n.encodes
 
   -- or its type is not greater
   pub no_order : (o i least : ℕ) (xs : List NumberedAnnotation) (x : NumberedAnnotation) → i < uint_at b o → HaveReadSet b (o + 4) m (uint_at b o) i least xs → IsItemAt b (uint_at b (o + 4 + 4 * i)) m x → x.type < least → NoSetAt b o
   no_order o i least xs x lt h r less s set =
       let n = next (o + 4 + 4 * i) (uint_at b o - i) least (omega arith) (h.rest (rest_of o s set)) in
-      let same = one_annotation_item b (uint_at b (o + 4 + 4 * i)) n.first (annotation_in m x) n.encodes r.at in
-      let row : TypeRow b n.index (type_at m x.type) = subst (TypeRow b n.index) (ap (λ (a : Annotation). a.type) same) n.row in
-      let is : x.type ≡ n.index = one_number m.types file.rising.types_rise x.type n.index r.known.type_in (row_within n.index (type_at m x.type) row) (row_type n.index (type_at m x.type) row) in
-      omega (arith, n.above, is, less)
+      let row : TypeRow b n.index (type_at m x.type) = subst (TypeRow b n.index) (ap (λ (a : Annotation). a.type) (one_annotation_item b (uint_at b (o + 4 + 4 * i)) n.first (annotation_in m x) n.encodes r.at)) n.row in
+      omega (arith, n.above, one_number m.types file.rising.types_rise x.type n.index r.known.type_in (row_within n.index (type_at m x.type) row) (row_type n.index (type_at m x.type) row), less)
 
   -- all were read
   pub all_read : (o i least : ℕ) (xs : List NumberedAnnotation) → HasOffsets b o → i ≡ uint_at b o → HaveReadSet b (o + 4) m (uint_at b o) i least xs → IsSetAt b o m xs
   all_read o i least xs has e h = record {
     known = h.known;
-    at = record {
-      in_data = has.in_data;
-      aligned = has.aligned;
-      annotations = subst (λ (n : ℕ). AllZip (AnnotationAt b) (uints_at b (o + 4) n) (set_in m xs)) e h.are_encoded;
-      rise = ap (rises text_cmp) (types_of xs) ∙ h.rise;
-    };
+    at = record { in_data = has.in_data; aligned = has.aligned; annotations = subst (λ (n : ℕ). AllZip (AnnotationAt b) (uints_at b (o + 4) n) (set_in m xs)) e h.are_encoded; rise = ap (rises text_cmp) (types_of xs) ∙ h.rise };
   }
     where
       types_of : (ys : List NumberedAnnotation) → map (λ a. a.type) (set_in m ys) ≡ map (λ y. type_at m y.type) ys

@@ -13,9 +13,7 @@ within_is b o x xs h = omega (arith, is_at_within h)
 
 -- the first of them is the byte at the offset
 pub first_is : (b : List ℕ) (o x : ℕ) (xs : List ℕ) → BytesAt b o (x ∷ xs) → slice_index b o ≡ x
-first_is b o x xs h =
-    let own : BytesAt b o (get_or b o 0 ∷ []) = record { here = ap (take 1) (drop-cons b o 0 (within_is b o x xs h)) } in
-    same_first (get_or b o 0) x [] xs own h
+first_is b o x xs h = let own : BytesAt b o (get_or b o 0 ∷ []) = record { here = ap (take 1) (drop-cons b o 0 (within_is b o x xs h)) } in same_first (get_or b o 0) x [] xs own h
 
 -- a single byte is at its offset
 pub is_at_byte : (b : List ℕ) (o x : ℕ) → o < length b → slice_index b o ≡ x → BytesAt b o (x ∷ [])

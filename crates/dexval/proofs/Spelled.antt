@@ -1,6 +1,5 @@
 -- Numbers of values as `byteorder` reads them.
-use Rattle.dexval.proofs.Common.{◌≡◌, All, ℕ, suc, ◌+◌, ◌-◌, ◌*◌, ◌%◌, ◌^◌, ◌<◌, ◌≤◌, List, [], ◌∷◌, length, get_or, refl, sym, ap, subst, ◌∙◌, arith, inl, inr, ℤ, pos, negsuc, FitsSigned, w8, w16, w32, w64, pow-suc, pow-le-pow_right, mod-eq_of_lt, mul-lt-mul_of_pos_right, mul_comm, pow-add, get_or_default, ints, cases_lt, lt-ltb, le-ltb, signed_in, magnitude, pow_256, pow_256_pos, number_bound, signed_in_room, little_number, twos_complement}
-use Rattle.dexspec.specs.Bytes.{number_of}
+use Rattle.dexval.proofs.Common.{◌≡◌, All, ℕ, suc, ◌+◌, ◌-◌, ◌*◌, ◌%◌, ◌^◌, ◌<◌, ◌≤◌, List, [], ◌∷◌, length, get_or, refl, sym, ap, subst, ◌∙◌, arith, inl, inr, ℤ, pos, negsuc, FitsSigned, w8, w16, w32, w64, pow-suc, pow-le-pow_right, mod-eq_of_lt, mul-lt-mul_of_pos_right, mul_comm, pow-add, get_or_default, ints, cases_lt, lt-ltb, le-ltb, signed_in, magnitude, pow_256, pow_256_pos, number_bound, signed_in_room, little_number, twos_complement, number_of}
 use Rattle.byteorder.specs.Numbers.{little_from-cons}
 
 -- an unsigned number
@@ -52,9 +51,7 @@ shifted width n x few eight lt =
 pub shifted_room : (width n x : ℕ) → n ≤ width → x < 256 ^ n → 256 ^ (width - n) * x < 256 ^ width
 shifted_room width n x few lt =
     let parts : n + (width - n) ≡ width = omega arith in
-    let whole : 256 ^ n * 256 ^ (width - n) ≡ 256 ^ width = sym (pow-add 256 n (width - n)) ∙ ap (λ (k : ℕ). 256 ^ k) parts in
-    let room : x * 256 ^ (width - n) < 256 ^ n * 256 ^ (width - n) = mul-lt-mul_of_pos_right lt (pow_256_pos (width - n)) in
-    omega (arith, room, whole, mul_comm x (256 ^ (width - n)))
+    omega (arith, mul-lt-mul_of_pos_right lt (pow_256_pos (width - n)), sym (pow-add 256 n (width - n)) ∙ ap (λ (k : ℕ). 256 ^ k) parts, mul_comm x (256 ^ (width - n)))
 
 -- ---- numbers that fit a type
 

@@ -52,8 +52,7 @@ mutual
   -- values
   values_bytes_are : (m : Mentions) (xs : NumberedValues) → AreRising m → AreCounted xs → AreKnown m xs → numbered_values_bytes xs ≡ values_bytes m (values_in m xs)
   values_bytes_are m NoValue r few h = refl
-  values_bytes_are m (ThenNext x xs) r few h =
-      ap (λ (l : List ℕ). l ++ numbered_values_bytes xs) (bytes_are m x r few.0 h.0) ∙ ap (λ (l : List ℕ). value_bytes m (value_in m x) ++ l) (values_bytes_are m xs r few.1 h.1)
+  values_bytes_are m (ThenNext x xs) r few h = ap (λ (l : List ℕ). l ++ numbered_values_bytes xs) (bytes_are m x r few.0 h.0) ∙ ap (λ (l : List ℕ). value_bytes m (value_in m x) ++ l) (values_bytes_are m xs r few.1 h.1)
 
   -- elements
   elements_bytes_are : (m : Mentions) (es : NumberedElements) → AreRising m → HaveCounted es → HaveKnown m es → numbered_elements_bytes es ≡ elements_bytes m (elements_in m es)
@@ -85,31 +84,12 @@ annotation_put_is {u = u} {w = w} {r = r} m x rising h a counted encodes = subst
 -- ---- lengths, whatever the counts
 
 count_lengths : (m : Mentions) (xs : NumberedValues) → length (numbered_values_bytes xs) ≡ length (values_bytes m (values_in m xs)) → length (numbered_array_bytes xs) ≡ length (encoded_array_bytes m (values_in m xs))
-count_lengths m xs e =
-    omega (
-      arith,
-      length-append (count_bytes (values_count xs)) (numbered_values_bytes xs),
-      length-append (uleb128 (count_values (values_in m xs))) (values_bytes m (values_in m xs)),
-      count_length (values_count xs),
-      ap (λ (n : ℕ). length (uleb128 n)) (values_count_is m xs),
-      e,
-    )
+count_lengths m xs e = omega (arith, length-append {A = ℕ}, count_length (values_count xs), ap (λ (n : ℕ). length (uleb128 n)) (values_count_is m xs), e)
 
 annotation_lengths : (m : Mentions) (t : ℕ) (es : NumberedElements) → AreRising m → t < length m.types → length (numbered_elements_bytes es) ≡ length (elements_bytes m (elements_in m es))
     → length (encoded_annotation_bytes t es) ≡ length (uleb128 (type_index m (type_at m t)) ++ (uleb128 (length (names_of (elements_in m es))) ++ elements_bytes m (elements_in m es)))
 annotation_lengths m t es r lt e =
-    let names = length (names_of (elements_in m es)) in
-    omega (
-      arith,
-      length-append (uleb128 t) (count_bytes (elements_count es) ++ numbered_elements_bytes es),
-      length-append (count_bytes (elements_count es)) (numbered_elements_bytes es),
-      length-append (uleb128 (type_index m (type_at m t))) (uleb128 names ++ elements_bytes m (elements_in m es)),
-      length-append (uleb128 names) (elements_bytes m (elements_in m es)),
-      count_length (elements_count es),
-      ap (λ (n : ℕ). length (uleb128 n)) (elements_count_is m es),
-      ap (λ (n : ℕ). length (uleb128 n)) ((ranks_are_numbers m r).types_are t [] lt),
-      e,
-    )
+    omega (arith, length-append {A = ℕ}, count_length (elements_count es), ap (λ (n : ℕ). length (uleb128 n)) (elements_count_is m es), ap (λ (n : ℕ). length (uleb128 n)) ((ranks_are_numbers m r).types_are t [] lt), e)
 
 mutual
   lengths_are : (m : Mentions) (x : NumberedValue) → AreRising m → IsKnown m x → length (numbered_bytes x) ≡ length (value_bytes m (value_in m x))
@@ -120,24 +100,12 @@ mutual
 
   values_lengths_are : (m : Mentions) (xs : NumberedValues) → AreRising m → AreKnown m xs → length (numbered_values_bytes xs) ≡ length (values_bytes m (values_in m xs))
   values_lengths_are m NoValue r h = refl
-  values_lengths_are m (ThenNext x xs) r h =
-      omega (arith, length-append (numbered_bytes x) (numbered_values_bytes xs), length-append (value_bytes m (value_in m x)) (values_bytes m (values_in m xs)), lengths_are m x r h.0, values_lengths_are m xs r h.1)
+  values_lengths_are m (ThenNext x xs) r h = omega (arith, length-append {A = ℕ}, lengths_are m x r h.0, values_lengths_are m xs r h.1)
 
   elements_lengths_are : (m : Mentions) (es : NumberedElements) → AreRising m → HaveKnown m es → length (numbered_elements_bytes es) ≡ length (elements_bytes m (elements_in m es))
   elements_lengths_are m NoElement r h = refl
   elements_lengths_are m (ThenNamed name x es) r h =
-      let v = value_bytes m (value_in m x) in
-      let rest = elements_bytes m (elements_in m es) in
-      omega (
-        arith,
-        length-append (uleb128 name) (numbered_bytes x ++ numbered_elements_bytes es),
-        length-append (numbered_bytes x) (numbered_elements_bytes es),
-        length-append (uleb128 (text_index m (text_at m name))) (v ++ rest),
-        length-append v rest,
-        ap (λ (n : ℕ). length (uleb128 n)) ((ranks_are_numbers m r).texts_are name [] h.0),
-        lengths_are m x r h.1,
-        elements_lengths_are m es r h.2,
-      )
+      omega (arith, length-append {A = ℕ}, ap (λ (n : ℕ). length (uleb128 n)) ((ranks_are_numbers m r).texts_are name [] h.0), lengths_are m x r h.1, elements_lengths_are m es r h.2)
 
 -- an annotation
 pub annotation_lengths_are : (m : Mentions) (x : NumberedAnnotation) (a : Annotation) → AreRising m → DenotesAnnotation m x a → length (numbered_annotation_bytes x) ≡ length (annotation_bytes m a)
@@ -156,8 +124,7 @@ mutual
   size_is m (Plain l) = literal_size m l
   size_is m (Named k i) = value_bytes-size m (CharValue i)
   size_is m (Array xs) = omega (arith, length-append (count_bytes (values_count xs)) (numbered_values_bytes xs), count-size (values_count xs), values_size_is m xs)
-  size_is m (Annotated t es) =
-      omega (arith, length-append (uleb128 t) (count_bytes (elements_count es) ++ numbered_elements_bytes es), length-append (count_bytes (elements_count es)) (numbered_elements_bytes es), uleb128-size t, count-size (elements_count es), elements_size_is m es)
+  size_is m (Annotated t es) = omega (arith, length-append {A = ℕ}, uleb128-size t, count-size (elements_count es), elements_size_is m es)
 
   -- values
   pub values_size_is : (m : Mentions) (xs : NumberedValues) → length (numbered_values_bytes xs) ≤ numbered_values_weight xs
@@ -167,8 +134,7 @@ mutual
   -- elements
   pub elements_size_is : (m : Mentions) (es : NumberedElements) → length (numbered_elements_bytes es) ≤ numbered_elements_weight es
   elements_size_is m NoElement = omega arith
-  elements_size_is m (ThenNamed name x es) =
-      omega (arith, length-append (uleb128 name) (numbered_bytes x ++ numbered_elements_bytes es), length-append (numbered_bytes x) (numbered_elements_bytes es), uleb128-size name, size_is m x, elements_size_is m es)
+  elements_size_is m (ThenNamed name x es) = omega (arith, length-append {A = ℕ}, uleb128-size name, size_is m x, elements_size_is m es)
 
 -- values with their count
 pub array_size_is : (m : Mentions) (xs : NumberedValues) → length (numbered_array_bytes xs) ≤ 6 + numbered_values_weight xs

@@ -1,18 +1,31 @@
 -- Sets and lists added to tables of sets.
-use Rattle.dexval.proofs.Common.{◌≡◌, ℕ, ◌+◌, List, [], ◌∷◌, ◌++◌, length, map, refl, ap, ◌∙◌, inl, inr, arith, Option, Some, None, slice_index_or, All, get_or_append_left, get_or-append-add, Contains-append_left, NumberedSet, NumberedTable, IsPlaceIn, HoldsLists, Extends, AreNewNamed, set_at, places_at, sets_at}
+use Rattle.dexval.proofs.Common.{◌≡◌, ℕ, ◌+◌, List, [], ◌∷◌, ◌++◌, length, map, refl, ap, ◌∙◌, inl, inr, arith, Option, Some, None, slice_index_or, All, get_or_append_left, get_or-append-add, Contains-append_left, NumberedSet, NumberedTable, IsPlaceIn, HoldsLists, Extends, AreNewNamed, set_at, places_at, sets_at, ◌<◌, ◌≤◌, get_or, sym, subst, get_or-map, length-map, All-get_or, All-head, All-tail}
 use Rattle.std.proofs.Common.{length-append}
-use Rattle.dexval.proofs.Tables.{place_later, map_stays}
+
+-- ---- Lookups in tables of sets
+
+-- a property of all models holds for the model of one member
+pub mapped_at : {X Y : Type 0} (of : X → Y) (P : Y → Type 0) (xs : List X) (i : ℕ) (x : X) → i < length xs → x ≡ get_or xs i x → All P (map of xs) → P (of x)
+mapped_at of P xs i x lt e all = subst P (get_or-map of xs i x (of x) lt ∙ ap of (sym e)) (All-get_or P (map of xs) i (of x) (omega (arith, lt, length-map xs of)) all)
+
+-- a place of a list is a place of a longer list
+pub place_later : {X Y : Type 0} (xs : List X) (ys : List Y) → length xs ≤ length ys → (place : Option ℕ) → IsPlaceIn xs place → IsPlaceIn ys place
+place_later xs ys le None h = tt
+place_later xs ys le (Some i) h = omega (arith, le, h)
+
+-- two functions that are equal at each member map a list to equal lists
+pub map_stays : {A X : Type 0} (f g : A → X) (P : A → Type 0) → ((a : A) → P a → g a ≡ f a) → (xs : List A) → All P xs → map g xs ≡ map f xs
+map_stays f g P same [] h = refl
+map_stays f g P same (x ∷ xs) h = ap (λ y. y ∷ map g xs) (same x (All-head P x xs h)) ∙ ap (λ ys. f x ∷ ys) (map_stays f g P same xs (All-tail P x xs h))
+
+-- a property of all members implies another
+pub all_as : {A : Type 0} (P Q : A → Type 0) → ((a : A) → P a → Q a) → (xs : List A) → All P xs → All Q xs
+all_as P Q goes xs h = λ k d lt. goes _ (h k d lt)
 
 -- ---- growth
 
 pub extends_same : (t : NumberedTable) → Extends t t
-extends_same t = record {
-  sets_hold = λ place h. h;
-  lists_hold = λ place h. h;
-  sets_stay = λ place h. refl;
-  lists_stay = λ place h. refl;
-  listed_stay = λ i h. h;
-}
+extends_same t = record { sets_hold = λ place h. h; lists_hold = λ place h. h; sets_stay = λ place h. refl; lists_stay = λ place h. refl; listed_stay = λ i h. h }
 
 pub extends_then : (t u v : NumberedTable) → Extends t u → Extends u v → Extends t v
 extends_then t u v f g = record {
@@ -76,9 +89,7 @@ new_then t u v s1 l1 s2 l2 h g = record {
 
 -- the last element of a list
 last_is : {X : Type 0} (xs : List X) (x : X) (i : ℕ) (d : X) → i ≡ length xs → slice_index_or (xs ++ x ∷ []) i d ≡ x
-last_is xs x i d e =
-    let place : i ≡ length xs + 0 = omega (arith, e) in
-    ap (λ (k : ℕ). slice_index_or (xs ++ x ∷ []) k d) place ∙ get_or-append-add xs (x ∷ []) 0 d
+last_is xs x i d e = let place : i ≡ length xs + 0 = omega (arith, e) in ap (λ (k : ℕ). slice_index_or (xs ++ x ∷ []) k d) place ∙ get_or-append-add xs (x ∷ []) 0 d
 
 -- the added item is at the new place
 pub set_is_added : (t u : NumberedTable) (s : NumberedSet) (i : ℕ) → i ≡ length t.sets → u ≡ record { sets = t.sets ++ s ∷ []; lists = t.lists } → set_at u.sets (Some i) ≡ s

@@ -25,15 +25,13 @@ settled_stays r old new i x h lt e none = record {
 -- one more set, which is remapped
 pub settled_remapped : (r : Maps) (old new : List AnnotationSet) (i : ℕ) (x y : AnnotationSet) → AreSettled r i old new → i < length old → x ≡ get_or new i x → SetHasPlaces r (set_of x) → set_of y ≡ renumbered_set r (set_of x) → AreSettled r (i + 1) old (set new i y)
 settled_remapped r old new i x y h lt e fits is =
-    let inside_new : i < length new = omega (arith, h.size, lt) in
     record {
       done = λ k d less inside. elim (cases_lt k i) [
         | inl before ↦ subst (λ (z : AnnotationSet). IsRemappedSet r (set_of (get_or old k d)) (set_of z)) (sym (get_or-set_other new i k y d (λ same. omega (arith, same, before)))) (h.done k d before inside)
         | inr ge ↦
             let same : i ≡ k = omega (arith, ge, less) in
             let here : x ≡ get_or old k d = e ∙ h.rest i x (omega arith) ∙ get_or_default old i x d lt ∙ ap (λ (n : ℕ). get_or old n d) same in
-            let there : y ≡ get_or (set new i y) k d = sym (get_or-set_same new i y d inside_new) ∙ ap (λ (n : ℕ). get_or (set new i y) n d) same in
-            ((λ places. ap set_of (sym there) ∙ is ∙ ap (λ (z : AnnotationSet). renumbered_set r (set_of z)) here), (λ none. absurd (none (subst (λ (z : AnnotationSet). SetHasPlaces r (set_of z)) here fits))))
+            ((λ places. ap set_of (sym (sym (get_or-set_same new i y d (omega (arith, h.size, lt))) ∙ ap (λ (n : ℕ). get_or (set new i y) n d) same)) ∙ is ∙ ap (λ (z : AnnotationSet). renumbered_set r (set_of z)) here), (λ none. absurd (none (subst (λ (z : AnnotationSet). SetHasPlaces r (set_of z)) here fits))))
       ];
       rest = λ k d le. get_or-set_other new i k y d (λ same. omega (arith, same, le)) ∙ h.rest k d (omega (arith, le));
       size = length-set new i y ∙ h.size;

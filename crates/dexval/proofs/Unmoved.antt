@@ -36,10 +36,9 @@ set_stays (a ∷ s) = ap (λ (b : NumberedAnnotation). b ∷ renumbered_set nowh
 
 -- two results that decide the same statement are equal
 equal_results : {P : Type 0} (r b : Bool) → (IsTrue r ↔ P) → Decides b P → r ≡ b
-equal_results true true h k = refl
-equal_results false false h k = refl
 equal_results true false h k = sym (k.1 (h.0 refl))
 equal_results false true h k = h.1 (k.0 refl)
+equal_results _ _ h k = refl
 
 -- whether two sets are equal
 pub same_decision : (s t : NumberedSet) (r b : Bool) → (IsTrue r ↔ (renumbered_set nowhere s ≡ renumbered_set nowhere t)) → Decides b (s ≡ t) → r ≡ b

@@ -46,13 +46,7 @@ module _ (b : List ℕ) (m : Mentions) where
 
   next_of : (o depth left n : ℕ) (vs : Values) → 0 < left → ValuesAt b o vs n → count_values vs ≡ left → values_depth vs ≤ depth → Next o depth left
   next_of o depth left n NoValues lt h e d = absurd (omega (arith, e, lt))
-  next_of o depth left n (ThenValue v vs) lt h e d = record {
-    value = v;
-    size = h.0;
-    encodes = h.2;
-    shallow = omega (arith, d);
-    following = record { values = vs; size = h.1; are_encoded = h.3; number = omega (arith, e); shallow = omega (arith, d) };
-  }
+  next_of o depth left n (ThenValue v vs) lt h e d = record { value = v; size = h.0; encodes = h.2; shallow = omega (arith, d); following = record { values = vs; size = h.1; are_encoded = h.3; number = omega (arith, e); shallow = omega (arith, d) } }
 
   next : (o depth left : ℕ) → 0 < left → Rest b o depth left → Next o depth left
   next o depth left lt r = next_of o depth left r.size r.values lt r.are_encoded r.number r.shallow
@@ -83,9 +77,7 @@ module _ (b : List ℕ) (m : Mentions) where
 
   -- the next bytes are no value
   pub no_next : (o depth count i : ℕ) (xs : List NumberedValue) (k : ℕ) → i < count → HaveRead b o m depth count i xs k → NoValueAt b (o + k) depth → Rest b o depth count → ⊥
-  no_next o depth count i xs k lt h none all =
-      let n = next (o + k) depth (count - i) (omega arith) (h.rest all) in
-      none n.value n.size n.encodes n.shallow
+  no_next o depth count i xs k lt h none all = let n = next (o + k) depth (count - i) (omega arith) (h.rest all) in none n.value n.size n.encodes n.shallow
 
   -- without a count there is no array
   pub no_count : (o depth : ℕ) → ((count i : ℕ) → Uleb128At b o count i → ⊥) → NoArrayAt b o depth
@@ -101,8 +93,4 @@ module _ (b : List ℕ) (m : Mentions) where
   pub all_read : (o depth count i head : ℕ) (xs : List NumberedValue) (k : ℕ) → Uleb128At b o count head → i ≡ count → HaveRead b (o + head) m depth count i xs k → AreReadAt b o m depth (values_of_list xs) (head + k)
   all_read o depth count i head xs k u e h =
       let all : count ≡ count_values (values_in m (values_of_list xs)) = omega (arith, count_is xs, h.number, e) in
-      record {
-        known = h.known;
-        encodes = (head, k, subst (λ (c : ℕ). Uleb128At b o c head) all u, h.are_encoded, refl);
-        shallow = h.shallow;
-      }
+      record { known = h.known; encodes = (head, k, subst (λ (c : ℕ). Uleb128At b o c head) all u, h.are_encoded, refl); shallow = h.shallow }

@@ -91,6 +91,7 @@ fn sets_weight(sets: &[AnnotationSet]) -> u64
 }
 
 // The weight of a set.
+#[tactic(auto, using(crate::proofs::Weights::annotations_weight_is))]
 fn set_weight(set: &AnnotationSet) -> u64
     ensures { result ≡ min (2 ^ 64 - 1) (numbered_set_weight (set_of set.now)) }
 {
@@ -125,6 +126,7 @@ impl AnnotationSet {
 
 /// The weight of the sets of a method's parameters, with the list of them, or 2^64 - 1 if they weigh more. An empty
 /// list weighs nothing.
+#[tactic(auto, using(crate::proofs::Weights::sets_weight_is))]
 pub fn parameter_sets_weight(sets: &[AnnotationSet]) -> u64
     ensures { (m : Mentions) → result ≡ min (2 ^ 64 - 1) (weight_of_sets m sets.now) }
 {
@@ -135,6 +137,7 @@ pub fn parameter_sets_weight(sets: &[AnnotationSet]) -> u64
 }
 
 /// The weight of the initial values of static fields, or 2^64 - 1 if they weigh more. An empty list weighs nothing.
+#[tactic(auto, using(crate::proofs::Weights::statics_weight_is))]
 pub fn statics_weight(values: &[Value]) -> u64
     ensures { (m : Mentions) → result ≡ min (2 ^ 64 - 1) (weight_of_statics m values.now) }
 {

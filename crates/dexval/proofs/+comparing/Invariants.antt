@@ -2,16 +2,10 @@ use Rattle.dexval.proofs.Common.{◌≡◌, ◌+◌, length, map, take, value_of
 use Rattle.dexval.proofs.+comparing.Given as goal
 
 abbrev pub invariant-same::same_elements-loop-i : goal.invariant-same::same_elements-loop-i
-invariant-same::same_elements-loop-i l = record {
-  count : length l.elements ≡ length l.others;
-  same : map (renumbered_element l.mine) (map element_of (take l.i l.elements)) ≡ map (renumbered_element l.theirs) (map element_of (take l.i l.others));
-}
+invariant-same::same_elements-loop-i l = record { count : length l.elements ≡ length l.others; same : map (renumbered_element l.mine) (map element_of (take l.i l.elements)) ≡ map (renumbered_element l.theirs) (map element_of (take l.i l.others)) }
 
 abbrev pub invariant-same::same_values_mapped-loop-i : goal.invariant-same::same_values_mapped-loop-i
-invariant-same::same_values_mapped-loop-i l = record {
-  count : length l.values ≡ length l.others;
-  same : map (renumbered l.mine) (map value_of (take l.i l.values)) ≡ map (renumbered l.theirs) (map value_of (take l.i l.others));
-}
+invariant-same::same_values_mapped-loop-i l = record { count : length l.values ≡ length l.others; same : map (renumbered l.mine) (map value_of (take l.i l.values)) ≡ map (renumbered l.theirs) (map value_of (take l.i l.others)) }
 
 abbrev pub decreases-value::Value::same_mapped : goal.decreases-value::Value::same_mapped
 decreases-value::Value::same_mapped l = numbered_weight (value_of l.self.now)

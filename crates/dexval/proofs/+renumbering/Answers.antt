@@ -3,21 +3,16 @@ use Rattle.std.specs.Box.{with_value}
 use Rattle.dexpool.specs.declared.symbols.SymbolKind.TheVariants as kinds
 use Rattle.dexval.specs.declared.value.Value.TheVariants as variants
 use Rattle.dexval.specs.Numbered as numbered
-use Rattle.dexval.proofs.CodeForms.{string_is, typ_is, field_is, method_is, enum_is, array_is, annotation_is, element_is}
-use Rattle.dexval.proofs.Members.{value_lighter, element_lighter}
-use Rattle.dexval.proofs.ValueForms.{array_lighter, annotation_lighter}
+use Rattle.dexval.proofs.Members.{string_is, typ_is, field_is, method_is, enum_is, array_is, annotation_is, element_is, value_lighter, element_lighter, array_lighter, annotation_lighter}
 use Rattle.dexval.proofs.Renumbered.{next_is, next_member, all_remapped, remapped_more, values_placed, elements_placed, values_renumbered, elements_renumbered}
 use Rattle.dexval.proofs.+renumbering.Goals as goal
 
 pub renumbering::renumber_elements-renumber-requires : goal.renumbering::renumber_elements-renumber-requires
 renumbering::renumber_elements-renumber-requires t c =
-    let r = c.args.remap.now in
     let old = c.args.elements.now.items in
-    let new = c.loop-i.elements.items in
-    let i = c.loop-i.i in
     let d = c.index_mut.result.now in
-    let lighter = element_lighter old i d (omega arith) (next_is element_of (renumbered_element r) old new i d c.loop-i.invariant c.index_mut.ensures.value) in
-    (search rules, next_member element_of (renumbered_element r) (ElementHasPlaces r) old new i d c.loop-i.invariant (omega arith) (elements_placed r (map element_of old) c.requires) c.index_mut.ensures.value)
+    let lighter = element_lighter old c.loop-i.i d (omega arith) (next_is element_of (renumbered_element c.args.remap.now) old c.loop-i.elements.items c.loop-i.i d c.loop-i.invariant c.index_mut.ensures.value) in
+    (search rules, next_member element_of (renumbered_element c.args.remap.now) (ElementHasPlaces c.args.remap.now) old c.loop-i.elements.items c.loop-i.i d c.loop-i.invariant (omega arith) (elements_placed c.args.remap.now (map element_of old) c.requires) c.index_mut.ensures.value)
 
 pub renumbering::renumber_elements-loop-i-preserved : goal.renumbering::renumber_elements-loop-i-preserved
 renumbering::renumber_elements-loop-i-preserved t c =
@@ -25,19 +20,13 @@ renumbering::renumber_elements-loop-i-preserved t c =
 
 pub renumbering::renumber_elements-returns : goal.renumbering::renumber_elements-returns
 renumbering::renumber_elements-returns t c =
-    let r = c.args.remap.now in
-    let old = c.args.elements.now.items in
-    ap elements_of_list (all_remapped element_of (renumbered_element r) old c.loop-i.elements.items c.loop-i.i c.loop-i.invariant (omega arith)) ∙ elements_renumbered r (map element_of old)
+    ap elements_of_list (all_remapped element_of (renumbered_element c.args.remap.now) c.args.elements.now.items c.loop-i.elements.items c.loop-i.i c.loop-i.invariant (omega arith)) ∙ elements_renumbered c.args.remap.now (map element_of c.args.elements.now.items)
 
 pub renumbering::renumber_values-renumber-requires : goal.renumbering::renumber_values-renumber-requires
 renumbering::renumber_values-renumber-requires t c =
-    let r = c.args.remap.now in
     let old = c.args.values.now.items in
-    let new = c.loop-i.values.items in
-    let i = c.loop-i.i in
-    let d = c.index_mut.result.now in
-    let lighter = value_lighter old i d (omega arith) (next_is value_of (renumbered r) old new i d c.loop-i.invariant c.index_mut.ensures.value) in
-    (search rules, next_member value_of (renumbered r) (HasPlaces r) old new i d c.loop-i.invariant (omega arith) (values_placed r (map value_of old) c.requires) c.index_mut.ensures.value)
+    let lighter = value_lighter old c.loop-i.i c.index_mut.result.now (omega arith) (next_is value_of (renumbered c.args.remap.now) old c.loop-i.values.items c.loop-i.i c.index_mut.result.now c.loop-i.invariant c.index_mut.ensures.value) in
+    (search rules, next_member value_of (renumbered c.args.remap.now) (HasPlaces c.args.remap.now) old c.loop-i.values.items c.loop-i.i c.index_mut.result.now c.loop-i.invariant (omega arith) (values_placed c.args.remap.now (map value_of old) c.requires) c.index_mut.ensures.value)
 
 pub renumbering::renumber_values-loop-i-preserved : goal.renumbering::renumber_values-loop-i-preserved
 renumbering::renumber_values-loop-i-preserved t c =
@@ -45,41 +34,33 @@ renumbering::renumber_values-loop-i-preserved t c =
 
 pub renumbering::renumber_values-returns : goal.renumbering::renumber_values-returns
 renumbering::renumber_values-returns t c =
-    let r = c.args.remap.now in
-    let old = c.args.values.now.items in
-    ap values_of_list (all_remapped value_of (renumbered r) old c.loop-i.values.items c.loop-i.i c.loop-i.invariant (omega arith)) ∙ values_renumbered r (map value_of old)
+    let old = c.args.values.now.items in ap values_of_list (all_remapped value_of (renumbered c.args.remap.now) old c.loop-i.values.items c.loop-i.i c.loop-i.invariant (omega arith)) ∙ values_renumbered c.args.remap.now (map value_of old)
 
 pub value::Value::renumber-remapped-requires : goal.value::Value::renumber-remapped-requires
 value::Value::renumber-remapped-requires t c =
-    let maps_to = All-head (MapsUse c.args.remap.now) (record { kind = kinds.Text; number = c.in-String.number }) [] (subst (HasPlaces c.args.remap.now) (ap value_of c.in-String.is ∙ string_is c.in-String.number) c.requires) in
-    subst (IsMapped c.args.remap.now kinds.Text) (sym c.in-String.number-is) maps_to
+    subst (IsMapped c.args.remap.now kinds.Text) (sym c.in-String.number-is) (All-head (MapsUse c.args.remap.now) (record { kind = kinds.Text; number = c.in-String.number }) [] (subst (HasPlaces c.args.remap.now) (ap value_of c.in-String.is ∙ string_is c.in-String.number) c.requires))
 
 pub value::Value::renumber-remapped-requires-in-Typ : goal.value::Value::renumber-remapped-requires-in-Typ
 value::Value::renumber-remapped-requires-in-Typ t c =
-    let maps_to = All-head (MapsUse c.args.remap.now) (record { kind = kinds.Typ; number = c.in-Typ.number }) [] (subst (HasPlaces c.args.remap.now) (ap value_of c.in-Typ.is ∙ typ_is c.in-Typ.number) c.requires) in
-    subst (IsMapped c.args.remap.now kinds.Typ) (sym c.in-Typ.number-is) maps_to
+    subst (IsMapped c.args.remap.now kinds.Typ) (sym c.in-Typ.number-is) (All-head (MapsUse c.args.remap.now) (record { kind = kinds.Typ; number = c.in-Typ.number }) [] (subst (HasPlaces c.args.remap.now) (ap value_of c.in-Typ.is ∙ typ_is c.in-Typ.number) c.requires))
 
 pub value::Value::renumber-remapped-requires-in-Field : goal.value::Value::renumber-remapped-requires-in-Field
 value::Value::renumber-remapped-requires-in-Field t c =
-    let maps_to = All-head (MapsUse c.args.remap.now) (record { kind = kinds.Field; number = c.in-Field.number }) [] (subst (HasPlaces c.args.remap.now) (ap value_of c.in-Field.is ∙ field_is c.in-Field.number) c.requires) in
-    subst (IsMapped c.args.remap.now kinds.Field) (sym c.in-Field.number-is) maps_to
+    subst (IsMapped c.args.remap.now kinds.Field) (sym c.in-Field.number-is) (All-head (MapsUse c.args.remap.now) (record { kind = kinds.Field; number = c.in-Field.number }) [] (subst (HasPlaces c.args.remap.now) (ap value_of c.in-Field.is ∙ field_is c.in-Field.number) c.requires))
 
 pub value::Value::renumber-remapped-requires-in-Method : goal.value::Value::renumber-remapped-requires-in-Method
 value::Value::renumber-remapped-requires-in-Method t c =
-    let maps_to = All-head (MapsUse c.args.remap.now) (record { kind = kinds.Method; number = c.in-Method.number }) [] (subst (HasPlaces c.args.remap.now) (ap value_of c.in-Method.is ∙ method_is c.in-Method.number) c.requires) in
-    subst (IsMapped c.args.remap.now kinds.Method) (sym c.in-Method.number-is) maps_to
+    subst (IsMapped c.args.remap.now kinds.Method) (sym c.in-Method.number-is) (All-head (MapsUse c.args.remap.now) (record { kind = kinds.Method; number = c.in-Method.number }) [] (subst (HasPlaces c.args.remap.now) (ap value_of c.in-Method.is ∙ method_is c.in-Method.number) c.requires))
 
 pub value::Value::renumber-remapped-requires-in-Enum : goal.value::Value::renumber-remapped-requires-in-Enum
 value::Value::renumber-remapped-requires-in-Enum t c =
-    let maps_to = All-head (MapsUse c.args.remap.now) (record { kind = kinds.Field; number = c.in-Enum.number }) [] (subst (HasPlaces c.args.remap.now) (ap value_of c.in-Enum.is ∙ enum_is c.in-Enum.number) c.requires) in
-    subst (IsMapped c.args.remap.now kinds.Field) (sym c.in-Enum.number-is) maps_to
+    subst (IsMapped c.args.remap.now kinds.Field) (sym c.in-Enum.number-is) (All-head (MapsUse c.args.remap.now) (record { kind = kinds.Field; number = c.in-Enum.number }) [] (subst (HasPlaces c.args.remap.now) (ap value_of c.in-Enum.is ∙ enum_is c.in-Enum.number) c.requires))
 
 pub value::Value::renumber-renumber_values-requires : goal.value::Value::renumber-renumber_values-requires
 value::Value::renumber-renumber_values-requires t c =
     let same = c.deref_mut.ensures.value ∙ ap (λ b. b.value) c.in-Array.values-is in
-    let placed = subst (HasPlaces c.args.remap.now) (ap value_of c.in-Array.is ∙ array_is c.in-Array.values) c.requires in
     let lighter = array_lighter c.args.self.now c.in-Array.values c.in-Array.is (ap (λ v. v.items) same) in
-    (search rules, subst (λ v. HavePlaces c.args.remap.now (values_of_list (map value_of v.items))) (sym same) placed)
+    (search rules, subst (λ v. HavePlaces c.args.remap.now (values_of_list (map value_of v.items))) (sym same) (subst (HasPlaces c.args.remap.now) (ap value_of c.in-Array.is ∙ array_is c.in-Array.values) c.requires))
 
 pub value::Value::renumber-renumber-requires : goal.value::Value::renumber-renumber-requires
 value::Value::renumber-renumber-requires t c =
@@ -90,52 +71,41 @@ value::Value::renumber-renumber-requires t c =
 
 pub value::Value::renumber-returns-in-Annotation : goal.value::Value::renumber-returns-in-Annotation
 value::Value::renumber-returns-in-Annotation t c =
-    let r = c.args.remap.now in
     let b = c.in-Annotation.annotation in
-    let is = c.renumber.ensures ∙ ap (λ a. renumbered r (encoded_of a)) (c.deref_mut-in-Annotation.ensures.value ∙ ap (λ b. b.value) c.in-Annotation.annotation-is) ∙ ap (renumbered r) (sym (annotation_is b)) in
-    let whole : value_of (variants.Annotation (with_value b c.renumber.new.self)) ≡ renumbered r (value_of (variants.Annotation b)) = annotation_is (with_value b c.renumber.new.self) ∙ is in
-    search rules
+    let is = c.renumber.ensures ∙ ap (λ a. renumbered c.args.remap.now (encoded_of a)) (c.deref_mut-in-Annotation.ensures.value ∙ ap (λ b. b.value) c.in-Annotation.annotation-is) ∙ ap (renumbered c.args.remap.now) (sym (annotation_is b)) in
+    let whole : value_of (variants.Annotation (with_value b c.renumber.new.self)) ≡ renumbered c.args.remap.now (value_of (variants.Annotation b)) = annotation_is (with_value b c.renumber.new.self) ∙ is in search rules
 
 pub value::Value::renumber-returns-in-Array : goal.value::Value::renumber-returns-in-Array
 value::Value::renumber-returns-in-Array t c =
-    let r = c.args.remap.now in
     let b = c.in-Array.values in
-    let same = c.deref_mut.ensures.value ∙ ap (λ b. b.value) c.in-Array.values-is in
-    let is = ap numbered.Array (c.renumber_values.ensures ∙ ap (λ v. renumbered_values r (values_of v.items)) same) ∙ ap (renumbered r) (sym (array_is b)) in
-    let whole : value_of (variants.Array (with_value b c.renumber_values.new.values)) ≡ renumbered r (value_of (variants.Array b)) = array_is (with_value b c.renumber_values.new.values) ∙ is in
-    search rules
+    let is = ap numbered.Array (c.renumber_values.ensures ∙ ap (λ v. renumbered_values c.args.remap.now (values_of v.items)) (c.deref_mut.ensures.value ∙ ap (λ b. b.value) c.in-Array.values-is)) ∙ ap (renumbered c.args.remap.now) (sym (array_is b)) in
+    let whole : value_of (variants.Array (with_value b c.renumber_values.new.values)) ≡ renumbered c.args.remap.now (value_of (variants.Array b)) = array_is (with_value b c.renumber_values.new.values) ∙ is in search rules
 
 pub value::EncodedAnnotation::renumber-remapped-self-requires : goal.value::EncodedAnnotation::renumber-remapped-self-requires
 value::EncodedAnnotation::renumber-remapped-self-requires t c =
-    let a = c.args.self.now in
-    All-head (MapsUse c.args.remap.now) (record { kind = kinds.Typ; number = encoded_type a }) (elements_uses (encoded_elements a)) c.requires
+    let a = c.args.self.now in All-head (MapsUse c.args.remap.now) (record { kind = kinds.Typ; number = encoded_type a }) (elements_uses (encoded_elements a)) c.requires
 
 pub value::EncodedAnnotation::renumber-renumber_elements-requires : goal.value::EncodedAnnotation::renumber-renumber_elements-requires
 value::EncodedAnnotation::renumber-renumber_elements-requires t c =
-    let r = c.args.remap.now in
-    let a = c.args.self.now in
-    let new : EncodedAnnotation-F Value Element EncodedAnnotation = record { typ = c.remapped-self.result; elements = (out-EncodedAnnotation a).elements } in
-    let same : (out-EncodedAnnotation (roll-EncodedAnnotation new)).elements.items ≡ (out-EncodedAnnotation a).elements.items = ap (λ (n : EncodedAnnotation-F Value Element EncodedAnnotation). n.elements.items) (out-roll-EncodedAnnotation new) in
+    let new : EncodedAnnotation-F Value Element EncodedAnnotation = record { typ = c.remapped-self.result; elements = (out-EncodedAnnotation c.args.self.now).elements } in
+    let same : (out-EncodedAnnotation (roll-EncodedAnnotation new)).elements.items ≡ (out-EncodedAnnotation c.args.self.now).elements.items = ap (λ (n : EncodedAnnotation-F Value Element EncodedAnnotation). n.elements.items) (out-roll-EncodedAnnotation new) in
     let weight = ap (λ (l : List Element). numbered_elements_weight (elements_of l)) same in
-    (search rules, subst (λ (l : List Element). ElementsHavePlaces r (elements_of l)) (sym same) (All-tail (MapsUse r) (record { kind = kinds.Typ; number = encoded_type a }) (elements_uses (encoded_elements a)) c.requires))
+    (search rules, subst (λ (l : List Element). ElementsHavePlaces c.args.remap.now (elements_of l)) (sym same) (All-tail (MapsUse c.args.remap.now) (record { kind = kinds.Typ; number = encoded_type c.args.self.now }) (elements_uses (encoded_elements c.args.self.now)) c.requires))
 
 pub value::EncodedAnnotation::renumber-returns : goal.value::EncodedAnnotation::renumber-returns
 value::EncodedAnnotation::renumber-returns t c =
-    let r = c.args.remap.now in
     let a = out-EncodedAnnotation c.args.self.now in
     let mid : EncodedAnnotation-F Value Element EncodedAnnotation = record { typ = c.remapped-self.result; elements = a.elements } in
     let new : EncodedAnnotation-F Value Element EncodedAnnotation = record { typ = (out-EncodedAnnotation (roll-EncodedAnnotation mid)).typ; elements = c.renumber_elements.new.elements } in
-    let typ : new.typ ≡ remapped r kinds.Typ a.typ = ap (λ (n : EncodedAnnotation-F Value Element EncodedAnnotation). n.typ) (out-roll-EncodedAnnotation mid) ∙ c.remapped-self.ensures in
-    let elements : elements_of new.elements.items ≡ renumbered_elements r (elements_of a.elements.items) =
-    c.renumber_elements.ensures ∙ ap (λ (n : EncodedAnnotation-F Value Element EncodedAnnotation). renumbered_elements r (elements_of n.elements.items)) (out-roll-EncodedAnnotation mid) in
+    let typ : new.typ ≡ remapped c.args.remap.now kinds.Typ a.typ = ap (λ (n : EncodedAnnotation-F Value Element EncodedAnnotation). n.typ) (out-roll-EncodedAnnotation mid) ∙ c.remapped-self.ensures in
+    let elements : elements_of new.elements.items ≡ renumbered_elements c.args.remap.now (elements_of a.elements.items) =
+    c.renumber_elements.ensures ∙ ap (λ (n : EncodedAnnotation-F Value Element EncodedAnnotation). renumbered_elements c.args.remap.now (elements_of n.elements.items)) (out-roll-EncodedAnnotation mid) in
     ap (λ (n : EncodedAnnotation-F Value Element EncodedAnnotation). Annotated n.typ (elements_of n.elements.items)) (out-roll-EncodedAnnotation new) ∙ (λ k. Annotated (typ k) (elements k))
 
 pub value::Element::renumber-remapped-self-requires : goal.value::Element::renumber-remapped-self-requires
 value::Element::renumber-remapped-self-requires t c =
-    let e = c.args.self.now in
-    All-head (MapsUse c.args.remap.now) (record { kind = kinds.Text; number = e.name }) (value_uses (value_of e.value)) (subst (ElementHasPlaces c.args.remap.now) (element_is e) c.requires)
+    let e = c.args.self.now in All-head (MapsUse c.args.remap.now) (record { kind = kinds.Text; number = e.name }) (value_uses (value_of e.value)) (subst (ElementHasPlaces c.args.remap.now) (element_is e) c.requires)
 
 pub value::Element::renumber-renumber-requires : goal.value::Element::renumber-renumber-requires
 value::Element::renumber-renumber-requires t c =
-    let e = c.args.self.now in
-    (search rules, All-tail (MapsUse c.args.remap.now) (record { kind = kinds.Text; number = e.name }) (value_uses (value_of e.value)) (subst (ElementHasPlaces c.args.remap.now) (element_is e) c.requires))
+    (search rules, All-tail (MapsUse c.args.remap.now) (record { kind = kinds.Text; number = c.args.self.now.name }) (value_uses (value_of c.args.self.now.value)) (subst (ElementHasPlaces c.args.remap.now) (element_is c.args.self.now) c.requires))

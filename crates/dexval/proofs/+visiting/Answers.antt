@@ -1,5 +1,5 @@
 use Rattle.dexval.proofs.Common.{sym, subst, FoldsTo, element_uses}
-use Rattle.dexval.proofs.CodeForms.{element_is}
+use Rattle.dexval.proofs.Members.{element_is}
 use Rattle.dexval.proofs.Marked.{code_uses, part_uses, uses_of_values, uses_of_elements}
 use Rattle.dexpool.proofs.Visits.{visited_more, visited_all}
 use Rattle.dexval.proofs.+visiting.Goals as goal

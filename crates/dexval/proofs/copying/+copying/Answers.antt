@@ -1,5 +1,5 @@
 use Rattle.dexval.proofs.Common.{ap, sym, ◌∙◌, Element, value_of, element_of, NumberedValue}
-use Rattle.dexval.proofs.CodeForms.{element_is}
+use Rattle.dexval.proofs.Members.{element_is}
 use Rattle.dexval.proofs.Copies.{copied_more, copied_all}
 use Rattle.dexval.proofs.copying.+copying.Goals as goal
 

@@ -1,5 +1,5 @@
 use Rattle.dexval.proofs.Common.{ap, Annotation, annotation_of, visibility_of}
-use Rattle.dexval.proofs.CodeForms.{annotation_with}
+use Rattle.dexval.proofs.Members.{annotation_with}
 use Rattle.dexval.proofs.Copies.{copied_more, copied_all}
 use Rattle.dexval.proofs.copying.copied_annotations.Goals as goal
 

@@ -13,9 +13,8 @@ returns-in-None-clause-refused c = λ pools. (refl, no_members c.args.frame.now 
 
 pub returns-in_err-own-clause-refused : goal.returns-in_err-own-clause-refused
 returns-in_err-own-clause-refused c = λ pools.
-    let b = c.args.frame.now in
-    let p = file_pools b c.args.pools.now c.numbering.result.now c.numbering.ensures c.is_numbering.ensures pools in
-    rw (err_is c.from_residual.result c.from_residual.ensures.1) (directory_refused b c.args.off (λ none. no_own b c.args.off (subst (NoSetOrEmptyAt b) c.uint_at-own_off.ensures none)) c.in_err-own.field-0.0 (c.in_err-own.ensures.refused p))
+    let p = file_pools c.args.frame.now c.args.pools.now c.numbering.result.now c.numbering.ensures c.is_numbering.ensures pools in
+    rw (err_is c.from_residual.result c.from_residual.ensures.1) (directory_refused c.args.frame.now c.args.off (λ none. no_own c.args.frame.now c.args.off (subst (NoSetOrEmptyAt c.args.frame.now) c.uint_at-own_off.ensures none)) c.in_err-own.field-0.0 (c.in_err-own.ensures.refused p))
 
 pub returns-in_err-fields-clause-refused : goal.returns-in_err-fields-clause-refused
 returns-in_err-fields-clause-refused c = λ pools.
@@ -40,16 +39,13 @@ returns-clause-checked c = λ pools. c.in_ok-parameters.ensures.checked (file_po
 
 pub returns-clause-directory : goal.returns-clause-directory
 returns-clause-directory c = λ pools.
-    let b = c.args.frame.now in
     let m = c.args.pools.now in
-    let p = file_pools b m c.numbering.result.now c.numbering.ensures c.is_numbering.ensures pools in
-    let r3 = c.in_ok-methods.ensures.weight p in
-    let r4 = c.in_ok-parameters.ensures.weight p in
+    let p = file_pools c.args.frame.now m c.numbering.result.now c.numbering.ensures c.is_numbering.ensures pools in
     let sets = sum_by (λ (e : ℕ × NumberedSet). set_weight_in m e.1) in
     let lists = sum_by (λ (e : ℕ × List NumberedSet). sets_weight_in m e.1) in
-    directory_checked b c.args.off m p c.in_ok-own.own c.in_ok-fields.fields c.in_ok-methods.methods c.in_ok-parameters.parameters _ c.in-Some.ensures.some.0
-    (weighed_as _ _ (set_weight_in m) (set_weight_in m) (λ x k. subst (λ (n : ℕ). IsSetOrEmptyAt b n m x) c.uint_at-own_off.ensures k) (λ x k. refl) (c.in_ok-own.ensures.weight p))
-    (weighed_as _ _ sets sets (λ xs k. pairs_moved (IsKnownSet m) (set_in m) SetAt b (omega arith) c.in-Some.ensures.some.1 c.len-limit.ensures k) (λ x k. refl) (c.in_ok-fields.ensures.weight p))
-    (weighed_as _ _ sets sets (λ xs k. pairs_moved (IsKnownSet m) (set_in m) SetAt b (omega (arith, c.in-Some.ensures.some.1)) c.in-Some.ensures.some.2 c.len-limit-2.ensures k) (λ x k. refl) r3)
-    (weighed_as _ _ lists lists (λ xs k. pairs_moved (All (IsKnownSet m)) (map (set_in m)) RefListAt b (omega (arith, c.in-Some.ensures.some.1, c.in-Some.ensures.some.2)) c.in-Some.ensures.some.3 c.len-limit-2.ensures k) (λ x k. refl) r4)
+    directory_checked c.args.frame.now c.args.off m p c.in_ok-own.own c.in_ok-fields.fields c.in_ok-methods.methods c.in_ok-parameters.parameters _ c.in-Some.ensures.some.0
+    (weighed_as _ _ (set_weight_in m) (set_weight_in m) (λ x k. subst (λ (n : ℕ). IsSetOrEmptyAt c.args.frame.now n m x) c.uint_at-own_off.ensures k) (λ x k. refl) (c.in_ok-own.ensures.weight p))
+    (weighed_as _ _ sets sets (λ xs k. pairs_moved (IsKnownSet m) (set_in m) SetAt c.args.frame.now (omega arith) c.in-Some.ensures.some.1 c.len-limit.ensures k) (λ x k. refl) (c.in_ok-fields.ensures.weight p))
+    (weighed_as _ _ sets sets (λ xs k. pairs_moved (IsKnownSet m) (set_in m) SetAt c.args.frame.now (omega (arith, c.in-Some.ensures.some.1)) c.in-Some.ensures.some.2 c.len-limit-2.ensures k) (λ x k. refl) (c.in_ok-methods.ensures.weight p))
+    (weighed_as _ _ lists lists (λ xs k. pairs_moved (All (IsKnownSet m)) (map (set_in m)) RefListAt c.args.frame.now (omega (arith, c.in-Some.ensures.some.1, c.in-Some.ensures.some.2)) c.in-Some.ensures.some.3 c.len-limit-2.ensures k) (λ x k. refl) (c.in_ok-parameters.ensures.weight p))
     (omega (arith, c.saturating_add.ensures, c.saturating_add-2.ensures, c.saturating_add-weight.ensures))

@@ -8,9 +8,8 @@ returns-in-Some-clause-weight c = λ p. (c.requires p).lists_checked c.args.off 
 
 pub returns-clause-checked : goal.returns-clause-checked
 returns-clause-checked c = λ p.
-    let mid = c.listed_weight.new.checked in
-    let new : CheckedSets = record { sets = mid.sets; lists = c.insert.new.self } in
-    list_added c.args.frame.now c.args.pools.now mid new c.args.off c.in_ok-weight.weight (c.in_ok-weight.ensures.checked p) (c.in_ok-weight.ensures.weight p) c.in_ok-insert.ensures.updates.1 c.in_ok-insert.ensures.updates.2 refl
+    let new : CheckedSets = record { sets = c.listed_weight.new.checked.sets; lists = c.insert.new.self } in
+    list_added c.args.frame.now c.args.pools.now c.listed_weight.new.checked new c.args.off c.in_ok-weight.weight (c.in_ok-weight.ensures.checked p) (c.in_ok-weight.ensures.weight p) c.in_ok-insert.ensures.updates.1 c.in_ok-insert.ensures.updates.2 refl
 
 pub returns-in_err-weight-clause-refused : goal.returns-in_err-weight-clause-refused
 returns-in_err-weight-clause-refused c = λ p.

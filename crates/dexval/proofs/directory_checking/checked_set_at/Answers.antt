@@ -9,10 +9,9 @@ returns-then-off-eq0-clause-weight c = λ p. record { item = []; is_read = empty
 
 pub returns-in-Some-clause-weight : goal.returns-in-Some-clause-weight
 returns-in-Some-clause-weight c = λ p.
-    let b = c.args.frame.now in
     let m = c.args.pools.now in
     let off = c.args.off in
-    weighed_as (IsSetAt b off m) (IsSetOrEmptyAt b off m) (set_weight_in m) (set_weight_in m) (λ s h. some_set b off m s (omega arith) h) (λ s h. refl) ((c.requires p).sets_checked off c.in-Some.weight.now (sym c.in-Some.ensures.value))
+    weighed_as (IsSetAt c.args.frame.now off m) (IsSetOrEmptyAt c.args.frame.now off m) (set_weight_in m) (set_weight_in m) (λ s h. some_set c.args.frame.now off m s (omega arith) h) (λ s h. refl) ((c.requires p).sets_checked off c.in-Some.weight.now (sym c.in-Some.ensures.value))
 
 pub returns-in_err-shape-clause-refused : goal.returns-in_err-shape-clause-refused
 returns-in_err-shape-clause-refused c = λ p.

@@ -15,10 +15,7 @@ returns-in_err-set-clause-refused c = λ p.
     rw (err_is c.from_residual-in_err-set.result c.from_residual-in_err-set.ensures.1) (refused_so (λ none. no_set_next b c.args.off c.loop-i.i (omega (arith, c.in_ok-count.ensures.count.1)) (subst (NoSetOrEmptyAt b) c.uint_at-set_off.ensures none)) c.in_err-set.field-0.0 (c.in_err-set.ensures.refused p))
 
 pub loop-i-init : goal.loop-i-init
-loop-i-init c = record {
-  checked = c.requires;
-  weighed = λ p. record { item = []; is_read = no_list_yet c.args.frame.now (c.args.off + 4) c.args.pools.now; weight_is = omega arith };
-}
+loop-i-init c = record { checked = c.requires; weighed = λ p. record { item = []; is_read = no_list_yet c.args.frame.now (c.args.off + 4) c.args.pools.now; weight_is = omega arith } }
 
 pub loop-i-preserved : goal.loop-i-preserved
 loop-i-preserved c =
@@ -41,8 +38,7 @@ returns-clause-weight c = λ p.
     let m = c.args.pools.now in
     let list = c.list_weight-list.result in
     let i = c.loop-i.i in
-    let count : i ≡ uint_at b c.args.off = omega (arith, c.in_ok-count.ensures.count.1) in
     let is_count : i ≡ c.in_ok-count.count = omega arith in
-    weighed_as (HaveReadList b (c.args.off + 4) m i) (IsRefListAt b c.args.off m) (λ (ss : List NumberedSet). list + sum_by (set_weight_in m) ss) (sets_weight_in m) (λ ss k. list_read b c.args.off m i ss c.in_ok-count.ensures.count.0 count k)
+    weighed_as (HaveReadList b (c.args.off + 4) m i) (IsRefListAt b c.args.off m) (λ (ss : List NumberedSet). list + sum_by (set_weight_in m) ss) (sets_weight_in m) (λ ss k. list_read b c.args.off m i ss c.in_ok-count.ensures.count.0 (omega (arith, c.in_ok-count.ensures.count.1)) k)
     (λ ss k. list_weighs b (c.args.off + 4) m i list ss (λ e. c.list_weight-list.ensures.none (omega (arith, e, is_count))) (λ lt. omega (arith, is_count, c.list_weight-list.ensures.some (omega (arith, lt, is_count)))) k)
     (c.loop-i.invariant.weighed p)

@@ -25,8 +25,7 @@ loop-i-init g c = record {
   least_fits = omega arith;
   checked = c.requires.checked;
   weighed = λ p.
-      let m = c.args.pools.now in
-      record { item = []; is_read = no_pair_yet (g.T.OfMember.is_known m) (g.T.OfMember.inside m) g.T.OfMember.encodes c.args.frame.now c.args.pairs.now.at c.args.pairs.now.limit; weight_is = omega arith };
+      record { item = []; is_read = no_pair_yet (g.T.OfMember.is_known c.args.pools.now) (g.T.OfMember.inside c.args.pools.now) g.T.OfMember.encodes c.args.frame.now c.args.pairs.now.at c.args.pairs.now.limit; weight_is = omega arith };
 }
 
 pub loop-i-preserved : goal.loop-i-preserved
@@ -34,10 +33,9 @@ loop-i-preserved g c =
     let Numbered = g.T.OfMember.Numbered in
     let encodes = g.T.OfMember.encodes in
     let b = c.args.frame.now in
-    let m = c.args.pools.now in
     let i = c.loop-i.i in
-    let Known = g.T.OfMember.is_known m in
-    let inside = g.T.OfMember.inside m in
+    let Known = g.T.OfMember.is_known c.args.pools.now in
+    let inside = g.T.OfMember.inside c.args.pools.now in
     let weighs = λ (x : g.T.OfMember.Numbered). g.T.OfMember.weighs (inside x) in
     let number = c.in_ok-number.number in
     let Read = HaveReadPairs Known inside encodes b c.args.pairs.now.at c.args.pairs.now.limit in
@@ -57,8 +55,7 @@ pub returns-clause-weight : goal.returns-clause-weight
 returns-clause-weight g c = λ p.
     let encodes = g.T.OfMember.encodes in
     let b = c.args.frame.now in
-    let m = c.args.pools.now in
-    let Known = g.T.OfMember.is_known m in
-    let inside = g.T.OfMember.inside m in
-    let weighs = sum_by (λ (e : ℕ × g.T.OfMember.Numbered). g.T.OfMember.weighs (g.T.OfMember.inside m e.1)) in
+    let Known = g.T.OfMember.is_known c.args.pools.now in
+    let inside = g.T.OfMember.inside c.args.pools.now in
+    let weighs = sum_by (λ (e : ℕ × g.T.OfMember.Numbered). g.T.OfMember.weighs (g.T.OfMember.inside c.args.pools.now e.1)) in
     weighed_as (HaveReadPairs Known inside encodes b c.args.pairs.now.at c.args.pairs.now.limit c.loop-i.i c.loop-i.least) (ArePairsAt Known inside encodes b c.args.pairs.now.at c.args.pairs.now.count c.args.pairs.now.limit) weighs weighs (λ xs k. pairs_end Known inside encodes b c.args.pairs.now.at c.args.pairs.now.count c.args.pairs.now.limit c.loop-i.i c.loop-i.least xs (omega arith) k) (λ xs k. refl) (c.loop-i.invariant.weighed p)

@@ -52,7 +52,6 @@ returns-clause-read c = λ p.
     let m = c.args.source.now.pools.now in
     let o = c.args.off in
     let first = c.counted_set_or_empty_at.new.cache in
-    let second = c.members_at.new.cache in
     let third = c.members_at-2.new.cache in
     let new = c.members_at-3.new.cache in
     let own = c.in_ok-own.own in
@@ -65,7 +64,6 @@ returns-clause-read c = λ p.
     let n4 = c.in_ok-parameters.ensures.noted in
     let counted = directory_counted b o m p c.uint_at-own_off.ensures (c.in_ok-own.ensures.read p) (omega arith, c.in-Some.ensures.some.1, c.len-limit.ensures) (c.in_ok-fields.ensures.read p) (omega (arith, c.in-Some.ensures.some.1), c.in-Some.ensures.some.2, c.len-limit-2.ensures) (c.in_ok-methods.ensures.read p) c.in-Some.ensures.some.0 (omega (arith, c.in-Some.ensures.some.1, c.in-Some.ensures.some.2), c.in-Some.ensures.some.3, c.len-limit-2.ensures) (c.in_ok-parameters.ensures.read p) in
     let old = c.args.cache.now in
-    let own_is = own_stays old first second third new own fields methods parameters n1 n2 n3 n4 in
-    let fields_are = fields_stay old first second third new own fields methods parameters n1 n2 n3 n4 in
-    let methods_are = methods_stay old first second third new own fields methods parameters n1 n2 n3 n4 in
-    subst (HasCounted (IsDirectoryAt b o m) (λ d. directory_weight (directory_in m d)) c.args.budget.now c.members_at-3.new.budget) (same_parts (sym own_is) (sym fields_are) (sym methods_are) refl) counted
+    let fields_are = fields_stay old first c.members_at.new.cache third new own fields methods parameters n1 n2 n3 n4 in
+    let methods_are = methods_stay old first c.members_at.new.cache third new own fields methods parameters n1 n2 n3 n4 in
+    subst (HasCounted (IsDirectoryAt b o m) (λ d. directory_weight (directory_in m d)) c.args.budget.now c.members_at-3.new.budget) (same_parts (sym (own_stays old first c.members_at.new.cache third new own fields methods parameters n1 n2 n3 n4)) (sym fields_are) (sym methods_are) refl) counted

@@ -26,49 +26,38 @@ returns-in_err-places-clause-refused c = λ p.
 
 pub add_list-requires-clause-few : goal.add_list-requires-clause-few
 add_list-requires-clause-few c =
-    let mid = c.listed_sets_at.new.cache in
-    let fresh : get nat_eq mid.lists c.args.off ≡ None = search rules in
-    fewer (λ off. get nat_eq mid.lists off) _ c.args.off c.in_ok-places.ensures.noted.noted_held.lists_placed fresh (omega arith)
+    let fresh : get nat_eq c.listed_sets_at.new.cache.lists c.args.off ≡ None = search rules in fewer (λ off. get nat_eq c.listed_sets_at.new.cache.lists off) _ c.args.off c.in_ok-places.ensures.noted.noted_held.lists_placed fresh (omega arith)
 
 pub returns-clause-noted : goal.returns-clause-noted
 returns-clause-noted c =
-    let old = c.args.cache.now in
     let mid = c.listed_sets_at.new.cache in
     let places = c.in_ok-places.places.items in
-    let place = c.in_ok-place.place in
     let h = c.in_ok-places.ensures.noted in
-    let grown = c.in_ok-place.ensures.table in
-    let updates = c.in_ok-insert.ensures.updates in
     let fresh : get nat_eq mid.lists c.args.off ≡ None = search rules in
     let new : DirectoryCache = record { table = c.add_list.new.self; sets = mid.sets; lists = c.insert.new.self } in
-    let more : length new.table.lists ≡ length mid.table.lists + 1 = omega (arith, ap (λ (t : NumberedTable). length t.lists) grown, length-append mid.table.lists (places ∷ [])) in
-    let added : AreNewNamed (λ i. ⊥) (λ i. Some place ≡ Some i) mid.table new.table = search rules in
-    let last : Contains new.table.lists places = subst (λ (t : NumberedTable). Contains t.lists places) (sym grown) (Contains-push mid.table.lists places) in
+    let more : length new.table.lists ≡ length mid.table.lists + 1 = omega (arith, ap (λ (t : NumberedTable). length t.lists) c.in_ok-place.ensures.table, length-append mid.table.lists (places ∷ [])) in
+    let added : AreNewNamed (λ i. ⊥) (λ i. Some c.in_ok-place.place ≡ Some i) mid.table new.table = search rules in
+    let last : Contains new.table.lists places = subst (λ (t : NumberedTable). Contains t.lists places) (sym c.in_ok-place.ensures.table) (Contains-push mid.table.lists places) in
     record {
-      extended = extends_then old.table mid.table new.table h.extended c.in_ok-place.ensures.extends;
+      extended = extends_then c.args.cache.now.table mid.table new.table h.extended c.in_ok-place.ensures.extends;
       noted_held = record {
         sets_held = search rules;
         lists_held = search rules;
-        sets_placed = subst (HaveOffsets (λ off. get nat_eq mid.sets off)) (sym (ap (λ (t : NumberedTable). length t.sets) grown)) h.noted_held.sets_placed;
-        lists_placed = one_placed (λ off. get nat_eq mid.lists off) (length mid.table.lists) c.args.off h.noted_held.lists_placed fresh (omega arith) (λ off. get nat_eq new.lists off) place (length new.table.lists) updates.1 updates.2 more;
+        sets_placed = subst (HaveOffsets (λ off. get nat_eq mid.sets off)) (sym (ap (λ (t : NumberedTable). length t.sets) c.in_ok-place.ensures.table)) h.noted_held.sets_placed;
+        lists_placed = one_placed (λ off. get nat_eq mid.lists off) (length mid.table.lists) c.args.off h.noted_held.lists_placed fresh (omega arith) (λ off. get nat_eq new.lists off) c.in_ok-place.place (length new.table.lists) c.in_ok-insert.ensures.updates.1 c.in_ok-insert.ensures.updates.2 more;
       };
       held = search rules;
-      named = new_then old.table mid.table new.table (λ i inside. (places, last, inside)) (λ i none. absurd none) (λ i none. absurd none) (λ i e. e) h.named added;
+      named = new_then c.args.cache.now.table mid.table new.table (λ i inside. (places, last, inside)) (λ i none. absurd none) (λ i none. absurd none) (λ i e. e) h.named added;
     }
 
 pub returns-clause-cache : goal.returns-clause-cache
 returns-clause-cache c = λ p.
-    let b = c.args.source.now.frame.now in
-    let m = c.args.source.now.pools.now in
-    let o = c.args.off in
-    let place = c.in_ok-place.place in
     let mid = c.listed_sets_at.new.cache in
     let new : DirectoryCache = record { table = c.add_list.new.self; sets = mid.sets; lists = c.insert.new.self } in
-    let encodes = subst (IsRefListAt b o m) (sym (list_is_added mid.table new.table c.in_ok-places.places.items place c.in_ok-place.ensures.place c.in_ok-place.ensures.table)) (c.in_ok-places.ensures.read p).is_read in
-    list_cached b m mid new o place c.in_ok-place.ensures.extends c.in_ok-places.ensures.noted.noted_held (c.in_ok-places.ensures.cache p) c.in_ok-insert.ensures.updates.1 c.in_ok-insert.ensures.updates.2 refl encodes
+    let encodes = subst (IsRefListAt c.args.source.now.frame.now c.args.off c.args.source.now.pools.now) (sym (list_is_added mid.table new.table c.in_ok-places.places.items c.in_ok-place.place c.in_ok-place.ensures.place c.in_ok-place.ensures.table)) (c.in_ok-places.ensures.read p).is_read in
+    list_cached c.args.source.now.frame.now c.args.source.now.pools.now mid new c.args.off c.in_ok-place.place c.in_ok-place.ensures.extends c.in_ok-places.ensures.noted.noted_held (c.in_ok-places.ensures.cache p) c.in_ok-insert.ensures.updates.1 c.in_ok-insert.ensures.updates.2 refl encodes
 
 pub returns-clause-read : goal.returns-clause-read
 returns-clause-read c = λ p.
-    let m = c.args.source.now.pools.now in
-    subst (HasCounted (IsRefListAt c.args.source.now.frame.now c.args.off m) (sets_weight_in m) c.args.budget.now c.listed_sets_at.new.budget)
+    subst (HasCounted (IsRefListAt c.args.source.now.frame.now c.args.off c.args.source.now.pools.now) (sets_weight_in c.args.source.now.pools.now) c.args.budget.now c.listed_sets_at.new.budget)
     (sym (list_is_added c.listed_sets_at.new.cache.table c.add_list.new.self c.in_ok-places.places.items c.in_ok-place.place c.in_ok-place.ensures.place c.in_ok-place.ensures.table)) (c.in_ok-places.ensures.read p)

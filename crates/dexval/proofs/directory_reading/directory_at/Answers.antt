@@ -8,5 +8,4 @@ returns-in_err-places-clause-refused c = λ p.
 
 pub returns-clause-read : goal.returns-clause-read
 returns-clause-read c = λ p.
-    let h = c.in_ok-places.ensures.read p in
-    record { is = h.is_read; within = omega (arith, h.counted.grown, h.counted.same_most, h.counted.within (omega arith)) }
+    let h = c.in_ok-places.ensures.read p in record { is = h.is_read; within = omega (arith, h.counted.grown, h.counted.same_most, h.counted.within (omega arith)) }

@@ -1,8 +1,7 @@
 use Rattle.dexval.proofs.Common.{ℕ, List, ◌∷◌, [], ◌++◌, subst, sym, ap, ◌∙◌, rules, length, map, to_z, of_z, w64, uleb128, Value, Element, EncodedAnnotation, out-EncodedAnnotation, value_of, elements_of, encoded_of, encoded_type, encoded_elements, values_of_list, values_count, elements_count, count_bytes, numbered_bytes, numbered_values_bytes, numbered_elements_bytes, numbered_array_bytes, encoded_annotation_bytes}
-use Rattle.dexval.proofs.CodeForms.{byte_is, short_is, char_is, int_is, long_is, float_is, double_is, string_is, typ_is, field_is, method_is, enum_is, array_is, annotation_is}
+use Rattle.dexval.proofs.Members.{byte_is, short_is, char_is, int_is, long_is, float_is, double_is, string_is, typ_is, field_is, method_is, enum_is, array_is, annotation_is, value_spelled, element_spelled, values_are_spelled, elements_are_spelled, count_values_is, count_elements_is}
 use Rattle.dexhead.proofs.Encoded.{given_more, given_all}
 use Rattle.dexval.proofs.Encodings.{unsigned_given, signed_given, bits_given}
-use Rattle.dexval.proofs.Members.{value_spelled, element_spelled, values_are_spelled, elements_are_spelled, count_values_is, count_elements_is}
 use Rattle.dexval.proofs.encoding.+encoding.Goals as goal
 
 pub encode_array-returns : goal.encode_array-returns
@@ -23,20 +22,18 @@ encode_values-returns g t c =
 
 pub encode_annotation-returns : goal.encode_annotation-returns
 encode_annotation-returns g t c =
-    let gives = g.O.Output.gives in
     let a = c.args.annotation.now in
     let es = encoded_elements a in
-    let count = subst (λ (n : ℕ). gives (count_bytes n) c.uleb.new.self c.encode_count.new.out) (c.len.ensures ∙ sym c.deref.ensures.len ∙ ap (λ l. length l) c.deref.ensures.value ∙ sym (count_elements_is (out-EncodedAnnotation a).elements.items)) c.encode_count.ensures in
-    let each = subst (λ (l : List Element). gives (numbered_elements_bytes (elements_of l)) c.encode_count.new.out c.encode_elements.new.out) c.deref.ensures.value c.encode_elements.ensures in
+    let count = subst (λ (n : ℕ). g.O.Output.gives (count_bytes n) c.uleb.new.self c.encode_count.new.out) (c.len.ensures ∙ sym c.deref.ensures.len ∙ ap (λ l. length l) c.deref.ensures.value ∙ sym (count_elements_is (out-EncodedAnnotation a).elements.items)) c.encode_count.ensures in
+    let each = subst (λ (l : List Element). g.O.Output.gives (numbered_elements_bytes (elements_of l)) c.encode_count.new.out c.encode_elements.new.out) c.deref.ensures.value c.encode_elements.ensures in
     let members = g.met.O.Output.both (count_bytes (elements_count es)) (numbered_elements_bytes es) c.uleb.new.self c.encode_count.new.out c.encode_elements.new.out count each in
     g.met.O.Output.both (uleb128 (encoded_type a)) (count_bytes (elements_count es) ++ numbered_elements_bytes es) c.args.out.now c.uleb.new.self c.encode_elements.new.out c.uleb.ensures members
 
 pub encode_elements-loop-element-preserved : goal.encode_elements-loop-element-preserved
 encode_elements-loop-element-preserved g t c =
     let d = c.element-item.result in
-    let one = g.met.O.Output.both (uleb128 d.name) (numbered_bytes (value_of d.value)) c.loop-element.out c.uleb.new.self c.encode_value.new.out c.uleb.ensures c.encode_value.ensures in
     given_more g.O.Output.gives g.met.O.Output.both element_spelled c.args.elements.now c.loop-element.element-index d c.args.out.now c.loop-element.out c.encode_value.new.out c.loop-element-test.true c.loop-element.invariant
-    (subst (λ (e : Element). g.O.Output.gives (element_spelled e) c.loop-element.out c.encode_value.new.out) c.element-item.is one)
+    (subst (λ (e : Element). g.O.Output.gives (element_spelled e) c.loop-element.out c.encode_value.new.out) c.element-item.is (g.met.O.Output.both (uleb128 d.name) (numbered_bytes (value_of d.value)) c.loop-element.out c.uleb.new.self c.encode_value.new.out c.uleb.ensures c.encode_value.ensures))
 
 pub encode_elements-returns : goal.encode_elements-returns
 encode_elements-returns g t c =
@@ -45,9 +42,8 @@ encode_elements-returns g t c =
 
 pub encode_value-returns-in-Array : goal.encode_value-returns-in-Array
 encode_value-returns-in-Array g t c =
-    let whole = g.met.O.Output.both (28 ∷ []) (numbered_array_bytes (values_of_list (map value_of c.deref-in-Array.result.now))) c.args.out.now c.byte.new.self c.encode_array.new.out c.byte.ensures c.encode_array.ensures in
     let is = ap (λ (l : List Value). 28 ∷ numbered_array_bytes (values_of_list (map value_of l))) (c.deref-in-Array.ensures.value ∙ ap (λ v. v.items) c.deref.ensures) ∙ ap numbered_bytes (sym (ap value_of c.in-Array.is ∙ array_is c.in-Array.values)) in
-    subst (λ bs. g.O.Output.gives bs c.args.out.now c.encode_array.new.out) is whole
+    subst (λ bs. g.O.Output.gives bs c.args.out.now c.encode_array.new.out) is (g.met.O.Output.both (28 ∷ []) (numbered_array_bytes (values_of_list (map value_of c.deref-in-Array.result.now))) c.args.out.now c.byte.new.self c.encode_array.new.out c.byte.ensures c.encode_array.ensures)
 
 pub encode_value-returns-in-Annotation : goal.encode_value-returns-in-Annotation
 encode_value-returns-in-Annotation g t c =

@@ -26,9 +26,8 @@ hash_values-returns g t c =
 
 pub hash_elements-loop-element-preserved : goal.hash_elements-loop-element-preserved
 hash_elements-loop-element-preserved g t c =
-    let element = c.element-item.result in
-    fed_more g.H.Hasher.write element_fed [] c.args.elements.now c.loop-element.element-index element c.args.state.now c.loop-element.state c.hash_value.new.state c.loop-element-test.true c.element-item.is c.loop-element.invariant
-    (fed.fed_then g.H.Hasher.write c.loop-element.state c.hash.new.state c.hash_value.new.state (fed.u32 element.name) (value_fed element.value) c.hash.ensures c.hash_value.ensures)
+    fed_more g.H.Hasher.write element_fed [] c.args.elements.now c.loop-element.element-index c.element-item.result c.args.state.now c.loop-element.state c.hash_value.new.state c.loop-element-test.true c.element-item.is c.loop-element.invariant
+    (fed.fed_then g.H.Hasher.write c.loop-element.state c.hash.new.state c.hash_value.new.state (fed.u32 c.element-item.result.name) (value_fed c.element-item.result.value) c.hash.ensures c.hash_value.ensures)
 
 pub hash_elements-returns : goal.hash_elements-returns
 hash_elements-returns g t c =

@@ -5,8 +5,7 @@ use Rattle.dexval.proofs.hashing.hash_annotations.Goals as goal
 
 pub loop-annotation-preserved : goal.loop-annotation-preserved
 loop-annotation-preserved g c =
-    let xs = c.args.annotations.now in
-    fed_more g.H.Hasher.write annotation_fed (fed.usize (length xs)) xs c.loop-annotation.annotation-index c.annotation-item.result c.args.state.now c.loop-annotation.state c.hash_annotation.new.state c.loop-annotation-test.true c.annotation-item.is
+    fed_more g.H.Hasher.write annotation_fed (fed.usize (length c.args.annotations.now)) c.args.annotations.now c.loop-annotation.annotation-index c.annotation-item.result c.args.state.now c.loop-annotation.state c.hash_annotation.new.state c.loop-annotation-test.true c.annotation-item.is
     c.loop-annotation.invariant c.hash_annotation.ensures
 
 pub returns : goal.returns

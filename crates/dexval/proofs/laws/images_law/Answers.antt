@@ -1,5 +1,5 @@
+use Rattle.dexval.proofs.Common.{value_uses, values_uses, set_uses}
 use Rattle.dexval.proofs.Images.{uses_remapped, known_value_remapped, known_values_remapped, known_set_remapped}
-use Rattle.dexval.specs.Uses.{value_uses, values_uses, set_uses}
 use Rattle.dexval.proofs.laws.images_law.Goals as goal
 
 pub returns : goal.returns

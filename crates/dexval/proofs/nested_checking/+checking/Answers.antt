@@ -1,7 +1,6 @@
 use Rattle.dexval.proofs.Common.{◌≡◌, ◌+◌, ℕ, refl, ap, subst, arith}
-use Rattle.dexval.proofs.NestedRead.{nothing_after, no_deep_array, no_deep_annotation, no_array, no_annotation}
+use Rattle.dexval.proofs.ElementsRead.{nothing_after, no_deep_array, no_deep_annotation, no_array, no_annotation, no_such_name, no_such_type, no_name, no_value, no_type, no_element_count, no_elements}
 use Rattle.dexval.proofs.ValuesRead.{no_count}
-use Rattle.dexval.proofs.ElementsRead.{no_such_name, no_such_type, no_name, no_value, no_type, no_element_count, no_elements}
 use Rattle.dexval.proofs.NestedChecked.{array_checked, annotation_checked, no_value_yet, one_value_checked, no_value_next, values_checked, no_element_yet, one_element_checked, no_element_next, elements_checked, annotation_of_elements, ElementsChecked}
 use Rattle.dexval.proofs.nested_checking.+checking.Goals.{element_measure-then-from-least-via-then-from-least, element_measure-then-from-least-via-else-from-least+then-name-len}
 use Rattle.dexval.proofs.nested_checking.+checking.Goals as goal
@@ -38,11 +37,7 @@ array_measure-returns-in_err-value-clause-checked t c = rw c.from_residual-in_er
     no_value_next c.args.bytes.now c.args.pools.now c.args.at c.args.depth c.in_ok-count.count c.in_ok-count.head c.loop-i._i c.loop-i.size c.loop-i.weight c.in_ok-count.ensures.found c.loop-i-test.true (c.loop-i.invariant.checked p) (c.in_err-value.ensures.checked p))
 
 pub array_measure-loop-i-init : goal.array_measure-loop-i-init
-array_measure-loop-i-init t c = record {
-  within = omega (arith, c.in_ok-count.ensures.within);
-  light = omega arith;
-  checked = λ p. no_value_yet c.args.bytes.now c.args.pools.now (c.args.at + c.in_ok-count.head) c.args.depth c.in_ok-count.count;
-}
+array_measure-loop-i-init t c = record { within = omega (arith, c.in_ok-count.ensures.within); light = omega arith; checked = λ p. no_value_yet c.args.bytes.now c.args.pools.now (c.args.at + c.in_ok-count.head) c.args.depth c.in_ok-count.count }
 
 pub array_measure-loop-i-preserved : goal.array_measure-loop-i-preserved
 array_measure-loop-i-preserved t c =
@@ -90,12 +85,7 @@ element_measure-returns-clause-checked t c = λ p.
     }
 
 pub elements_measure-loop-i-init : goal.elements_measure-loop-i-init
-elements_measure-loop-i-init t c = record {
-  within = omega arith;
-  light = omega arith;
-  least_fits = omega arith;
-  checked = λ p. no_element_yet c.args.bytes.now c.args.pools.now p c.args.at c.args.depth c.args.count;
-}
+elements_measure-loop-i-init t c = record { within = omega arith; light = omega arith; least_fits = omega arith; checked = λ p. no_element_yet c.args.bytes.now c.args.pools.now p c.args.at c.args.depth c.args.count }
 
 pub elements_measure-returns-in_err-name-clause-checked : goal.elements_measure-returns-in_err-name-clause-checked
 elements_measure-returns-in_err-name-clause-checked t c = rw c.from_residual.ensures (λ p.

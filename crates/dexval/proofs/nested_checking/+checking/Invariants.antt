@@ -18,11 +18,7 @@ abbrev pub decreases-annotation_measure : goal.decreases-annotation_measure
 decreases-annotation_measure l = 5 * l.depth + 3
 
 abbrev pub invariant-array_measure-loop-i : goal.invariant-array_measure-loop-i
-invariant-array_measure-loop-i l = record {
-  within : l.at + l.head + l.size ≤ length l.bytes;
-  light : l.weight ≤ 9 * l.size;
-  checked : HasPools l.bytes l.pools → ValuesChecked l.bytes (l.at + l.head) l.pools l.depth l.count l._i l.size l.weight;
-}
+invariant-array_measure-loop-i l = record { within : l.at + l.head + l.size ≤ length l.bytes; light : l.weight ≤ 9 * l.size; checked : HasPools l.bytes l.pools → ValuesChecked l.bytes (l.at + l.head) l.pools l.depth l.count l._i l.size l.weight }
 
 abbrev pub invariant-elements_measure-loop-i : goal.invariant-elements_measure-loop-i
 invariant-elements_measure-loop-i l = record {

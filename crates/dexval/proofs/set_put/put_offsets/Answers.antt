@@ -10,16 +10,13 @@ overflow_cast-annotations c = omega (arith, annotations_few c.args.first c.args.
 pub returns-in_err-reserve : goal.returns-in_err-reserve
 returns-in_err-reserve c =
     let xs = c.args.annotations.now in
-    let size : length (numbered_set_bytes c.args.first (map annotation_of xs)) ≡ 4 + 4 * length xs = omega (arith, set_size c.args.first (map annotation_of xs), length-map xs annotation_of) in
-    search rules
+    let size : length (numbered_set_bytes c.args.first (map annotation_of xs)) ≡ 4 + 4 * length xs = omega (arith, set_size c.args.first (map annotation_of xs), length-map xs annotation_of) in search rules
 
 pub returns : goal.returns
 returns c =
     let xs = c.args.annotations.now in
-    let b = c.reserve.new.self in
     let d = c.encode_offsets.new.out in
-    let both = pushed_both (uint (length xs)) (offsets_spelled c.args.first xs) b c.u32.new.self d c.u32.ensures c.encode_offsets.ensures in
-    let whole = subst (λ bs. HasRoomFor bs b → Pushes bs b d) (set_begins c.args.first xs) both in
+    let whole = subst (λ bs. HasRoomFor bs c.reserve.new.self → Pushes bs c.reserve.new.self d) (set_begins c.args.first xs) (pushed_both (uint (length xs)) (offsets_spelled c.args.first xs) c.reserve.new.self c.u32.new.self d c.u32.ensures c.encode_offsets.ensures) in
     let pushes = whole (omega (arith, c.in_ok-reserve.ensures.ok, set_size c.args.first (map annotation_of xs), length-map xs annotation_of)) in
     record {
       ok = pushes.items ∙ ap (λ bs. bs ++ (numbered_set_bytes c.args.first (map annotation_of xs))) c.in_ok-reserve.ensures.items;

@@ -14,5 +14,4 @@ returns-clause-most c = omega (arith, set_size c.args.first (set_of c.args.set.n
 
 pub returns-clause-room : goal.returns-clause-room
 returns-clause-room c = λ m some le.
-    let s = set_of c.args.set.now in
-    (rw c.annotations.ensures at c.put_offsets.ensures).room (omega (arith, le, set_size_is c.args.first s some, set_weight_is m s))
+    let s = set_of c.args.set.now in (rw c.annotations.ensures at c.put_offsets.ensures).room (omega (arith, le, set_size_is c.args.first s some, set_weight_is m s))

@@ -19,9 +19,8 @@ returns-in-Some-clause-read c = λ p.
 
 pub returns-in-None-clause-refused : goal.returns-in-None-clause-refused
 returns-in-None-clause-refused c = λ p.
-    let e = c.bytes-bytes.ensures.bytes in
-    let none = rw c.in-None.is at (c.in_ok-annotation.ensures.read (subst (λ (b : List ℕ). HasPools b c.args.pools.now) (sym e) p)) in
-    (refl, subst (λ (b : List ℕ). NoItemAt b c.args.off) e (no_item c.bytes-bytes.result.now c.args.off c.args.pools.now none))
+    let none = rw c.in-None.is at (c.in_ok-annotation.ensures.read (subst (λ (b : List ℕ). HasPools b c.args.pools.now) (sym c.bytes-bytes.ensures.bytes) p)) in
+    (refl, subst (λ (b : List ℕ). NoItemAt b c.args.off) c.bytes-bytes.ensures.bytes (no_item c.bytes-bytes.result.now c.args.off c.args.pools.now none))
 
 pub returns-in_err-visibility-clause-refused : goal.returns-in_err-visibility-clause-refused
 returns-in_err-visibility-clause-refused c = λ p.

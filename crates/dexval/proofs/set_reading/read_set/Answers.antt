@@ -1,4 +1,4 @@
-use Rattle.dexval.proofs.Common.{◌≡◌, ◌+◌, ◌++◌, ◌∷◌, ◌∙◌, ℕ, List, [], map, refl, sym, ap, subst, arith, map-append, uint_at, encoded_type, annotation_of, NumberedAnnotation, IsItemAt, NoItemAt}
+use Rattle.dexval.proofs.Common.{◌≡◌, ◌+◌, ◌∷◌, ◌∙◌, ℕ, List, [], map, refl, sym, ap, subst, arith, map-append, uint_at, encoded_type, annotation_of, NumberedAnnotation, IsItemAt, NoItemAt}
 use Rattle.dexval.proofs.FileRead.{file_pools}
 use Rattle.dexval.proofs.Refusals.{err_is, set_refused}
 use Rattle.dexval.proofs.SetsRead.{HaveReadSet, one_more, no_next, no_order, all_read, no_room}
@@ -28,12 +28,11 @@ loop-i-preserved c =
     let b = c.args.frame.now in
     let item = c.in_ok-annotation.annotation in
     let typ : encoded_type item.annotation ≡ c.from-least.result = omega (arith, c.from-least.ensures) in
-    let items : map annotation_of c.push.new.self.items ≡ map annotation_of c.loop-i.annotations.items ++ annotation_of item ∷ [] = ap (map annotation_of) c.in_ok-push.ensures.items ∙ map-append annotation_of c.loop-i.annotations.items (item ∷ []) in
     record {
       least_fits = omega (arith, c.from-least.ensures);
       read = λ p.
           subst (λ (x : ℕ). HaveReadSet b (c.args.off + 4) c.args.pools.now (uint_at b c.args.off) (c.loop-i.i + 1) (x + 1) (map annotation_of c.push.new.self.items)) typ
-          (subst (λ (l : List NumberedAnnotation). HaveReadSet b (c.args.off + 4) c.args.pools.now (uint_at b c.args.off) (c.loop-i.i + 1) (encoded_type item.annotation + 1) l) (sym items)
+          (subst (λ (l : List NumberedAnnotation). HaveReadSet b (c.args.off + 4) c.args.pools.now (uint_at b c.args.off) (c.loop-i.i + 1) (encoded_type item.annotation + 1) l) (sym (ap (map annotation_of) c.in_ok-push.ensures.items ∙ map-append annotation_of c.loop-i.annotations.items (item ∷ [])))
           (one_more b c.args.pools.now p (c.args.off + 4) (uint_at b c.args.off) c.loop-i.i c.loop-i.least (map annotation_of c.loop-i.annotations.items) (annotation_of item) (omega (arith, c.in_ok-count.ensures.count.1)) (omega (arith, c.from.ensures)) (c.loop-i.invariant.read p) (subst (λ (x : ℕ). IsItemAt b x c.args.pools.now (annotation_of item)) c.uint_at-place.ensures (c.in_ok-annotation.ensures.read p))));
     }
 

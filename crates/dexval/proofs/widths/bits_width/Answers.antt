@@ -11,10 +11,7 @@ loop-left-preserved c = record {
 
 pub returns-else-rest-eq0-clause-width : goal.returns-else-rest-eq0-clause-width
 returns-else-rest-eq0-clause-width c =
-    let i = c.loop-left.invariant in
-    left_is c.args.width c.loop-left.left c.args.bits c.loop-left.rest i.some i.few c.requires.few i.whole (inr (λ is. absurd (omega (arith, is, c.if-rest-eq0.false))))
+    let i = c.loop-left.invariant in left_is c.args.width c.loop-left.left c.args.bits c.loop-left.rest i.some i.few c.requires.few i.whole (inr (λ is. absurd (omega (arith, is, c.if-rest-eq0.false))))
 
 pub returns-after-loop-left-clause-width : goal.returns-after-loop-left-clause-width
-returns-after-loop-left-clause-width c =
-    let i = c.loop-left.invariant in
-    left_is c.args.width c.loop-left.left c.args.bits c.loop-left.rest i.some i.few c.requires.few i.whole (inl (omega arith))
+returns-after-loop-left-clause-width c = let i = c.loop-left.invariant in left_is c.args.width c.loop-left.left c.args.bits c.loop-left.rest i.some i.few c.requires.few i.whole (inl (omega arith))

@@ -1,5 +1,5 @@
 use Rattle.dexval.proofs.Common.{ap, visibility_of}
-use Rattle.dexval.proofs.CodeForms.{annotation_with}
+use Rattle.dexval.proofs.Members.{annotation_with}
 use Rattle.dexval.proofs.annotation.Annotation.renumber.Goals as goal
 
 pub returns : goal.returns

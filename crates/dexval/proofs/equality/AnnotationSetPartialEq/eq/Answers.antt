@@ -4,6 +4,4 @@ use Rattle.dexval.proofs.equality.AnnotationSetPartialEq.eq.Goals as goal
 
 pub returns : goal.returns
 returns c =
-    let x = c.args.self.now in
-    let y = c.args.other.now in
-    same_decision (set_of x) (set_of y) c.same_mapped.result (equal_sets x y) (rw c.none-nowhere.ensures at c.same_mapped.ensures) (set_decides (set_of x) (set_of y))
+    let y = c.args.other.now in same_decision (set_of c.args.self.now) (set_of y) c.same_mapped.result (equal_sets c.args.self.now y) (rw c.none-nowhere.ensures at c.same_mapped.ensures) (set_decides (set_of c.args.self.now) (set_of y))

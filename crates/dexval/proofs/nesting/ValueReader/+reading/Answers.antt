@@ -1,9 +1,8 @@
 use Rattle.dexval.proofs.Common.{◌≡◌, ◌∙◌, ◌+◌, ◌∷◌, ◌++◌, ℕ, List, [], map, refl, sym, ap, subst, arith, map-append, Value, EncodedAnnotation-F, out-roll-EncodedAnnotation, Element, EncodedAnnotation, value_of, element_of, elements_of, encoded_of, encoded_type, encoded_elements, NumberedValue, values_of_list, elements_of_list, IsReadAt, IsElementReadAt, IsAnnotationReadAt}
 use Rattle.dexval.specs.Numbered as numbered
-use Rattle.dexval.proofs.CodeForms.{array_is, annotation_is, element_is}
-use Rattle.dexval.proofs.NestedRead.{ok_no_err, nothing_after, no_deep_array, no_deep_annotation, array_encoded, no_array, annotation_encoded, no_annotation, deeper}
+use Rattle.dexval.proofs.Members.{array_is, annotation_is, element_is}
+use Rattle.dexval.proofs.ElementsRead.{ok_no_err, nothing_after, no_deep_array, no_deep_annotation, array_encoded, no_array, annotation_encoded, no_annotation, deeper, HaveReadOf, no_such_name, no_such_type, one_element_more, no_next_element, all_elements_read, no_name, no_value, no_type, no_element_count, no_elements, annotation_read}
 use Rattle.dexval.proofs.ValuesRead.{HaveRead, one_more, no_next, no_count, no_values, all_read}
-use Rattle.dexval.proofs.ElementsRead.{HaveReadOf, no_such_name, no_such_type, one_element_more, no_next_element, all_elements_read, no_name, no_value, no_type, no_element_count, no_elements, annotation_read}
 use Rattle.dexval.proofs.nesting.ValueReader.+reading.Goals.{element_at-then-from-least-via-then-from-least, element_at-then-from-least-via-else-from-least+then-name-len}
 use Rattle.dexval.proofs.nesting.ValueReader.+reading.Goals as goal
 
@@ -24,24 +23,21 @@ annotation_at-returns-in-Err-read_u-clause-read t c = λ p.
 
 pub annotation_at-returns-in-None-clause-read : goal.annotation_at-returns-in-None-clause-read
 annotation_at-returns-in-None-clause-read t c = λ p.
-    let none = rw c.in-None.is at (c.in_ok-elements.ensures.read p) in
-    no_elements c.args.self.now.bytes.now c.args.self.now.pools.now p c.args.at c.args.depth c.in-Ok.read.0 c.in-Ok.read.1 c.in-Ok-read_u.read.0 c.in-Ok-read_u.read.1 c.in-Ok.ensures.found c.in-Ok-read_u.ensures.found none
+    no_elements c.args.self.now.bytes.now c.args.self.now.pools.now p c.args.at c.args.depth c.in-Ok.read.0 c.in-Ok.read.1 c.in-Ok-read_u.read.0 c.in-Ok-read_u.read.1 c.in-Ok.ensures.found c.in-Ok-read_u.ensures.found (rw c.in-None.is at (c.in_ok-elements.ensures.read p))
 
 pub array_at-returns-in-Err-clause-read : goal.array_at-returns-in-Err-clause-read
 array_at-returns-in-Err-clause-read t c = λ p. no_count c.args.self.now.bytes.now c.args.self.now.pools.now c.args.at c.args.depth (λ v n there. ok_no_err _ (v, n) _ (c.read_u.ensures.only v n there) c.in-Err.is)
 
 pub array_at-returns-in-None-clause-read : goal.array_at-returns-in-None-clause-read
 array_at-returns-in-None-clause-read t c = λ p.
-    let none = rw c.in-None.is at (c.in_ok-value.ensures.read p) in
     no_values c.args.self.now.bytes.now c.args.self.now.pools.now c.args.at c.args.depth c.in-Ok.read.0 c.in-Ok.read.1 c.in-Ok.ensures.found
-    (no_next c.args.self.now.bytes.now c.args.self.now.pools.now (c.args.at + c.in-Ok.read.1) c.args.depth c.in-Ok.read.0 c.loop-i._i (map value_of c.loop-i.values.items) c.loop-i.size c.loop-i-test.true (c.loop-i.invariant.read p) none)
+    (no_next c.args.self.now.bytes.now c.args.self.now.pools.now (c.args.at + c.in-Ok.read.1) c.args.depth c.in-Ok.read.0 c.loop-i._i (map value_of c.loop-i.values.items) c.loop-i.size c.loop-i-test.true (c.loop-i.invariant.read p) (rw c.in-None.is at (c.in_ok-value.ensures.read p)))
 
 pub array_at-loop-i-preserved : goal.array_at-loop-i-preserved
 array_at-loop-i-preserved t c =
-    let within = rw c.in-Some.is at c.in_ok-value.ensures.within in
     let items : map value_of c.push.new.self.items ≡ map value_of c.loop-i.values.items ++ value_of c.in-Some.value ∷ [] = ap (map value_of) c.in_ok-push-in-Some.ensures.items ∙ map-append value_of c.loop-i.values.items (c.in-Some.value ∷ []) in
     record {
-      within = omega (arith, within);
+      within = omega (arith, rw c.in-Some.is at c.in_ok-value.ensures.within);
       read = λ p.
           let r = rw c.in-Some.is at (c.in_ok-value.ensures.read p) in
           subst (λ (l : List NumberedValue). HaveRead c.args.self.now.bytes.now (c.args.at + c.in-Ok.read.1) c.args.self.now.pools.now c.args.depth c.in-Ok.read.0 (c.loop-i._i + 1) l (c.loop-i.size + c.in-Some.used)) (sym items)
@@ -62,16 +58,14 @@ element_at-returns-in-None-clause-read t c = λ p.
 
 pub elements_at-returns-in-None-clause-read : goal.elements_at-returns-in-None-clause-read
 elements_at-returns-in-None-clause-read t c = λ p.
-    let none = rw c.in-None.is at (c.in_ok-element.ensures.read p) in
-    no_next_element c.args.self.now.bytes.now c.args.self.now.pools.now p c.args.at c.args.depth c.args.count c.loop-i._i c.loop-i.least (map element_of c.loop-i.elements.items) c.loop-i.size c.loop-i-test.true (c.loop-i.invariant.read p) none
+    no_next_element c.args.self.now.bytes.now c.args.self.now.pools.now p c.args.at c.args.depth c.args.count c.loop-i._i c.loop-i.least (map element_of c.loop-i.elements.items) c.loop-i.size c.loop-i-test.true (c.loop-i.invariant.read p) (rw c.in-None.is at (c.in_ok-element.ensures.read p))
 
 pub elements_at-loop-i-preserved : goal.elements_at-loop-i-preserved
 elements_at-loop-i-preserved t c =
-    let within = rw c.in-Some.is at c.in_ok-element.ensures.within in
     let named : (element_of c.in-Some.element).0 ≡ c.from-least.result = ap (λ (e : ℕ × NumberedValue). e.0) (element_is c.in-Some.element) ∙ omega (arith, c.from-least.ensures) in
     let items : map element_of c.push.new.self.items ≡ map element_of c.loop-i.elements.items ++ element_of c.in-Some.element ∷ [] = ap (map element_of) c.in_ok-push-in-Some.ensures.items ∙ map-append element_of c.loop-i.elements.items (c.in-Some.element ∷ []) in
     record {
-      within = omega (arith, within);
+      within = omega (arith, rw c.in-Some.is at c.in_ok-element.ensures.within);
       least_fits = omega (arith, rw c.in-Some.is at c.in_ok-element.ensures.name, named);
       read = λ p.
           let r = rw c.in-Some.is at (c.in_ok-element.ensures.read p) in
@@ -95,9 +89,8 @@ value_at-returns-then-depth-eq0-2-clause-read t c = λ p. no_deep_annotation c.a
 
 pub value_at-returns-in_ok-values-in-Some-clause-read : goal.value_at-returns-in_ok-values-in-Some-clause-read
 value_at-returns-in_ok-values-in-Some-clause-read t c = λ p.
-    let r = rw c.in-Some.is at (c.in_ok-values-in-28.ensures.read p) in
     subst (λ (x : NumberedValue). IsReadAt c.args.self.now.bytes.now c.args.at c.args.self.now.pools.now c.args.depth x (1 + c.in-Some.size)) (sym (array_is c.in_ok-values-in-Some.values ∙ ap (λ vs. numbered.Array (values_of_list (map value_of vs.items))) c.in_ok-values-in-Some.ensures.ok))
-    (array_encoded c.args.self.now.bytes.now c.args.at c.args.depth c.args.self.now.pools.now p.pools (values_of_list (map value_of c.in-Some.values.items)) c.in-Some.size (omega arith) c.in-28.is c.if-depth-eq0.false r)
+    (array_encoded c.args.self.now.bytes.now c.args.at c.args.depth c.args.self.now.pools.now p.pools (values_of_list (map value_of c.in-Some.values.items)) c.in-Some.size (omega arith) c.in-28.is c.if-depth-eq0.false (rw c.in-Some.is at (c.in_ok-values-in-28.ensures.read p)))
 
 pub value_at-returns-in-None-clause-read : goal.value_at-returns-in-None-clause-read
 value_at-returns-in-None-clause-read t c = λ p.
@@ -105,10 +98,9 @@ value_at-returns-in-None-clause-read t c = λ p.
 
 pub value_at-returns-in_ok-annotation-in-Some-2-clause-read : goal.value_at-returns-in_ok-annotation-in-Some-2-clause-read
 value_at-returns-in_ok-annotation-in-Some-2-clause-read t c = λ p.
-    let r = rw c.in-Some-2.is at (c.in_ok-annotation-in-29.ensures.read p) in
     let a = c.in-Some-2.annotation in
     subst (λ (x : NumberedValue). IsReadAt c.args.self.now.bytes.now c.args.at c.args.self.now.pools.now c.args.depth x (1 + c.in-Some-2.size)) (sym (annotation_is c.in_ok-annotation-in-Some-2.annotation ∙ ap encoded_of c.in_ok-annotation-in-Some-2.ensures.ok))
-    (annotation_encoded c.args.self.now.bytes.now c.args.at c.args.depth c.args.self.now.pools.now p.pools (encoded_type a) (encoded_elements a) c.in-Some-2.size (omega arith) c.in-29.is c.if-depth-eq0-2.false r)
+    (annotation_encoded c.args.self.now.bytes.now c.args.at c.args.depth c.args.self.now.pools.now p.pools (encoded_type a) (encoded_elements a) c.in-Some-2.size (omega arith) c.in-29.is c.if-depth-eq0-2.false (rw c.in-Some-2.is at (c.in_ok-annotation-in-29.ensures.read p)))
 
 pub value_at-returns-in-None-2-clause-read : goal.value_at-returns-in-None-2-clause-read
 value_at-returns-in-None-2-clause-read t c = λ p.

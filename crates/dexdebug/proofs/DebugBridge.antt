@@ -1,15 +1,10 @@
 -- Debug programs by the rows of their symbols and by the numbers of these.
-use Rattle.dexdebug.proofs.Common.{◌≡◌, ℕ, ◌+◌, ◌<◌, ◌≤◌, List, [], ◌∷◌, length, take, drop, get_or, length-take, length-drop, Option, Some, None, refl, sym, subst, arith, AllZip, get_or_default, ◌-◌, ◌^◌, Result, Ok, Err, IfOk, MatchOption, Sequence, BothOrNone, BytesAt, Uleb128At, Uleb128p1At, IsChain, Text, Mentions, IsAt}
+use Rattle.dexdebug.proofs.Common.{◌≡◌, ℕ, ◌+◌, ◌<◌, ◌≤◌, List, [], ◌∷◌, length, take, drop, get_or, length-take, length-drop, Option, Some, None, refl, sym, subst, arith, AllZip, get_or_default, ◌-◌, ◌^◌, Result, Ok, Err, IfOk, MatchOption, Sequence, BothOrNone, BytesAt, Uleb128At, Uleb128p1At, IsChain, Text, Mentions, IsAt, Operation, AdvancePc, AdvanceLine, StartLocal, StartLocalExtended, EndLocal, RestartLocal, SetPrologueEnd, SetEpilogueBegin, SetFile, Special, DebugShape, NumberedDebug, DenotesText, DenotesType, DenotesOperation, IsDebugAt, IndexAt, OperandsAt, NumberedAt, NamesAt, ProgramAt, NumberedDebugAt, IsShape, IsShapeAt, HasDebugOf, HasNoDebug, counts_of}
 use Rattle.dexspec.specs.Header.{data_off}
 use Rattle.dexspec.specs.Rows.{StringRow, TypeRow}
 use Rattle.dexspec.specs.Debug as symbolic
-use Rattle.dexpool.specs.declared.faults.ItemFault.{ItemFault}
 use Rattle.dexpool.specs.Pools.{ArePools}
-use Rattle.dexdebug.specs.declared.debug_operation.Operation.{Operation}
-use Rattle.dexdebug.specs.declared.debug_operation.Operation.TheVariants.{AdvancePc, AdvanceLine, StartLocal, StartLocalExtended, EndLocal, RestartLocal, SetPrologueEnd, SetEpilogueBegin, SetFile, Special}
-use Rattle.dexdebug.specs.declared.debug_reading.DebugShape.{DebugShape}
-use Rattle.dexdebug.proofs.DebugWeights.{weight_is}
-use Rattle.dexdebug.specs.{NumberedDebug, DenotesText, DenotesType, DenotesOperation, IsDebugAt, IndexAt, OperandsAt, NumberedAt, NamesAt, ProgramAt, NumberedDebugAt, IsShape, IsShapeAt, HasDebugOf, HasNoDebug, counts_of}
+use Rattle.dexdebug.proofs.DebugMeanings.{weight_is}
 
 -- the number of each symbol is its row
 member_at : {X : Type 0} (xs : List X) (i : ℕ) (d : X) → i < length xs → IsAt xs i (get_or xs i d)
@@ -18,15 +13,11 @@ member_at xs i d lt = record { within = lt; is = λ e. get_or_default xs i e d l
 module _ (b : List ℕ) (m : Mentions) (pools : ArePools b m) where
   text_named : (o : ℕ) (i : Option ℕ) (n : ℕ) → IndexAt (length m.texts) b o i n → (s : Option Text) × symbolic.OptionalTextAt b o s n × DenotesText m i s
   text_named o None n h = (None, (None, h.0, tt), tt)
-  text_named o (Some k) n h =
-      let count = pools.texts_are.count in
-      (Some (get_or m.texts k []), (Some k, h.0, pools.texts_are.each k [] (omega (arith, h.1, count))), member_at m.texts k [] h.1)
+  text_named o (Some k) n h = (Some (get_or m.texts k []), (Some k, h.0, pools.texts_are.each k [] (omega (arith, h.1, pools.texts_are.count))), member_at m.texts k [] h.1)
 
   type_named : (o : ℕ) (i : Option ℕ) (n : ℕ) → IndexAt (length m.types) b o i n → (t : Option Text) × symbolic.OptionalTypeAt b o t n × DenotesType m i t
   type_named o None n h = (None, (None, h.0, tt), tt)
-  type_named o (Some k) n h =
-      let count = pools.types_are.count in
-      (Some (get_or m.types k []), (Some k, h.0, pools.types_are.each k [] (omega (arith, h.1, count))), member_at m.types k [] h.1)
+  type_named o (Some k) n h = (Some (get_or m.types k []), (Some k, h.0, pools.types_are.each k [] (omega (arith, h.1, pools.types_are.count))), member_at m.types k [] h.1)
 
   text_index_by : (o n : ℕ) (i : Option ℕ) (s : Option Text) → Uleb128p1At b o i n → BothOrNone (StringRow b) i s → IndexAt (length m.texts) b o i n
   text_index_by o n None s p h = (p, tt)
@@ -53,18 +44,16 @@ module _ (b : List ℕ) (m : Mentions) (pools : ArePools b m) where
   operation_named o c (AdvancePc addresses) n here byte h = (symbolic.AdvancePc addresses, (coded o c 0x01 h.0 here, n, h.1, refl), refl)
   operation_named o c (AdvanceLine lines) n here byte h = (symbolic.AdvanceLine lines, (coded o c 0x02 h.0 here, n, h.1, refl), refl)
   operation_named o c (StartLocal register i j) n here byte h =
-      let l = h.1 in
-      let s = text_named (o + 1 + l.register_size) i l.name_size l.at_name in
-      let t = type_named (o + 1 + l.register_size + l.name_size) j l.type_size l.at_type in
-      (symbolic.StartLocal register s.0 t.0, (coded o c 0x03 h.0 here, l.register_size, l.name_size, l.type_size, l.at_register, s.1, t.1, omega (arith, l.size)), (refl, s.2, t.2))
+      let s = text_named (o + 1 + h.1.register_size) i h.1.name_size h.1.at_name in
+      let t = type_named (o + 1 + h.1.register_size + h.1.name_size) j h.1.type_size h.1.at_type in
+      (symbolic.StartLocal register s.0 t.0, (coded o c 0x03 h.0 here, h.1.register_size, h.1.name_size, h.1.type_size, h.1.at_register, s.1, t.1, omega (arith, h.1.size)), (refl, s.2, t.2))
   operation_named o c (StartLocalExtended register i j k) n here byte h =
-      let l = h.1.at_local in
-      let s = text_named (o + 1 + l.register_size) i l.name_size l.at_name in
-      let t = type_named (o + 1 + l.register_size + l.name_size) j l.type_size l.at_type in
-      let place : o + 1 + h.1.local_size ≡ o + 1 + l.register_size + l.name_size + l.type_size = omega (arith, l.size) in
-      let u = text_named (o + 1 + l.register_size + l.name_size + l.type_size) k h.1.signature_size (subst (λ (p : ℕ). IndexAt (length m.texts) b p k h.1.signature_size) place h.1.at_signature) in (
+      let s = text_named (o + 1 + h.1.at_local.register_size) i h.1.at_local.name_size h.1.at_local.at_name in
+      let t = type_named (o + 1 + h.1.at_local.register_size + h.1.at_local.name_size) j h.1.at_local.type_size h.1.at_local.at_type in
+      let place : o + 1 + h.1.local_size ≡ o + 1 + h.1.at_local.register_size + h.1.at_local.name_size + h.1.at_local.type_size = omega (arith, h.1.at_local.size) in
+      let u = text_named (o + 1 + h.1.at_local.register_size + h.1.at_local.name_size + h.1.at_local.type_size) k h.1.signature_size (subst (λ (p : ℕ). IndexAt (length m.texts) b p k h.1.signature_size) place h.1.at_signature) in (
         symbolic.StartLocalExtended register s.0 t.0 u.0,
-        (coded o c 0x04 h.0 here, l.register_size, l.name_size, l.type_size, h.1.signature_size, l.at_register, s.1, t.1, u.1, omega (arith, l.size, h.1.size)),
+        (coded o c 0x04 h.0 here, h.1.at_local.register_size, h.1.at_local.name_size, h.1.at_local.type_size, h.1.signature_size, h.1.at_local.at_register, s.1, t.1, u.1, omega (arith, h.1.at_local.size, h.1.size)),
         (refl, s.2, t.2, u.2),
       )
   operation_named o c (EndLocal register) n here byte h = (symbolic.EndLocal register, (coded o c 0x05 h.0 here, n, h.1, refl), refl)
@@ -81,14 +70,7 @@ module _ (b : List ℕ) (m : Mentions) (pools : ArePools b m) where
       let s = text_indexed (o + 1 + h.1) name h.2 h.5 in
       let t = type_indexed (o + 1 + h.1 + h.2) type h.3 h.6 in (
         StartLocal register s.0 t.0,
-        record {
-          opcode = 0x03;
-          operands_size = h.1 + h.2 + h.3;
-          at_opcode = h.0;
-          byte = omega arith;
-          operands = (refl, record { register_size = h.1; name_size = h.2; type_size = h.3; at_register = h.4; at_name = s.1; at_type = t.1; size = refl });
-          size = omega (arith, h.7);
-        },
+        record { opcode = 0x03; operands_size = h.1 + h.2 + h.3; at_opcode = h.0; byte = omega arith; operands = (refl, record { register_size = h.1; name_size = h.2; type_size = h.3; at_register = h.4; at_name = s.1; at_type = t.1; size = refl }); size = omega (arith, h.7) },
       )
   operation_numbered o (symbolic.StartLocalExtended register name type signature) n h =
       let s = text_indexed (o + 1 + h.1) name h.2 h.6 in
@@ -126,31 +108,20 @@ module _ (b : List ℕ) (m : Mentions) (pools : ArePools b m) where
   operations_named : (o : ℕ) (ops : List Operation) (n : ℕ) → Sequence (NumberedAt (counts_of m)) b o ops n → (xs : List symbolic.Operation) × Sequence symbolic.OperationAt b o xs n × AllZip (DenotesOperation m) ops xs
   operations_named o [] n h = ([], h, tt)
   operations_named o (op ∷ ops) n h =
-      let first = h.2 in
-      let x = operation_named o first.opcode op first.operands_size first.at_opcode first.byte first.operands in
-      let rest = operations_named (o + h.0) ops h.1 h.3 in
-      (x.0 ∷ rest.0, (h.0, h.1, subst (λ (k : ℕ). symbolic.OperationAt b o x.0 k) (sym first.size) x.1, rest.1, h.4), (x.2, rest.2))
+      let x = operation_named o h.2.opcode op h.2.operands_size h.2.at_opcode h.2.byte h.2.operands in
+      let rest = operations_named (o + h.0) ops h.1 h.3 in (x.0 ∷ rest.0, (h.0, h.1, subst (λ (k : ℕ). symbolic.OperationAt b o x.0 k) (sym h.2.size) x.1, rest.1, h.4), (x.2, rest.2))
 
   operations_numbered : (o : ℕ) (xs : List symbolic.Operation) (n : ℕ) → Sequence symbolic.OperationAt b o xs n → (ops : List Operation) × Sequence (NumberedAt (counts_of m)) b o ops n
   operations_numbered o [] n h = ([], h)
-  operations_numbered o (x ∷ xs) n h =
-      let op = operation_numbered o x h.0 h.2 in
-      let rest = operations_numbered (o + h.0) xs h.1 h.3 in
-      (op.0 ∷ rest.0, (h.0, h.1, op.1, rest.1, h.4))
+  operations_numbered o (x ∷ xs) n h = let op = operation_numbered o x h.0 h.2 in let rest = operations_numbered (o + h.0) xs h.1 h.3 in (op.0 ∷ rest.0, (h.0, h.1, op.1, rest.1, h.4))
 
   names_named : (o : ℕ) (is : List (Option ℕ)) (n : ℕ) → Sequence (IndexAt (length m.texts)) b o is n → (ss : List (Option Text)) × Sequence symbolic.OptionalTextAt b o ss n × AllZip (DenotesText m) is ss × (length ss ≡ length is)
   names_named o [] n h = ([], h, tt, refl)
-  names_named o (i ∷ is) n h =
-      let s = text_named o i h.0 h.2 in
-      let rest = names_named (o + h.0) is h.1 h.3 in
-      (s.0 ∷ rest.0, (h.0, h.1, s.1, rest.1, h.4), (s.2, rest.2), omega (arith, rest.3))
+  names_named o (i ∷ is) n h = let s = text_named o i h.0 h.2 in let rest = names_named (o + h.0) is h.1 h.3 in (s.0 ∷ rest.0, (h.0, h.1, s.1, rest.1, h.4), (s.2, rest.2), omega (arith, rest.3))
 
   names_numbered : (o : ℕ) (ss : List (Option Text)) (n : ℕ) → Sequence symbolic.OptionalTextAt b o ss n → (is : List (Option ℕ)) × Sequence (IndexAt (length m.texts)) b o is n × (length is ≡ length ss)
   names_numbered o [] n h = ([], h, refl)
-  names_numbered o (s ∷ ss) n h =
-      let i = text_indexed o s h.0 h.2 in
-      let rest = names_numbered (o + h.0) ss h.1 h.3 in
-      (i.0 ∷ rest.0, (h.0, h.1, i.1, rest.1, h.4), omega (arith, rest.2))
+  names_numbered o (s ∷ ss) n h = let i = text_indexed o s h.0 h.2 in let rest = names_numbered (o + h.0) ss h.1 h.3 in (i.0 ∷ rest.0, (h.0, h.1, i.1, rest.1, h.4), omega (arith, rest.2))
 
   -- ---- programs
 
@@ -158,8 +129,7 @@ module _ (b : List ℕ) (m : Mentions) (pools : ArePools b m) where
   pub debug_named : (off : ℕ) (d : NumberedDebug) → data_off b ≤ off → NumberedDebugAt (counts_of m) b off d → IsDebugAt b off m d
   debug_named off d in_data h =
       let names = names_named (off + h.start_size + h.count_size) d.parameter_names h.names_size h.at_names.each in
-      let program = h.program in
-      let operations = operations_named (off + h.start_size + h.count_size + h.names_size) d.operations program.size program.operations in
+      let operations = operations_named (off + h.start_size + h.count_size + h.names_size) d.operations h.program.size h.program.operations in
       let x : symbolic.Debug = record { line_start = d.line_start; parameter_names = names.0; operations = operations.0 } in
       record {
         program = x;
@@ -168,12 +138,12 @@ module _ (b : List ℕ) (m : Mentions) (pools : ArePools b m) where
           start_size = h.start_size;
           count_size = h.count_size;
           names_size = h.names_size;
-          operations_size = program.size;
+          operations_size = h.program.size;
           line_start = h.at_start;
           count = subst (λ (k : ℕ). Uleb128At b (off + h.start_size) k h.count_size) (sym names.3) h.at_count;
           names = names.1;
           operations = operations.1;
-          end = program.end;
+          end = h.program.end;
         };
         encodes = record { start_is = refl; names_are = names.2; operations_are = operations.2 };
       }
@@ -200,29 +170,22 @@ module _ (b : List ℕ) (m : Mentions) (pools : ArePools b m) where
 -- the debug program of a shape, and what it weighs
 pub shaped : (b : List ℕ) (m : Mentions) → ArePools b m → (off : ℕ) (s : DebugShape) → IsShapeAt b off m s → HasDebugOf b off m s.weight
 shaped b m pools off s h =
-    let shape = h.shape in
-    let names = shape.names in
-    let operations = shape.operations in
-    let d : NumberedDebug = record { line_start = s.line_start; parameter_names = names.names; operations = operations.operations } in
-    let many = names.names_at.many in
-    let place : off + shape.start_size + shape.count_size + (s.operations_at - s.names_at) ≡ s.operations_at = omega (arith, shape.at_names, names.before) in
+    let operations = h.shape.operations in
+    let d : NumberedDebug = record { line_start = s.line_start; parameter_names = h.shape.names.names; operations = operations.operations } in
+    let place : off + h.shape.start_size + h.shape.count_size + (s.operations_at - s.names_at) ≡ s.operations_at = omega (arith, h.shape.at_names, h.shape.names.before) in
     let weight = weight_is d in record {
       debug = d;
       at = debug_named b m pools off d h.in_data (record {
-        start_size = shape.start_size;
-        count_size = shape.count_size;
+        start_size = h.shape.start_size;
+        count_size = h.shape.count_size;
         names_size = s.operations_at - s.names_at;
-        at_start = shape.at_start;
-        at_count = subst (λ (k : ℕ). Uleb128At b (off + shape.start_size) k shape.count_size) (sym many) shape.at_count;
-        at_names = subst (λ (k : ℕ). NamesAt (length m.texts) b k (length names.names) names.names (s.operations_at - s.names_at)) shape.at_names (record { many = refl; each = names.names_at.each });
+        at_start = h.shape.at_start;
+        at_count = subst (λ (k : ℕ). Uleb128At b (off + h.shape.start_size) k h.shape.count_size) (sym h.shape.names.names_at.many) h.shape.at_count;
+        at_names = subst (λ (k : ℕ). NamesAt (length m.texts) b k (length h.shape.names.names) h.shape.names.names (s.operations_at - s.names_at)) h.shape.at_names (record { many = refl; each = h.shape.names.names_at.each });
         program = subst (λ (k : ℕ). ProgramAt (counts_of m) b k operations.operations) (sym place) operations.program;
       });
-      weighs = omega (arith, weight, many, operations.weight, shape.weight);
+      weighs = omega (arith, weight, h.shape.names.names_at.many, operations.weight, h.shape.weight);
     }
-
-pub ok_shaped : (b : List ℕ) (m : Mentions) → ArePools b m → (off : ℕ) (r : Result DebugShape ItemFault) → IfOk r (IsShapeAt b off m) → IfOk r (λ s. HasDebugOf b off m s.weight)
-ok_shaped b m pools off (Ok s) h = shaped b m pools off s h
-ok_shaped b m pools off (Err f) h = tt
 
 pub ok_named : {E : Type 0} (b : List ℕ) (m : Mentions) → ArePools b m → (off : ℕ) → data_off b ≤ off → (r : Result NumberedDebug E) → IfOk r (NumberedDebugAt (counts_of m) b off) → IfOk r (IsDebugAt b off m)
 ok_named b m pools off in_data (Ok d) h = debug_named b m pools off d in_data h
@@ -236,9 +199,7 @@ reported b m off None in_data within small h = λ pools x at. let d = debug_numb
 
 -- there is nothing after the last byte
 pub nothing_after : (b : List ℕ) (off : ℕ) (x : symbolic.Debug) → length b < off → symbolic.DebugAt b off x → ⊥
-nothing_after b off x lt h =
-    let within = h.line_start.within in
-    some_chain (take h.start_size (drop off b)) h.line_start.spelled.chain (omega (arith, length-take h.start_size (drop off b), length-drop off b))
+nothing_after b off x lt h = some_chain (take h.start_size (drop off b)) h.line_start.spelled.chain (omega (arith, length-take h.start_size (drop off b), length-drop off b, h.line_start.within))
   where
     some_chain : (bs : List ℕ) → IsChain bs → length bs ≡ 0 → ⊥
     some_chain [] chain e = chain

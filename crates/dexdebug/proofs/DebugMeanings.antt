@@ -1,20 +1,23 @@
 -- What the numbers in debug programs denote.
-use Rattle.dexdebug.proofs.Common.{◌≡◌, ℕ, ◌+◌, ◌*◌, ◌≤◌, List, [], ◌∷◌, ◌++◌, length, map, get_or, Option, Some, None, refl, ap, sym, ◌∙◌, subst, arith, length-append, ℤ, pos, ◌+ℤ◌, sum_by, if◌then◌else◌, All, AllZip, flat_map, IsSome, append-nil, All-nil, All-cons, All-head, All-tail, All-append, sum_by-le-sum_by, sum_by-cons, rank, plus_one, uleb128, sleb128, uleb128p1, Text, text_cmp, Mentions, optional_text, optional_type, operation_symbols, debug_symbols, operands, debug_weight, sum_by-at_most, IsAt, AreRising, AreMarksOf, Maps, image_of, MapsTo, AllMapTo, Use, HasMark, IsUseOf, IsMappedUse, all_prefix, all_back}
+use Rattle.dexdebug.proofs.Common.{All-weaker, ◌≡◌, ℕ, ◌+◌, ◌*◌, ◌≤◌, List, [], ◌∷◌, ◌++◌, length, map, get_or, Option, Some, None, refl, ap, sym, ◌∙◌, subst, arith, length-append, ℤ, pos, ◌+ℤ◌, sum_by, if◌then◌else◌, All, AllZip, flat_map, IsSome, append-nil, All-nil, All-cons, All-append, sum_by-le-sum_by, sum_by-cons, rank, plus_one, uleb128, sleb128, uleb128p1, Text, text_cmp, Mentions, optional_text, optional_type, operation_symbols, debug_symbols, operands, debug_weight, sum_by-at_most, IsAt, AreRising, AreMarksOf, Maps, image_of, MapsTo, AllMapTo, Use, HasMark, IsUseOf, IsMappedUse, all_prefix, all_back, Operation, AdvancePc, AdvanceLine, StartLocal, StartLocalExtended, EndLocal, RestartLocal, SetPrologueEnd, SetEpilogueBegin, SetFile, Special, NumberedDebug, DenotesText, DenotesType, DenotesOperation, DenotesDebug, unindexed_operation, unindexed, operation_weight, numbered_operation_bytes, numbered_debug_bytes, number_uses, operation_uses, debug_uses, HasPlace, image_or_none, renumbered_operation, renumbered_debug, name_of, type_of, signature_of, length-map, sum_by-map}
+use Rattle.dexspec.specs.Spellings.{text_index}
 use Rattle.std.proofs.lemmas.List.Concat.{length-flat_map}
 use Rattle.dexspec.specs.Symbols.{Symbol}
 use Rattle.dexspec.specs.Debug as symbolic
 use Rattle.dexdebug.specs.Positions as recorded
-use Rattle.dexspec.specs.Spellings.{text_index, type_index, optional_text_bytes, optional_type_bytes, operation_bytes, debug_bytes}
+use Rattle.dexspec.specs.Spellings.{type_index, optional_text_bytes, optional_type_bytes, operation_bytes, debug_bytes}
 use Rattle.dexspec.proofs.lists.InOrder.{Rises-from_rises, rank-get_or}
 use Rattle.dexspec.proofs.merge.SymbolOrders.{text_total}
 use Rattle.dexspec.proofs.size.SizeItems.{uleb128-size, sleb128-size}
 use Rattle.dexpool.specs.declared.symbols.SymbolKind.TheVariants as kinds
 use Rattle.dexpool.specs.declared.marks.Marks.{Marks}
-use Rattle.dexdebug.specs.declared.debug_operation.Operation.{Operation}
-use Rattle.dexdebug.specs.declared.debug_operation.Operation.TheVariants.{AdvancePc, AdvanceLine, StartLocal, StartLocalExtended, EndLocal, RestartLocal, SetPrologueEnd, SetEpilogueBegin, SetFile, Special}
-use Rattle.dexdebug.specs.{NumberedDebug, DenotesText, DenotesType, DenotesOperation, DenotesDebug, unindexed_operation, unindexed, operation_weight, numbered_operation_bytes, numbered_debug_bytes, number_uses, operation_uses, debug_uses, HasPlace, image_or_none, renumbered_operation, renumbered_debug, name_of, type_of, signature_of}
 use Rattle.dexdebug.proofs.DebugUses.{use_of}
-use Rattle.dexdebug.proofs.DebugWeights.{weight_is}
+
+-- ---- What a debug program weighs, added up operation by operation
+
+-- the weight, by the lists
+pub weight_is : (d : NumberedDebug) → debug_weight (unindexed d) ≡ 11 + 5 * length d.parameter_names + sum_by operation_weight d.operations
+weight_is d = omega (arith, length-map {A = Option ℕ} {B = Option Text} d.parameter_names (λ i. None), sum_by-map (λ op. 1 + 5 * operands op) unindexed_operation d.operations)
 
 -- ---- the bytes
 
@@ -37,8 +40,7 @@ type_bytes m _ _ r h = absurd h
 operation_is : (m : Mentions) (op : Operation) (x : symbolic.Operation) → AreRising m → DenotesOperation m op x → numbered_operation_bytes op ≡ operation_bytes m x
 operation_is m (AdvancePc addresses) (symbolic.AdvancePc others) r h = ap (λ (k : ℕ). 0x01 ∷ uleb128 k) h
 operation_is m (AdvanceLine lines) (symbolic.AdvanceLine others) r h = ap (λ (k : ℤ). 0x02 ∷ sleb128 k) h
-operation_is m (StartLocal register name typ) (symbolic.StartLocal other s t) r h =
-    λ i. 0x03 ∷ (uleb128 (h.0 i) ++ (text_bytes m name s r h.1 i ++ type_bytes m typ t r h.2 i))
+operation_is m (StartLocal register name typ) (symbolic.StartLocal other s t) r h = λ i. 0x03 ∷ (uleb128 (h.0 i) ++ (text_bytes m name s r h.1 i ++ type_bytes m typ t r h.2 i))
 operation_is m (StartLocalExtended register name typ signature) (symbolic.StartLocalExtended other s t u) r h =
     λ i. 0x04 ∷ (uleb128 (h.0 i) ++ (text_bytes m name s r h.1 i ++ (type_bytes m typ t r h.2 i ++ text_bytes m signature u r h.3 i)))
 operation_is m (EndLocal register) (symbolic.EndLocal other) r h = ap (λ (k : ℕ). 0x05 ∷ uleb128 k) h
@@ -63,10 +65,8 @@ same_count _ _ _ h = absurd h
 pub bytes_are : (m : Mentions) (d : NumberedDebug) (x : symbolic.Debug) → AreRising m → DenotesDebug m d x → numbered_debug_bytes d ≡ debug_bytes m x
 unfolding numbered_debug_bytes debug_bytes
 bytes_are m d x r h =
-    let count = same_count (DenotesText m) d.parameter_names x.parameter_names h.names_are in
     let names = joined_is (DenotesText m) uleb128p1 (optional_text_bytes m) d.parameter_names x.parameter_names (λ i s e. text_bytes m i s r e) h.names_are in
-    let operations = joined_is (DenotesOperation m) numbered_operation_bytes (operation_bytes m) d.operations x.operations (λ op y e. operation_is m op y r e) h.operations_are in
-    λ i. uleb128 (h.start_is i) ++ (uleb128 (count i) ++ (names i ++ (operations i ++ 0x00 ∷ [])))
+    λ i. uleb128 (h.start_is i) ++ (uleb128 ((same_count (DenotesText m) d.parameter_names x.parameter_names h.names_are) i) ++ (names i ++ ((joined_is (DenotesOperation m) numbered_operation_bytes (operation_bytes m) d.operations x.operations (λ op y e. operation_is m op y r e) h.operations_are) i ++ 0x00 ∷ [])))
 
 -- ---- how many bytes
 
@@ -76,15 +76,8 @@ index-size i = uleb128-size (plus_one i)
 pub operation-size : (op : Operation) → length (numbered_operation_bytes op) ≤ operation_weight op
 operation-size (AdvancePc addresses) = omega (arith, uleb128-size addresses)
 operation-size (AdvanceLine lines) = omega (arith, sleb128-size lines)
-operation-size (StartLocal register name typ) =
-    let b = uleb128p1 name in
-    let c = uleb128p1 typ in
-    omega (arith, length-append (uleb128 register) (b ++ c), length-append b c, uleb128-size register, index-size name, index-size typ)
-operation-size (StartLocalExtended register name typ signature) =
-    let b = uleb128p1 name in
-    let c = uleb128p1 typ in
-    let d = uleb128p1 signature in
-    omega (arith, length-append (uleb128 register) (b ++ (c ++ d)), length-append b (c ++ d), length-append c d, uleb128-size register, index-size name, index-size typ, index-size signature)
+operation-size (StartLocal register name typ) = omega (arith, length-append {A = ℕ}, uleb128-size register, index-size name, index-size typ)
+operation-size (StartLocalExtended register name typ signature) = omega (arith, length-append {A = ℕ}, uleb128-size register, index-size name, index-size typ, index-size signature)
 operation-size (EndLocal register) = omega (arith, uleb128-size register)
 operation-size (RestartLocal register) = omega (arith, uleb128-size register)
 operation-size SetPrologueEnd = omega arith
@@ -95,25 +88,16 @@ operation-size (Special opcode) = omega arith
 pub bytes_few : (d : NumberedDebug) → length (numbered_debug_bytes d) ≤ debug_weight (unindexed d)
 unfolding numbered_debug_bytes
 bytes_few d =
-    let names = flat_map uleb128p1 d.parameter_names in
-    let ops = flat_map numbered_operation_bytes d.operations in
-    let rest = names ++ (ops ++ 0x00 ∷ []) in
-    let count = uleb128 (length d.parameter_names) in
-    let each = sum_by-at_most (λ i. length (uleb128p1 i)) 5 d.parameter_names index-size in
-    let all = sum_by-le-sum_by (λ op. length (numbered_operation_bytes op)) operation_weight d.operations operation-size in
     omega (
       arith,
       weight_is d,
-      length-append (uleb128 d.line_start) (count ++ rest),
-      length-append count rest,
-      length-append names (ops ++ 0x00 ∷ []),
-      length-append ops (0x00 ∷ []),
+      length-append {A = ℕ},
       uleb128-size d.line_start,
       uleb128-size (length d.parameter_names),
       length-flat_map uleb128p1 d.parameter_names,
       length-flat_map numbered_operation_bytes d.operations,
-      each,
-      all,
+      (sum_by-at_most (λ i. length (uleb128p1 i)) 5 d.parameter_names index-size),
+      (sum_by-le-sum_by (λ op. length (numbered_operation_bytes op)) operation_weight d.operations operation-size),
     )
 
 -- an operation has four operands at most
@@ -142,10 +126,8 @@ operands_are m _ _ h = absurd h
 
 sums_are : (m : Mentions) (ops : List Operation) (xs : List symbolic.Operation) → AllZip (DenotesOperation m) ops xs → sum_by operation_weight ops ≡ sum_by (λ x. 1 + 5 * operands x) xs
 sums_are m [] [] h = refl
-sums_are m [] (x ∷ xs) h = absurd h
-sums_are m (op ∷ ops) [] h = absurd h
-sums_are m (op ∷ ops) (x ∷ xs) h =
-    omega (arith, sum_by-cons operation_weight op ops, sum_by-cons (λ y. 1 + 5 * operands y) x xs, operands_are m op x h.0, sums_are m ops xs h.1)
+sums_are m (op ∷ ops) (x ∷ xs) h = omega (arith, sum_by-cons operation_weight op ops, sum_by-cons (λ y. 1 + 5 * operands y) x xs, operands_are m op x h.0, sums_are m ops xs h.1)
+sums_are m _ _ h = absurd h
 
 pub weights_are : (m : Mentions) (d : NumberedDebug) (x : symbolic.Debug) → DenotesDebug m d x → debug_weight (unindexed d) ≡ debug_weight x
 weights_are m d x h = omega (arith, weight_is d, same_count (DenotesText m) d.parameter_names x.parameter_names h.names_are, sums_are m d.operations x.operations h.operations_are)
@@ -248,14 +230,8 @@ renumbered_denotes m n r d x l all h = record {
   operations_are = operations_remapped m n r l d.operations x.operations (all_back (IsMappedUse r) (flat_map (number_uses kinds.Text) d.parameter_names) (flat_map operation_uses d.operations) all) h.operations_are;
 }
 
-images_of : (r : Maps) (us : List Use) → All (HasPlace r) us → All (IsMappedUse r) us
-images_of r [] h = All-nil (IsMappedUse r)
-images_of r (u ∷ us) h =
-    let place = All-head (HasPlace r) u us h in
-    All-cons (IsMappedUse r) u us (subst IsSome (sym place.1) refl) (images_of r us (All-tail (HasPlace r) u us h))
-
 pub images_of_places : (r : Maps) (d : NumberedDebug) → All (HasPlace r) (debug_uses d) → All (IsMappedUse r) (debug_uses d)
-images_of_places r d h = images_of r (debug_uses d) h
+images_of_places r d h = All-weaker (HasPlace r) (IsMappedUse r) (λ u p. subst IsSome (sym p.1) refl) (debug_uses d) h
 
 -- ---- the symbols that occur
 

@@ -1,8 +1,6 @@
 -- Positions that are found operation by operation.
-use Rattle.dexdebug.proofs.Common.{◌≡◌, ℕ, ◌+◌, Bool, true, false, List, [], ◌∷◌, ◌++◌, map, ap, subst, ◌∙◌, append_assoc, ℤ, ◌+ℤ◌, if◌then◌else◌}
+use Rattle.dexdebug.proofs.Common.{◌≡◌, ℕ, ◌+◌, Bool, true, false, List, [], ◌∷◌, ◌++◌, map, ap, subst, ◌∙◌, append_assoc, ℤ, ◌+ℤ◌, if◌then◌else◌, Operation, unindexed_operation}
 use Rattle.dexdebug.specs.Positions as recorded
-use Rattle.dexdebug.specs.declared.debug_operation.Operation.{Operation}
-use Rattle.dexdebug.specs.{unindexed_operation}
 
 -- one that is recorded, or none
 one_kept : (t : Bool) (found more rest whole : List (ℕ × ℤ)) (p : ℕ × ℤ) → found ++ (if t then p ∷ rest else rest) ≡ whole → more ≡ (if t then found ++ p ∷ [] else found) → more ++ rest ≡ whole

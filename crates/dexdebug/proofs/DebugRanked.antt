@@ -1,12 +1,9 @@
 -- Numbers are the ranks of what they mean, so debug programs of two numberings, mapped to a third, are the same there
 -- just where they mean the same.
-use Rattle.dexdebug.proofs.Common.{◌≡◌, ℕ, ◌<◌, List, [], ◌∷◌, length, map, Option, Some, None, refl, ap, sym, ◌∙◌, ◌↔◌, IfSome, All, option_map, All-head, All-tail, rank, Text, text_cmp, Mentions, Maps, AllMapTo, IsMappedUse}
+use Rattle.dexdebug.proofs.Common.{◌≡◌, ℕ, ◌<◌, List, [], ◌∷◌, length, map, Option, Some, None, refl, ap, sym, ◌∙◌, ◌↔◌, IfSome, All, option_map, All-head, All-tail, rank, Text, text_cmp, Mentions, Maps, AllMapTo, IsMappedUse, Operation, AdvancePc, AdvanceLine, StartLocal, StartLocalExtended, EndLocal, RestartLocal, SetPrologueEnd, SetEpilogueBegin, SetFile, Special, NumberedDebug, debug_uses, renumbered_debug, text_at, type_at, debug_in, IsKnownText, IsKnownType, IsKnownOperation, IsKnownDebug}
+use Rattle.dexdebug.specs.Meaning.{operation_in}
 use Rattle.dexspec.specs.Debug as debugs
 use Rattle.dexpool.specs.Laws.{RanksAreNumbers}
-use Rattle.dexdebug.specs.declared.debug_operation.Operation.{Operation}
-use Rattle.dexdebug.specs.declared.debug_operation.Operation.TheVariants.{AdvancePc, AdvanceLine, StartLocal, StartLocalExtended, EndLocal, RestartLocal, SetPrologueEnd, SetEpilogueBegin, SetFile, Special}
-use Rattle.dexdebug.specs.{NumberedDebug, debug_uses, renumbered_debug}
-use Rattle.dexdebug.specs.Meaning.{text_at, type_at, operation_in, debug_in, IsKnownText, IsKnownType, IsKnownOperation, IsKnownDebug}
 use Rattle.dexdebug.proofs.DebugMeanings as debugs_remapped
 use Rattle.dexdebug.proofs.MeaningDebug.{debug_known, debug_means, debug_encoded}
 
@@ -60,9 +57,8 @@ module _ (m : Mentions) (ranks : RanksAreNumbers m) where
 
   pub debug_back : (d : NumberedDebug) → IsKnownDebug m d → ranked_debug m (debug_in m d) ≡ d
   debug_back d h =
-      let names = all_back (option_map (text_at m)) (option_map (text_rank m)) (IsKnownText m) text_back d.parameter_names h.names_known in
       let operations = all_back (operation_in m) (ranked_operation m) (IsKnownOperation m) operation_back d.operations h.operations_known in
-      λ i. record { line_start = d.line_start; parameter_names = names i; operations = operations i }
+      λ i. record { line_start = d.line_start; parameter_names = (all_back (option_map (text_at m)) (option_map (text_rank m)) (IsKnownText m) text_back d.parameter_names h.names_known) i; operations = operations i }
 
 -- ---- other numbers
 

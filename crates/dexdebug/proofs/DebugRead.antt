@@ -1,9 +1,5 @@
 -- Numbers and operations that are read.
-use Rattle.dexdebug.proofs.Common.{◌≡◌, ℕ, ◌≤◌, List, Option, Some, refl, ap, sym, subst, ◌∙◌, ℤ, pos, Result, Ok, le-ltb, Uleb128At}
-use Rattle.dexdebug.specs.declared.debug_operation.Operation.{Operation}
-use Rattle.dexdebug.specs.declared.debug_operation.Operation.TheVariants.{AdvancePc, AdvanceLine, StartLocal, StartLocalExtended, EndLocal, RestartLocal, SetPrologueEnd, SetEpilogueBegin, SetFile, Special}
-use Rattle.dexdebug.specs.declared.debug_reading.Counts.{Counts}
-use Rattle.dexdebug.specs.{name_of, type_of, signature_of, IndexAt, LocalAt, ExtendedAt, OperandsAt, operation_of}
+use Rattle.dexdebug.proofs.Common.{◌≡◌, ℕ, ◌≤◌, List, Option, Some, refl, ap, sym, subst, ◌∙◌, ℤ, pos, Result, Ok, le-ltb, Uleb128At, Operation, AdvancePc, AdvanceLine, StartLocal, StartLocalExtended, EndLocal, RestartLocal, SetPrologueEnd, SetEpilogueBegin, SetFile, Special, Counts, name_of, type_of, signature_of, IndexAt, LocalAt, ExtendedAt, OperandsAt, operation_of}
 
 pub some_of : {A E : Type 0} (x y : A) → ◌≡◌ {A = Result A E} (Ok x) (Ok y) → Some x ≡ Some y
 some_of {A} {E} x y e = let same : x ≡ y = cc in ap Some same

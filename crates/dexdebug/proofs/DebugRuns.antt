@@ -1,12 +1,5 @@
 -- Names and operations that are read one after the other.
-use Rattle.dexdebug.proofs.Common.{◌≡◌, ℕ, ◌+◌, ◌-◌, ◌*◌, ◌<◌, ◌≤◌, List, [], ◌∷◌, ◌++◌, length, map, take, get_or, sum_by, Option, Some, None, refl, ap, sym, subst, ◌∙◌, arith, length-append, All, flat_map, flat_map-append, drop_more, append_assoc, append-nil, map-append, sum_by-append, All-nil, All-cons, All-append, IsSome, Item, Sequence, BytesAt, is_at, is_at_within, same_first, Uleb128At, operands}
-use Rattle.dexdebug.specs.declared.debug_operation.Operation.{Operation}
-use Rattle.dexdebug.specs.declared.debug_operation.Operation.TheVariants.{AdvancePc, AdvanceLine, StartLocal, StartLocalExtended, EndLocal, RestartLocal, SetPrologueEnd, SetEpilogueBegin, SetFile, Special}
-use Rattle.dexdebug.specs.declared.debug_reading.Counts.{Counts}
-use Rattle.dexdebug.specs.declared.debug_reading.Tally.{Tally}
-use Rattle.dexdebug.specs.declared.debug_reading.DebugShape.{DebugShape}
-use Rattle.dexdebug.specs.declared.indices.Index.{Index}
-use Rattle.dexdebug.specs.{NumberedDebug, FitsIndex, IsFormedOperation, IsFormedDebug, unindexed_operation, operation_weight, IndexAt, OperandsAt, NumberedAt, ProgramAt, NamesAt, NumberedDebugAt, EndNames, AreTallied, IsShape, HaveNames, AreTheNames, AreTheOperations, indices_of, text_index}
+use Rattle.dexdebug.proofs.Common.{nil_from_length, ◌≡◌, ℕ, ◌+◌, ◌-◌, ◌*◌, ◌<◌, ◌≤◌, List, [], ◌∷◌, ◌++◌, length, map, take, get_or, sum_by, Option, Some, None, refl, ap, sym, subst, ◌∙◌, arith, length-append, All, flat_map, flat_map-append, drop_more, append_assoc, append-nil, map-append, sum_by-append, All-nil, All-cons, All-append, IsSome, Item, Sequence, BytesAt, is_at, is_at_within, same_first, Uleb128At, operands, Operation, StartLocal, StartLocalExtended, SetFile, Special, Counts, Tally, DebugShape, Index, NumberedDebug, FitsIndex, IsFormedOperation, IsFormedDebug, unindexed_operation, operation_weight, IndexAt, OperandsAt, NumberedAt, ProgramAt, NamesAt, NumberedDebugAt, EndNames, AreTallied, IsShape, HaveNames, AreTheNames, AreTheOperations, indices_of, text_index}
 use Rattle.dexdebug.proofs.DebugRead.{some_parts}
 
 -- ---- one more
@@ -14,8 +7,7 @@ use Rattle.dexdebug.proofs.DebugRead.{some_parts}
 -- one item after others
 pub one_after : {X : Type 0} (At : Item X) (b : List ℕ) (o : ℕ) (xs : List X) (x : X) (n k : ℕ) → Sequence At b o xs n → At b (o + n) x k → Sequence At b o (xs ++ x ∷ []) (n + k)
 one_after At b o [] x n k h at = (k, 0, subst (λ (p : ℕ). At b p x k) (omega (arith, h)) at, refl, omega (arith, h))
-one_after At b o (y ∷ ys) x n k h at =
-    (h.0, h.1 + k, h.2, one_after At b (o + h.0) ys x h.1 k h.3 (subst (λ (p : ℕ). At b p x k) (omega (arith, h.4)) at), omega (arith, h.4))
+one_after At b o (y ∷ ys) x n k h at = (h.0, h.1 + k, h.2, one_after At b (o + h.0) ys x h.1 k h.3 (subst (λ (p : ℕ). At b p x k) (omega (arith, h.4)) at), omega (arith, h.4))
 
 -- the byte at a place
 pub byte_encoded : (b : List ℕ) (i : ℕ) → i < length b → BytesAt b i (get_or b i 0 ∷ [])
@@ -23,19 +15,13 @@ byte_encoded b i lt = record { here = ap (take 1) (drop_more b i 0 lt) }
 
 -- ---- forms
 
-index_formed : (count : ℕ) (b : List ℕ) (o : ℕ) (i : Option ℕ) (n : ℕ) → IndexAt count b o i n → FitsIndex i
+pub index_formed : (count : ℕ) (b : List ℕ) (o : ℕ) (i : Option ℕ) (n : ℕ) → IndexAt count b o i n → FitsIndex i
 index_formed count b o i n h = h.0.spelled.in_range
 
 -- numbers that are read have a spelling
 pub operands_formed : (m : Counts) (c : ℕ) (b : List ℕ) (o : ℕ) (op : Operation) (n : ℕ) → OperandsAt m c b o op n → IsFormedOperation op
-operands_formed m c b o (AdvancePc addresses) n h = record { name_fits = omega arith; type_fits = omega arith; signature_fits = omega arith; is_special = tt }
-operands_formed m c b o (AdvanceLine lines) n h = record { name_fits = omega arith; type_fits = omega arith; signature_fits = omega arith; is_special = tt }
-operands_formed m c b o (StartLocal register name typ) n h = record {
-  name_fits = index_formed m.texts b (o + h.1.register_size) name h.1.name_size h.1.at_name;
-  type_fits = index_formed m.types b (o + h.1.register_size + h.1.name_size) typ h.1.type_size h.1.at_type;
-  signature_fits = omega arith;
-  is_special = tt;
-}
+operands_formed m c b o (StartLocal register name typ) n h =
+    record { name_fits = index_formed m.texts b (o + h.1.register_size) name h.1.name_size h.1.at_name; type_fits = index_formed m.types b (o + h.1.register_size + h.1.name_size) typ h.1.type_size h.1.at_type; signature_fits = omega arith; is_special = tt }
 operands_formed m c b o (StartLocalExtended register name typ signature) n h =
     let l = h.1.at_local in record {
       name_fits = index_formed m.texts b (o + l.register_size) name l.name_size l.at_name;
@@ -43,12 +29,9 @@ operands_formed m c b o (StartLocalExtended register name typ signature) n h =
       signature_fits = index_formed m.texts b (o + h.1.local_size) signature h.1.signature_size h.1.at_signature;
       is_special = tt;
     }
-operands_formed m c b o (EndLocal register) n h = record { name_fits = omega arith; type_fits = omega arith; signature_fits = omega arith; is_special = tt }
-operands_formed m c b o (RestartLocal register) n h = record { name_fits = omega arith; type_fits = omega arith; signature_fits = omega arith; is_special = tt }
-operands_formed m c b o SetPrologueEnd n h = record { name_fits = omega arith; type_fits = omega arith; signature_fits = omega arith; is_special = tt }
-operands_formed m c b o SetEpilogueBegin n h = record { name_fits = omega arith; type_fits = omega arith; signature_fits = omega arith; is_special = tt }
 operands_formed m c b o (SetFile name) n h = record { name_fits = index_formed m.texts b o name n h.1; type_fits = omega arith; signature_fits = omega arith; is_special = tt }
 operands_formed m c b o (Special opcode) n h = record { name_fits = omega arith; type_fits = omega arith; signature_fits = omega arith; is_special = h.1 }
+operands_formed m c b o _ n h = record { name_fits = omega arith; type_fits = omega arith; signature_fits = omega arith; is_special = tt }
 
 pub formed_more : (ops : List Operation) (op : Operation) → All IsFormedOperation ops → IsFormedOperation op → All IsFormedOperation (ops ++ op ∷ [])
 formed_more ops op all is = All-append IsFormedOperation ops (op ∷ []) all (All-cons IsFormedOperation op [] is (All-nil IsFormedOperation))
@@ -56,31 +39,19 @@ formed_more ops op all is = All-append IsFormedOperation ops (op ∷ []) all (Al
 pub names_more : (names : List (Option ℕ)) (i : Option ℕ) → All FitsIndex names → FitsIndex i → All FitsIndex (names ++ i ∷ [])
 names_more names i all is = All-append FitsIndex names (i ∷ []) all (All-cons FitsIndex i [] is (All-nil FitsIndex))
 
-pub name_formed : (count : ℕ) (b : List ℕ) (o : ℕ) (i : Option ℕ) (n : ℕ) → IndexAt count b o i n → FitsIndex i
-name_formed = index_formed
-
 -- ---- operations
 
 -- a program that goes on at an offset goes on after the operation that is read there
 pub goes_on : (m : Counts) (b : List ℕ) (o c : ℕ) (r : Option (Operation × ℕ)) → BytesAt b o (c ∷ []) → 0 < c → ((op : Operation) (n : ℕ) → OperandsAt m c b (o + 1) op n → r ≡ Some (op, n))
     → (ops : List Operation) → ProgramAt m b o ops → (op : Operation) × (n : ℕ) × (rest : List Operation) × (r ≡ Some (op, n)) × ProgramAt m b (o + (1 + n)) rest
-goes_on m b o c r here some only [] p =
-    let zero_code = same_first c 0x00 [] [] here (is_at (omega (arith, p.operations)) p.end) in
-    absurd (omega (arith, some, zero_code))
+goes_on m b o c r here some only [] p = absurd (omega (arith, some, (same_first c 0x00 [] [] here (is_at (omega (arith, p.operations)) p.end))))
 goes_on m b o c r here some only (op ∷ ops) p =
-    let first = p.operations.2 in
-    let code : first.opcode ≡ c = same_first first.opcode c [] [] first.at_opcode here in
-    let operands : OperandsAt m c b (o + 1) op first.operands_size = subst (λ (k : ℕ). OperandsAt m k b (o + 1) op first.operands_size) code first.operands in
-    let following : o + p.operations.0 ≡ o + (1 + first.operands_size) = omega (arith, first.size) in (
+    let following : o + p.operations.0 ≡ o + (1 + p.operations.2.operands_size) = omega (arith, p.operations.2.size) in (
       op,
-      first.operands_size,
+      p.operations.2.operands_size,
       ops,
-      only op first.operands_size operands,
-      record {
-        size = p.operations.1;
-        operations = subst (λ (k : ℕ). Sequence (NumberedAt m) b k ops p.operations.1) following p.operations.3;
-        end = is_at (omega (arith, p.operations.4, following)) p.end;
-      },
+      only op p.operations.2.operands_size (subst (λ (k : ℕ). OperandsAt m k b (o + 1) op p.operations.2.operands_size) (same_first p.operations.2.opcode c [] [] p.operations.2.at_opcode here) p.operations.2.operands),
+      record { size = p.operations.1; operations = subst (λ (k : ℕ). Sequence (NumberedAt m) b k ops p.operations.1) following p.operations.3; end = is_at (omega (arith, p.operations.4, following)) p.end },
     )
 
 -- the opcode of an operation is not that of the end
@@ -98,10 +69,7 @@ operation_encoded m b o c op n here byte operands = record { opcode = c; operand
 pub names_go_on : (texts : ℕ) (b : List ℕ) (o count : ℕ) (r : Option (Option ℕ × ℕ)) → ((i : Option ℕ) (n : ℕ) → IndexAt texts b o i n → r ≡ Some (i, n)) → 0 < count
     → (names : List (Option ℕ)) (n : ℕ) → NamesAt texts b o count names n → (i : Option ℕ) × (k : ℕ) × (rest : List (Option ℕ)) × (j : ℕ) × (r ≡ Some (i, k)) × NamesAt texts b (o + k) (count - 1) rest j × (n ≡ k + j)
 names_go_on texts b o count r only some [] n p = let many = p.many in absurd (omega (arith, many, some))
-names_go_on texts b o count r only some (i ∷ names) n p =
-    let each = p.each in
-    let many = p.many in
-    (i, each.0, names, each.1, only i each.0 each.2, record { many = omega (arith, many); each = each.3 }, each.4)
+names_go_on texts b o count r only some (i ∷ names) n p = let each = p.each in (i, each.0, names, each.1, only i each.0 each.2, record { many = omega (arith, p.many); each = each.3 }, each.4)
 
 -- names that are read, up to a place
 pub record NamesSoFar (texts : ℕ) (b : List ℕ) (from count counter at : ℕ) (names : List (Option ℕ)) : Type 0 where
@@ -141,11 +109,7 @@ one_name_more texts b from count counter at names more i k h lt le here only e =
 -- where one of the names is not read, there are no such names
 pub no_name : (texts : ℕ) (b : List ℕ) (from count counter at : ℕ) (names : List (Option ℕ)) → NamesSoFar texts b from count counter at names → counter < count
     → ((j : Option ℕ) (n : ℕ) → IndexAt texts b at j n → ◌≡◌ {A = Option (Option ℕ × ℕ)} None (Some (j, n))) → (ys : List (Option ℕ)) (n : ℕ) → NamesAt texts b from count ys n → ⊥
-no_name texts b from count counter at names h lt only ys n p =
-    let g = h.others ys n p in
-    let on = names_go_on texts b at (count - counter) None only (omega arith) g.0 g.1 g.2 in
-    let wrong = on.4 in
-    cc
+no_name texts b from count counter at names h lt only ys n p = let g = h.others ys n p in let wrong = (names_go_on texts b at (count - counter) None only (omega arith) g.0 g.1 g.2).4 in cc
 
 -- operations that are read, up to a place
 pub record OperationsSoFar (m : Counts) (b : List ℕ) (from at : ℕ) (ops : List Operation) : Type 0 where
@@ -183,18 +147,13 @@ one_operation_more m b from at c ops more op k h le here some byte operands only
       others = λ xs p.
           let g = h.others xs p in
           let on = goes_on m b at c (Some (op, k)) here some only g.0 g.1 in
-          let same = (some_parts (op, k) (on.0, on.1) on.3).1 in
-          (on.2, subst (λ (q : ℕ). ProgramAt m b (at + (1 + q)) on.2) (sym same) on.4);
+          (on.2, subst (λ (q : ℕ). ProgramAt m b (at + (1 + q)) on.2) (sym ((some_parts (op, k) (on.0, on.1) on.3).1)) on.4);
     })
 
 -- where no operation is read, the program does not go on
 pub no_operation : (m : Counts) (b : List ℕ) (from at c : ℕ) (ops : List Operation) → OperationsSoFar m b from at ops → BytesAt b at (c ∷ []) → 0 < c
     → ((x : Operation) (n : ℕ) → OperandsAt m c b (at + 1) x n → ◌≡◌ {A = Option (Operation × ℕ)} None (Some (x, n))) → (xs : List Operation) → ProgramAt m b from xs → ⊥
-no_operation m b from at c ops h here some only xs p =
-    let g = h.others xs p in
-    let on = goes_on m b at c None here some only g.0 g.1 in
-    let wrong = on.3 in
-    cc
+no_operation m b from at c ops h here some only xs p = let g = h.others xs p in let wrong = (goes_on m b at c None here some only g.0 g.1).3 in cc
 
 -- a program does not end after the bytes
 pub no_end : (m : Counts) (b : List ℕ) (from at : ℕ) (ops : List Operation) → OperationsSoFar m b from at ops → length b ≤ at → (xs : List Operation) → ProgramAt m b from xs → ⊥
@@ -263,11 +222,7 @@ next_name texts b from count counter at names r h lt only = by_rest h.rest h.lef
         }
 
 pub all_names_built : (texts : ℕ) (b : List ℕ) (from count counter at : ℕ) (names : List (Option ℕ)) → NamesBuilt texts b from count counter at names → counter ≡ count → AreTheNames texts b from count names
-all_names_built texts b from count counter at names h e = by_rest h.rest h.left h.whole
-  where
-    by_rest : (rest : List (Option ℕ)) → counter + length rest ≡ count → AreTheNames texts b from count (names ++ rest) → AreTheNames texts b from count names
-    by_rest [] left whole = subst (AreTheNames texts b from count) (append-nil names) whole
-    by_rest (i ∷ rest) left whole = absurd (omega (arith, left, e))
+all_names_built texts b from count counter at names h e = subst (AreTheNames texts b from count) (ap (λ rest. names ++ rest) (nil_from_length h.rest (omega (arith, h.left, e))) ∙ append-nil names) h.whole
 
 -- operations that are built up to a place, and those ahead
 pub record OperationsBuilt (m : Counts) (b : List ℕ) (from : ℕ) (t : Tally) (counter at : ℕ) (ops : List Operation) : Type 0 where
@@ -297,10 +252,7 @@ opcode_some m b from t counter at ops h lt = by_rest h.rest h.left h.ahead
     by_rest : (rest : List Operation) → counter + length rest ≡ t.operations → ProgramAt m b at rest → 0 < get_or b at 0
     by_rest [] left p = absurd (omega (arith, left))
     by_rest (op ∷ rest) left p =
-        let first = p.operations.2 in
-        let code = same_first first.opcode (get_or b at 0) [] [] first.at_opcode (byte_encoded b at (opcode_within m b from t counter at ops h)) in
-        let some = code_some m b at op first.operands_size first.opcode first.operands in
-        omega (arith, code, some)
+        omega (arith, same_first p.operations.2.opcode (get_or b at 0) [] [] p.operations.2.at_opcode (byte_encoded b at (opcode_within m b from t counter at ops h)), code_some m b at op p.operations.2.operands_size p.operations.2.opcode p.operations.2.operands)
 
 pub next_operation : (m : Counts) (b : List ℕ) (from : ℕ) (t : Tally) (counter at : ℕ) (ops : List Operation) (r : Option (Operation × ℕ)) → OperationsBuilt m b from t counter at ops → counter < t.operations
     → ((op : Operation) (n : ℕ) → OperandsAt m (get_or b at 0) b (at + 1) op n → r ≡ Some (op, n)) → IsNextOperation m b from t counter at (get_or b at 0) ops r
@@ -312,30 +264,20 @@ next_operation m b from t counter at ops r h lt only = by_rest h.rest h.left h.a
     by_rest : (rest : List Operation) → counter + length rest ≡ t.operations → ProgramAt m b at rest → AreTheOperations m b from t (ops ++ rest) → IsNextOperation m b from t counter at c ops r
     by_rest [] left p whole = absurd (omega (arith, left))
     by_rest (op ∷ rest) left p whole =
-        let first = p.operations.2 in
-        let code : first.opcode ≡ c = same_first first.opcode c [] [] first.at_opcode (byte_encoded b at (opcode_within m b from t counter at ops h)) in
-        let is = only op first.operands_size (subst (λ (k : ℕ). OperandsAt m k b (at + 1) op first.operands_size) code first.operands) in record {
-          some = is_some r (op, first.operands_size) is;
+        let is = only op p.operations.2.operands_size (subst (λ (k : ℕ). OperandsAt m k b (at + 1) op p.operations.2.operands_size) (same_first p.operations.2.opcode c [] [] p.operations.2.at_opcode (byte_encoded b at (opcode_within m b from t counter at ops h))) p.operations.2.operands) in record {
+          some = is_some r (op, p.operations.2.operands_size) is;
           built = λ x more e f.
-              let same = some_parts (op, first.operands_size) x (sym is ∙ e) in
-              let following : at + p.operations.0 ≡ at + (1 + x.1) = omega (arith, first.size, same.1) in record {
+              let same = some_parts (op, p.operations.2.operands_size) x (sym is ∙ e) in
+              let following : at + p.operations.0 ≡ at + (1 + x.1) = omega (arith, p.operations.2.size, same.1) in record {
                 rest = rest;
                 left = omega (arith, left);
-                ahead = record {
-                  size = p.operations.1;
-                  operations = subst (λ (k : ℕ). Sequence (NumberedAt m) b k rest p.operations.1) following p.operations.3;
-                  end = is_at (omega (arith, p.operations.4, following)) p.end;
-                };
+                ahead = record { size = p.operations.1; operations = subst (λ (k : ℕ). Sequence (NumberedAt m) b k rest p.operations.1) following p.operations.3; end = is_at (omega (arith, p.operations.4, following)) p.end };
                 whole = subst (AreTheOperations m b from t) (sym (append_assoc ops (op ∷ []) rest) ∙ ap (λ y. ops ++ y ∷ [] ++ rest) same.0 ∙ ap (λ ys. ys ++ rest) (sym f)) whole;
               };
         }
 
 pub all_operations_built : (m : Counts) (b : List ℕ) (from : ℕ) (t : Tally) (counter at : ℕ) (ops : List Operation) → OperationsBuilt m b from t counter at ops → counter ≡ t.operations → AreTheOperations m b from t ops
-all_operations_built m b from t counter at ops h e = by_rest h.rest h.left h.whole
-  where
-    by_rest : (rest : List Operation) → counter + length rest ≡ t.operations → AreTheOperations m b from t (ops ++ rest) → AreTheOperations m b from t ops
-    by_rest [] left whole = subst (AreTheOperations m b from t) (append-nil ops) whole
-    by_rest (op ∷ rest) left whole = absurd (omega (arith, left, e))
+all_operations_built m b from t counter at ops h e = subst (AreTheOperations m b from t) (ap (λ rest. ops ++ rest) (nil_from_length h.rest (omega (arith, h.left, e))) ∙ append-nil ops) h.whole
 
 -- the numbers of the symbols of operations that are built up to a place, after others
 pub record SymbolsBuilt (m : Counts) (b : List ℕ) (from : ℕ) (t : Tally) (counter at : ℕ) (is js : List Index) : Type 0 where
@@ -394,31 +336,23 @@ no_names m b o start count h none d p = let g = after_heads m b o start count h 
 
 -- nor is there without operations
 pub no_operations : (m : Counts) (b : List ℕ) (o end : ℕ) (start count : ℕ × ℕ) → Heads b o start count → EndNames m.texts b (o + start.1 + count.1) count.0 end → ((ops : List Operation) → ProgramAt m b end ops → ⊥) → (d : NumberedDebug) → NumberedDebugAt m b o d → ⊥
-no_operations m b o end start count h are none d p =
-    let g = after_heads m b o start count h d p in
-    none d.operations (subst (λ (k : ℕ). ProgramAt m b k d.operations) (are.ends d.parameter_names g.0 g.1) g.2)
+no_operations m b o end start count h are none d p = let g = after_heads m b o start count h d p in none d.operations (subst (λ (k : ℕ). ProgramAt m b k d.operations) (are.ends d.parameter_names g.0 g.1) g.2)
 
 -- what is read of a shape is the debug program there
 pub built_at : (m : Counts) (b : List ℕ) (o : ℕ) (s : DebugShape) (names : List (Option ℕ)) (ops : List Operation) → IsShape m b o s → AreTheNames m.texts b s.names_at s.names names → AreTheOperations m b s.operations_at s.tally ops
     → NumberedDebugAt m b o (record { line_start = s.line_start; parameter_names = names; operations = ops })
 built_at m b o s names ops q n h =
-    let many = n.names_at.many in
     let end : s.operations_at ≡ o + q.start_size + q.count_size + n.size = omega (arith, q.at_names, q.names.ends names n.size n.names_at) in
     record {
       start_size = q.start_size;
       count_size = q.count_size;
       names_size = n.size;
       at_start = q.at_start;
-      at_count = subst (λ (k : ℕ). Uleb128At b (o + q.start_size) k q.count_size) (sym many) q.at_count;
-      at_names = subst (λ (p : ℕ). NamesAt m.texts b p (length names) names n.size) q.at_names (subst (λ (k : ℕ). NamesAt m.texts b s.names_at k names n.size) (sym many) n.names_at);
+      at_count = subst (λ (k : ℕ). Uleb128At b (o + q.start_size) k q.count_size) (sym n.names_at.many) q.at_count;
+      at_names = subst (λ (p : ℕ). NamesAt m.texts b p (length names) names n.size) q.at_names (subst (λ (k : ℕ). NamesAt m.texts b s.names_at k names n.size) (sym n.names_at.many) n.names_at);
       program = subst (λ (p : ℕ). ProgramAt m b p ops) end h.program;
     }
 
 pub built_formed : (m : Counts) (b : List ℕ) (o : ℕ) (s : DebugShape) (names : List (Option ℕ)) (ops : List Operation) → IsShape m b o s → AreTheNames m.texts b s.names_at s.names names → AreTheOperations m b s.operations_at s.tally ops
     → IsFormedDebug (record { line_start = s.line_start; parameter_names = names; operations = ops })
-built_formed m b o s names ops q n h = record {
-  names_count = omega (arith, n.names_at.many, q.few);
-  names_fit = n.fit;
-  operations_count = omega (arith, h.many, q.operations.few, q.operations.count);
-  operations_fit = h.formed;
-}
+built_formed m b o s names ops q n h = record { names_count = omega (arith, n.names_at.many, q.few); names_fit = n.fit; operations_count = omega (arith, h.many, q.operations.few, q.operations.count); operations_fit = h.formed }

@@ -1,9 +1,6 @@
 -- Debug programs that are the same once remapped by two maps.
-use Rattle.dexdebug.proofs.Common.{◌≡◌, ℕ, ◌<◌, ◌≤◌, List, length, take, map, get_or, Option, refl, ap, sym, ◌∙◌, take_all, get_or-map, Maps}
+use Rattle.dexdebug.proofs.Common.{◌≡◌, ℕ, ◌<◌, ◌≤◌, List, length, take, map, get_or, Option, refl, ap, sym, ◌∙◌, take_all, get_or-map, Maps, Operation, AdvancePc, image_or_none, name_of, type_of, signature_of, with_numbers, renumbered_operation, unindexed_of}
 use Rattle.dexpool.specs.declared.symbols.SymbolKind.TheVariants as kinds
-use Rattle.dexdebug.specs.declared.debug_operation.Operation.{Operation}
-use Rattle.dexdebug.specs.declared.debug_operation.Operation.TheVariants.{AdvancePc, AdvanceLine, StartLocal, StartLocalExtended, EndLocal, RestartLocal, SetPrologueEnd, SetEpilogueBegin, SetFile, Special}
-use Rattle.dexdebug.specs.{image_or_none, name_of, type_of, signature_of, with_numbers, renumbered_operation, unindexed_of}
 
 -- ---- lists that are the same, mapped
 
@@ -58,6 +55,5 @@ module _ (r q : Maps) (x y : Operation) (e : renumbered_operation r x ≡ renumb
 pub same_parts : (r q : Maps) (x y : Operation) → unindexed_of x ≡ unindexed_of y → image_or_none r kinds.Text (name_of x) ≡ image_or_none q kinds.Text (name_of y) → image_or_none r kinds.Typ (type_of x) ≡ image_or_none q kinds.Typ (type_of y)
     → image_or_none r kinds.Text (signature_of x) ≡ image_or_none q kinds.Text (signature_of y) → renumbered_operation r x ≡ renumbered_operation q y
 same_parts r q x y unindexed name typ signature =
-    sym (with_unindexed x (image_or_none r kinds.Text (name_of x)) (image_or_none r kinds.Typ (type_of x)) (image_or_none r kinds.Text (signature_of x)))
-    ∙ (λ i. with_numbers (unindexed i) (name i) (typ i) (signature i))
+    sym (with_unindexed x (image_or_none r kinds.Text (name_of x)) (image_or_none r kinds.Typ (type_of x)) (image_or_none r kinds.Text (signature_of x))) ∙ (λ i. with_numbers (unindexed i) (name i) (typ i) (signature i))
     ∙ with_unindexed y (image_or_none q kinds.Text (name_of y)) (image_or_none q kinds.Typ (type_of y)) (image_or_none q kinds.Text (signature_of y))

@@ -1,17 +1,12 @@
 -- The symbols of a debug program, part by part, and what becomes of their numbers.
-use Rattle.dexdebug.proofs.Common.{◌≡◌, ℕ, ◌+◌, ◌<◌, ◌^◌, List, [], ◌∷◌, ◌++◌, map, Option, Some, None, refl, sym, subst, arith, length-map, All, flat_map, All-nil, All-cons, All-head, All-tail, Maps, image_of, Use, all_prefix, all_back, all_parts, all_map}
+use Rattle.dexdebug.proofs.Common.{◌≡◌, ℕ, ◌+◌, ◌<◌, ◌^◌, List, [], ◌∷◌, ◌++◌, map, Option, Some, None, refl, sym, subst, arith, length-map, All, flat_map, All-nil, All-cons, All-head, All-tail, Maps, image_of, Use, all_prefix, all_back, all_parts, all_map, Operation, StartLocal, StartLocalExtended, SetFile, NumberedDebug, HasPlace, FitsIndex, IsFormedOperation, IsFormedDebug, IsSpecial, number_uses, operation_uses, debug_uses, image_or_none, name_of, type_of, signature_of, with_numbers, renumbered_operation, renumbered_debug}
 use Rattle.dexpool.specs.declared.symbols.SymbolKind.{SymbolKind}
 use Rattle.dexpool.specs.declared.symbols.SymbolKind.TheVariants as kinds
-use Rattle.dexdebug.specs.declared.debug_operation.Operation.{Operation}
-use Rattle.dexdebug.specs.declared.debug_operation.Operation.TheVariants.{AdvancePc, AdvanceLine, StartLocal, StartLocalExtended, EndLocal, RestartLocal, SetPrologueEnd, SetEpilogueBegin, SetFile, Special}
-use Rattle.dexdebug.specs.{NumberedDebug, HasPlace, FitsIndex, IsFormedOperation, IsFormedDebug, IsSpecial, number_uses, operation_uses, debug_uses, image_or_none, name_of, type_of, signature_of, with_numbers, renumbered_operation, renumbered_debug}
 
 -- what holds of the symbol of a number, if there is one
 pub use_of : (P : Use → Type 0) (kind : SymbolKind) (i : Option ℕ) (n : ℕ) → All P (number_uses kind i) → i ≡ Some n → P (record { kind = kind; number = n })
 use_of P kind None n all e = absurd cc
-use_of P kind (Some k) n all e =
-    let same : k ≡ n = cc in
-    subst (λ (j : ℕ). P (record { kind = kind; number = j })) same (All-head P (record { kind = kind; number = k }) [] all)
+use_of P kind (Some k) n all e = let same : k ≡ n = cc in subst (λ (j : ℕ). P (record { kind = kind; number = j })) same (All-head P (record { kind = kind; number = k }) [] all)
 
 -- the three parts of an operation's symbols
 module _ (P : Use → Type 0) (op : Operation) (h : All P (operation_uses op)) where
@@ -31,16 +26,11 @@ module _ (P : Use → Type 0) (op : Operation) (h : All P (operation_uses op)) w
 
 -- the image of a number is small
 pub place_fits : (r : Maps) (kind : SymbolKind) (i : Option ℕ) (n j : ℕ) → All (HasPlace r) (number_uses kind i) → i ≡ Some n → image_of r kind n ≡ Some j → j + 1 < 2 ^ 32
-place_fits r kind i n j all e image =
-    let place = use_of (HasPlace r) kind i n all e in
-    let same : place.0 ≡ j = cc (place.1, image) in
-    omega (arith, place.2, same)
+place_fits r kind i n j all e image = let place = use_of (HasPlace r) kind i n all e in let same : place.0 ≡ j = cc (place.1, image) in omega (arith, place.2, same)
 
 image_fits : (r : Maps) (kind : SymbolKind) (i : Option ℕ) → All (HasPlace r) (number_uses kind i) → FitsIndex (image_or_none r kind i)
 image_fits r kind None all = omega arith
-image_fits r kind (Some n) all =
-    let place = use_of (HasPlace r) kind (Some n) n all refl in
-    subst FitsIndex (sym place.1) place.2
+image_fits r kind (Some n) all = let place = use_of (HasPlace r) kind (Some n) n all refl in subst FitsIndex (sym place.1) place.2
 
 formed_with : (op : Operation) (s t u : Option ℕ) → IsSpecial op → FitsIndex s → FitsIndex t → FitsIndex u → IsFormedOperation (with_numbers op s t u)
 formed_with (StartLocal register name typ) s t u special hs ht hu = record { name_fits = hs; type_fits = ht; signature_fits = omega arith; is_special = special }
@@ -66,10 +56,9 @@ operations_formed r (op ∷ ops) all are =
 pub debug_formed : (r : Maps) (d : NumberedDebug) → All (HasPlace r) (debug_uses d) → IsFormedDebug d → IsFormedDebug (renumbered_debug r d)
 debug_formed r d all is =
     let names = all_prefix (HasPlace r) (flat_map (number_uses kinds.Text) d.parameter_names) (flat_map operation_uses d.operations) all in
-    let operations = all_back (HasPlace r) (flat_map (number_uses kinds.Text) d.parameter_names) (flat_map operation_uses d.operations) all in
     record {
       names_count = simp length-map is.names_count;
       names_fit = all_map (λ i. All (HasPlace r) (number_uses kinds.Text i)) FitsIndex (image_or_none r kinds.Text) d.parameter_names (image_fits r kinds.Text) (all_parts (HasPlace r) (number_uses kinds.Text) d.parameter_names names);
       operations_count = simp length-map is.operations_count;
-      operations_fit = operations_formed r d.operations operations is.operations_fit;
+      operations_fit = operations_formed r d.operations (all_back (HasPlace r) (flat_map (number_uses kinds.Text) d.parameter_names) (flat_map operation_uses d.operations) all) is.operations_fit;
     }

@@ -1,6 +1,5 @@
 -- The parts of a debug program, written one after the other.
-use Rattle.dexdebug.proofs.Common.{◌≡◌, ℕ, List, [], ◌∷◌, ◌++◌, length, ap, ◌∙◌, append_assoc, flat_map, uleb128, uleb128p1}
-use Rattle.dexdebug.specs.{NumberedDebug, numbered_operation_bytes, numbered_debug_bytes}
+use Rattle.dexdebug.proofs.Common.{◌≡◌, ℕ, List, [], ◌∷◌, ◌++◌, length, ap, ◌∙◌, append_assoc, flat_map, uleb128, uleb128p1, NumberedDebug, numbered_operation_bytes, numbered_debug_bytes}
 
 pub regrouped : (r n t s : List ℕ) → (r ++ (n ++ t)) ++ s ≡ r ++ (n ++ (t ++ s))
 regrouped r n t s = append_assoc r (n ++ t) s ∙ ap (λ bs. r ++ bs) (append_assoc n t s)

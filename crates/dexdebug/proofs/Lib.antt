@@ -7,7 +7,6 @@ pub mod DebugRead
 pub mod DebugRuns
 pub mod DebugSame
 pub mod DebugUses
-pub mod DebugWeights
 pub mod Encoded
 pub mod MeaningDebug
 pub mod DebugRanked

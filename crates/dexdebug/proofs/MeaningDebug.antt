@@ -1,10 +1,7 @@
 -- What numbered debug programs mean, as a function.
-use Rattle.dexdebug.proofs.Common.{◌≡◌, ℕ, ◌<◌, List, [], ◌∷◌, length, map, get_or, Option, Some, None, refl, ap, sym, IfSome, All, AllZip, option_map, get_or_default, All-nil, All-cons, All-head, All-tail, BothOrNone, Text, Mentions, IsAt}
+use Rattle.dexdebug.proofs.Common.{◌≡◌, ℕ, ◌<◌, List, [], ◌∷◌, length, map, get_or, Option, Some, None, refl, ap, sym, IfSome, All, AllZip, option_map, get_or_default, All-nil, All-cons, All-head, All-tail, BothOrNone, Text, Mentions, IsAt, Operation, AdvancePc, AdvanceLine, StartLocal, StartLocalExtended, EndLocal, RestartLocal, SetPrologueEnd, SetEpilogueBegin, SetFile, Special, NumberedDebug, DenotesText, DenotesType, DenotesOperation, DenotesDebug, text_at, type_at, debug_in, IsKnownText, IsKnownType, IsKnownOperation, IsKnownDebug}
+use Rattle.dexdebug.specs.Meaning.{operation_in}
 use Rattle.dexspec.specs.Debug as symbolic
-use Rattle.dexdebug.specs.declared.debug_operation.Operation.{Operation}
-use Rattle.dexdebug.specs.declared.debug_operation.Operation.TheVariants.{AdvancePc, AdvanceLine, StartLocal, StartLocalExtended, EndLocal, RestartLocal, SetPrologueEnd, SetEpilogueBegin, SetFile, Special}
-use Rattle.dexdebug.specs.{NumberedDebug, DenotesText, DenotesType, DenotesOperation, DenotesDebug}
-use Rattle.dexdebug.specs.Meaning.{text_at, type_at, operation_in, debug_in, IsKnownText, IsKnownType, IsKnownOperation, IsKnownDebug}
 
 -- ---- a relation that is a function on what is known
 
@@ -106,10 +103,8 @@ module _ (m : Mentions) where
 
   pub debug_means : (d : NumberedDebug) (x : symbolic.Debug) → DenotesDebug m d x → x ≡ debug_in m d
   debug_means d x h =
-      let start : x.line_start ≡ d.line_start = sym h.start_is in
-      let names = all_mean (DenotesText m) (IsKnownText m) (option_map (text_at m)) text_means d.parameter_names x.parameter_names h.names_are in
       let operations = all_mean (DenotesOperation m) (IsKnownOperation m) (operation_in m) operation_means d.operations x.operations h.operations_are in
-      λ i. record { line_start = start i; parameter_names = names i; operations = operations i }
+      λ i. record { line_start = (sym h.start_is) i; parameter_names = (all_mean (DenotesText m) (IsKnownText m) (option_map (text_at m)) text_means d.parameter_names x.parameter_names h.names_are) i; operations = operations i }
 
   pub debug_encoded : (d : NumberedDebug) → IsKnownDebug m d → DenotesDebug m d (debug_in m d)
   debug_encoded d h = record {

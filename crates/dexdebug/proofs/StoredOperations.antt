@@ -1,12 +1,6 @@
 -- Operations as they are stored: the bytes and the numbers give back the operations.
-use Rattle.dexdebug.proofs.Common.{◌≡◌, ℕ, zero, suc, ◌+◌, ◌-◌, ◌<◌, ◌≤◌, List, [], ◌∷◌, ◌++◌, length, take, drop, map, get_or, Option, Some, None, refl, ap, sym, subst, ◌∙◌, arith, length-append, IsSome, flat_map, lt-ltb, le-ltb, length-take-le, length-map, take_at, drop_at, map-append, append-nil, flat_map-append, Sequence, IsChain, Uleb128At, sum_of_groups, signed_sum, operands, is_at_within, same_first, Maps}
+use Rattle.dexdebug.proofs.Common.{◌≡◌, ℕ, zero, suc, ◌+◌, ◌-◌, ◌<◌, ◌≤◌, List, [], ◌∷◌, ◌++◌, length, take, drop, map, get_or, Option, Some, None, refl, ap, sym, subst, ◌∙◌, arith, length-append, IsSome, flat_map, lt-ltb, le-ltb, length-take-le, length-map, take_at, drop_at, map-append, append-nil, flat_map-append, Sequence, IsChain, Uleb128At, sum_of_groups, signed_sum, operands, is_at_within, same_first, Maps, Operation, AdvancePc, AdvanceLine, StartLocal, StartLocalExtended, EndLocal, RestartLocal, SetPrologueEnd, SetEpilogueBegin, SetFile, Special, Counts, Tally, Index, number_uses, operation_uses, debug_uses, renumbered_operation, renumbered_debug, image_or_none, name_of, type_of, signature_of, unindexed_operation, with_numbers, IndexAt, LocalAt, OperandsAt, NumberedAt, AreTheOperations, KeepsNames, KeepsSymbols, every, indices_of, text_index, chain_of, chain_at, after_numbers, after_operation, operation_of, number_in, operation_in, operations_in, unindexed_of, IsStoredAt, AreStored, IsStored, numbers_in, stored_debug, renumbered_index}
 use Rattle.dexpool.specs.declared.symbols.SymbolKind.TheVariants as kinds
-use Rattle.dexdebug.specs.declared.debug_operation.Operation.{Operation}
-use Rattle.dexdebug.specs.declared.debug_operation.Operation.TheVariants.{AdvancePc, AdvanceLine, StartLocal, StartLocalExtended, EndLocal, RestartLocal, SetPrologueEnd, SetEpilogueBegin, SetFile, Special}
-use Rattle.dexdebug.specs.declared.debug_reading.Counts.{Counts}
-use Rattle.dexdebug.specs.declared.debug_reading.Tally.{Tally}
-use Rattle.dexdebug.specs.declared.indices.Index.{Index}
-use Rattle.dexdebug.specs.{number_uses, operation_uses, debug_uses, renumbered_operation, renumbered_debug, image_or_none, name_of, type_of, signature_of, unindexed_operation, with_numbers, IndexAt, LocalAt, OperandsAt, NumberedAt, AreTheOperations, KeepsNames, KeepsSymbols, every, indices_of, text_index, chain_of, chain_at, after_numbers, after_operation, operation_of, number_in, operation_in, operations_in, unindexed_of, IsStoredAt, AreStored, IsStored, numbers_in, stored_debug, renumbered_index}
 use Rattle.dexdebug.proofs.DebugRuns.{byte_encoded, code_some}
 use Rattle.dexdebug.proofs.DebugSame.{unindexed_with, with_unindexed}
 
@@ -38,10 +32,8 @@ skips_index texts b o i n count h = skips b o n h.0.within h.0.spelled.chain cou
 skips_local : (m : Counts) (b : List ℕ) (o register : ℕ) (name typ : Option ℕ) (n count : ℕ) → LocalAt m b o register name typ n → after_numbers b o (suc (suc (suc count))) ≡ after_numbers b (o + n) count
 skips_local m b o register name typ n count h =
     let place : o + h.register_size + h.name_size + h.type_size ≡ o + n = omega (arith, h.size) in
-    skips_number b o register h.register_size (suc (suc count)) h.at_register
-    ∙ skips_index m.texts b (o + h.register_size) name h.name_size (suc count) h.at_name
-    ∙ skips_index m.types b (o + h.register_size + h.name_size) typ h.type_size count h.at_type
-    ∙ ap (λ (k : ℕ). after_numbers b k count) place
+    skips_number b o register h.register_size (suc (suc count)) h.at_register ∙ skips_index m.texts b (o + h.register_size) name h.name_size (suc count) h.at_name
+    ∙ skips_index m.types b (o + h.register_size + h.name_size) typ h.type_size count h.at_type ∙ ap (λ (k : ℕ). after_numbers b k count) place
 
 -- the offset after operands
 skips_operands : (m : Counts) (c : ℕ) (b : List ℕ) (o : ℕ) (op : Operation) (n : ℕ) → OperandsAt m c b o op n → after_numbers b o (operands (unindexed_operation op)) ≡ o + n
@@ -107,19 +99,14 @@ module _ (x y : Operation) (same : unindexed_of x ≡ unindexed_of y) where
   with_own : (is : List Index) → with_numbers x (number_in (indices_of y ++ is) 0) (number_in (indices_of y ++ is) 1) (number_in (indices_of y ++ is) 2) ≡ y
   with_own is =
       let s = number_in (indices_of y ++ is) 0 in
-      let t = number_in (indices_of y ++ is) 1 in
-      let u = number_in (indices_of y ++ is) 2 in
-      sym (with_unindexed x s t u) ∙ ap (λ op. with_numbers op s t u) same ∙ with_unindexed y s t u ∙ own_numbers y is
+      let t = number_in (indices_of y ++ is) 1 in let u = number_in (indices_of y ++ is) 2 in sym (with_unindexed x s t u) ∙ ap (λ op. with_numbers op s t u) same ∙ with_unindexed y s t u ∙ own_numbers y is
 
 code_at : (m : Counts) (b : List ℕ) (o : ℕ) (op : Operation) (n : ℕ) (h : NumberedAt m b o op n) → (o < length b) × (get_or b o 0 ≡ h.opcode)
-code_at m b o op n h =
-    let within : o < length b = omega (arith, is_at_within h.at_opcode) in
-    (within, sym (same_first h.opcode (get_or b o 0) [] [] h.at_opcode (byte_encoded b o within)))
+code_at m b o op n h = let within : o < length b = omega (arith, is_at_within h.at_opcode) in (within, sym (same_first h.opcode (get_or b o 0) [] [] h.at_opcode (byte_encoded b o within)))
 
 module _ (b : List ℕ) (o : ℕ) (op : Operation) (n : ℕ) (s : IsStoredAt b o op n) where
   operation_stored : (is : List Index) → operation_in b o (indices_of op ++ is) ≡ op
-  operation_stored is =
-      operation_is b o (indices_of op ++ is) every s.at.opcode s.encoded s.at.operands_size (code_at every b o s.encoded n s.at).1 s.at.operands ∙ with_own s.encoded op s.same is
+  operation_stored is = operation_is b o (indices_of op ++ is) every s.at.opcode s.encoded s.at.operands_size (code_at every b o s.encoded n s.at).1 s.at.operands ∙ with_own s.encoded op s.same is
 
   after_stored : after_operation b o op ≡ o + n
   after_stored =
@@ -134,15 +121,11 @@ stored_view b o (op ∷ ops) n h =
     let is = flat_map indices_of ops in
     ap (λ x. x ∷ operations_in (length ops) b (after_operation b o x) (drop (length (indices_of x)) (indices_of op ++ is))) (operation_stored b o op h.0 h.2 is)
     ∙ ap (λ (p : ℕ). op ∷ operations_in (length ops) b p (drop (length (indices_of op)) (indices_of op ++ is))) (after_stored b o op h.0 h.2)
-    ∙ ap (λ js. op ∷ operations_in (length ops) b (o + h.0) js) (drop_at (indices_of op) is (length (indices_of op)) refl)
-    ∙ ap (λ xs. op ∷ xs) (stored_view b (o + h.0) ops h.1 h.3)
+    ∙ ap (λ js. op ∷ operations_in (length ops) b (o + h.0) js) (drop_at (indices_of op) is (length (indices_of op)) refl) ∙ ap (λ xs. op ∷ xs) (stored_view b (o + h.0) ops h.1 h.3)
 
 -- what is stored is the operations
 pub view_is : (count : ℕ) (b : List ℕ) (o : ℕ) (is : List Index) (s : AreStored count b o is) → operations_in count b o is ≡ s.operations
 view_is count b o is s = ap (λ (k : ℕ). operations_in k b o is) (sym s.many) ∙ ap (operations_in (length s.operations) b o) s.indices_are ∙ stored_view b o s.operations s.size s.each
-
-view_many : (count : ℕ) (b : List ℕ) (o : ℕ) (is : List Index) → AreStored count b o is → length (operations_in count b o is) ≡ count
-view_many count b o is s = ap length (view_is count b o is s) ∙ s.many
 
 -- ---- the first
 
@@ -157,22 +140,20 @@ pub record IsFirst (count : ℕ) (b : List ℕ) (o : ℕ) (is : List Index) (r :
   pub follows : (x : Operation × ℕ) → r ≡ Some x → Follows count b o is x
 
 module _ (count : ℕ) (b : List ℕ) (o : ℕ) (is : List Index) (s : AreStored count b o is) (some : 0 < count) where
-  -- there is an opcode
-  pub stored_within : o < length b
-  stored_within = by_all s.operations s.many s.each
+  first_code : (o < length b) × (0 < get_or b o 0)
+  first_code = by_all s.operations s.many s.each
     where
-      by_all : (ops : List Operation) → length ops ≡ count → Sequence IsStoredAt b o ops s.size → o < length b
-      by_all [] many each = absurd (omega (arith, many))
-      by_all (op ∷ ops) many each = (code_at every b o each.2.encoded each.0 each.2.at).0
-
-  pub stored_code : 0 < get_or b o 0
-  stored_code = by_all s.operations s.many s.each
-    where
-      by_all : (ops : List Operation) → length ops ≡ count → Sequence IsStoredAt b o ops s.size → 0 < get_or b o 0
+      by_all : (ops : List Operation) → length ops ≡ count → Sequence IsStoredAt b o ops s.size → (o < length b) × (0 < get_or b o 0)
       by_all [] many each = absurd (omega (arith, many))
       by_all (op ∷ ops) many each =
-          let at = each.2.at in
-          omega (arith, (code_at every b o each.2.encoded each.0 at).1, code_some every b o each.2.encoded at.operands_size at.opcode at.operands)
+          let at = each.2.at in let code = code_at every b o each.2.encoded each.0 at in (code.0, omega (arith, code.1, code_some every b o each.2.encoded at.operands_size at.opcode at.operands))
+
+  -- there is an opcode
+  pub stored_within : o < length b
+  stored_within = first_code.0
+
+  pub stored_code : 0 < get_or b o 0
+  stored_code = first_code.1
 
   pub first_stored : (r : Option (Operation × ℕ)) → ((op : Operation) (n : ℕ) → OperandsAt every (get_or b o 0) b (o + 1) op n → r ≡ Some (op, n)) → IsFirst count b o is r
   first_stored r only = by_all s.operations s.many s.each s.indices_are (view_is count b o is s)
@@ -180,29 +161,25 @@ module _ (count : ℕ) (b : List ℕ) (o : ℕ) (is : List Index) (s : AreStored
       by_all : (ops : List Operation) → length ops ≡ count → Sequence IsStoredAt b o ops s.size → is ≡ flat_map indices_of ops → operations_in count b o is ≡ ops → IsFirst count b o is r
       by_all [] many each are view = absurd (omega (arith, many))
       by_all (op ∷ ops) many each are view =
-          let first = each.2 in
-          let file = first.encoded in
-          let at = first.at in
+          let file = each.2.encoded in
           let is' = flat_map indices_of ops in
-          let places = same_places file op first.same in
-          let read : r ≡ Some (file, at.operands_size) = only file at.operands_size (subst (λ (c : ℕ). OperandsAt every c b (o + 1) file at.operands_size) (sym (code_at every b o file each.0 at).1) at.operands) in
+          let places = same_places file op each.2.same in
+          let read : r ≡ Some (file, each.2.at.operands_size) = only file each.2.at.operands_size (subst (λ (c : ℕ). OperandsAt every c b (o + 1) file each.2.at.operands_size) (sym (code_at every b o file each.0 each.2.at).1) each.2.at.operands) in
           let left : drop (length (indices_of file)) is ≡ is' = ap (λ (k : ℕ). drop k is) places ∙ ap (drop (length (indices_of op))) are ∙ drop_at (indices_of op) is' (length (indices_of op)) refl in
-          let rest : AreStored (count - 1) b (o + (1 + at.operands_size)) (drop (length (indices_of file)) is) = record {
+          let rest : AreStored (count - 1) b (o + (1 + each.2.at.operands_size)) (drop (length (indices_of file)) is) = record {
             operations = ops;
             size = each.1;
             many = omega (arith, many);
-            each = subst (λ (p : ℕ). Sequence IsStoredAt b p ops each.1) (ap (λ (k : ℕ). o + k) at.size) each.3;
+            each = subst (λ (p : ℕ). Sequence IsStoredAt b p ops each.1) (ap (λ (k : ℕ). o + k) each.2.at.size) each.3;
             indices_are = left;
           } in
-          let own : with_numbers file (number_in is 0) (number_in is 1) (number_in is 2) ≡ op = subst (λ js. with_numbers file (number_in js 0) (number_in js 1) (number_in js 2) ≡ op) (sym are) (with_own file op first.same is') in
-          let others : operations_in (count - 1) b (o + (1 + at.operands_size)) (drop (length (indices_of file)) is) ≡ ops = view_is (count - 1) b (o + (1 + at.operands_size)) (drop (length (indices_of file)) is) rest in
-          let follows : Follows count b o is (file, at.operands_size) = record {
+          let follows : Follows count b o is (file, each.2.at.operands_size) = record {
             places = omega (arith, places, ap length are, length-append (indices_of op) is');
             rest = rest;
-            view = view ∙ sym (λ i. own i ∷ others i);
+            view = view ∙ sym (λ i. (subst (λ js. with_numbers file (number_in js 0) (number_in js 1) (number_in js 2) ≡ op) (sym are) (with_own file op each.2.same is')) i ∷ (view_is (count - 1) b (o + (1 + each.2.at.operands_size)) (drop (length (indices_of file)) is) rest) i);
           } in record {
             some = rw read refl;
-            follows = λ x e. let same : (file, at.operands_size) ≡ x = cc in subst (Follows count b o is) same follows;
+            follows = λ x e. let same : (file, each.2.at.operands_size) ≡ x = cc in subst (Follows count b o is) same follows;
           }
 
 -- ---- special opcodes
@@ -213,9 +190,7 @@ only_special m c b o (Special opcode) n high h = λ i. Some (Special (h.0 i), sy
 only_special m c b o _ n high h = absurd (omega (arith, high, h.0))
 
 pub special_follows : (count : ℕ) (b : List ℕ) (o : ℕ) (is : List Index) → AreStored count b o is → 0 < count → 0x0a ≤ get_or b o 0 → Follows count b o is (Special (get_or b o 0), 0)
-special_follows count b o is s some high =
-    let c = get_or b o 0 in
-    (first_stored count b o is s some (Some (Special c, 0)) (λ op n h. only_special every c b (o + 1) op n high h)).follows (Special c, 0) refl
+special_follows count b o is s some high = let c = get_or b o 0 in (first_stored count b o is s some (Some (Special c, 0)) (λ op n h. only_special every c b (o + 1) op n high h)).follows (Special c, 0) refl
 
 -- ---- operations that are read
 
@@ -239,13 +214,7 @@ any_operands : (m : Counts) (c : ℕ) (b : List ℕ) (o : ℕ) (op : Operation) 
 any_operands m c b o (StartLocal register name typ) n h = (h.0, any_local m b o register name typ n h.1)
 any_operands m c b o (StartLocalExtended register name typ signature) n h = (
   h.0,
-  record {
-    local_size = h.1.local_size;
-    signature_size = h.1.signature_size;
-    at_local = any_local m b o register name typ h.1.local_size h.1.at_local;
-    at_signature = any_index m.texts b (o + h.1.local_size) signature h.1.signature_size h.1.at_signature;
-    size = h.1.size;
-  },
+  record { local_size = h.1.local_size; signature_size = h.1.signature_size; at_local = any_local m b o register name typ h.1.local_size h.1.at_local; at_signature = any_index m.texts b (o + h.1.local_size) signature h.1.signature_size h.1.at_signature; size = h.1.size },
 )
 any_operands m c b o (SetFile name) n h = (h.0, any_index m.texts b o name n h.1)
 any_operands m c b o _ n h = h
@@ -256,11 +225,7 @@ read_stored m b o (op ∷ ops) n h =
     let at = h.2 in (
       h.0,
       h.1,
-      record {
-        encoded = op;
-        at = record { opcode = at.opcode; operands_size = at.operands_size; at_opcode = at.at_opcode; byte = at.byte; operands = any_operands m at.opcode b (o + 1) op at.operands_size at.operands; size = at.size };
-        same = refl;
-      },
+      record { encoded = op; at = record { opcode = at.opcode; operands_size = at.operands_size; at_opcode = at.at_opcode; byte = at.byte; operands = any_operands m at.opcode b (o + 1) op at.operands_size at.operands; size = at.size }; same = refl },
       read_stored m b (o + h.0) ops h.1 h.3,
       h.4,
     )
@@ -295,9 +260,7 @@ module _ (r : Maps) where
 
   remapped_each : (b : List ℕ) (o : ℕ) (ops : List Operation) (n : ℕ) → Sequence IsStoredAt b o ops n → Sequence IsStoredAt b o (map (renumbered_operation r) ops) n
   remapped_each b o [] n h = h
-  remapped_each b o (op ∷ ops) n h =
-      let s = h.2 in
-      (h.0, h.1, record { encoded = s.encoded; at = s.at; same = s.same ∙ remapped_unindexed op }, remapped_each b (o + h.0) ops h.1 h.3, h.4)
+  remapped_each b o (op ∷ ops) n h = let s = h.2 in (h.0, h.1, record { encoded = s.encoded; at = s.at; same = s.same ∙ remapped_unindexed op }, remapped_each b (o + h.0) ops h.1 h.3, h.4)
 
   -- once renumbered, the numbers are stored as those of the renumbered operations
   remapped_stored : (count : ℕ) (b : List ℕ) (o : ℕ) (is js : List Index) → AreStored count b o is → js ≡ map (renumbered_index r) is → AreStored count b o js
@@ -338,9 +301,7 @@ module _ (names count : ℕ) (b : List ℕ) (o : ℕ) (is : List Index) (s : IsS
   -- what is stored is this debug program
   pub debug_is : (line_start : ℕ) → stored_debug line_start names count b o is ≡ record { line_start = line_start; parameter_names = s.named; operations = s.stored.operations }
   debug_is line_start =
-      let named = ap numbers_in first_names ∙ names_are s.named in
-      let operations = ap (operations_in count b o) then_symbols ∙ view_is count b o s.symbols s.stored in
-      λ i. record { line_start = line_start; parameter_names = named i; operations = operations i }
+      λ i. record { line_start = line_start; parameter_names = (ap numbers_in first_names ∙ names_are s.named) i; operations = (ap (operations_in count b o) then_symbols ∙ view_is count b o s.symbols s.stored) i }
 
   pub names_many : length (numbers_in (take names is)) ≡ names
   names_many = ap length (ap numbers_in first_names ∙ names_are s.named) ∙ s.many
@@ -349,7 +310,7 @@ module _ (names count : ℕ) (b : List ℕ) (o : ℕ) (is : List Index) (s : IsS
   operations_stored = subst (AreStored count b o) (sym then_symbols) s.stored
 
   pub operations_many : length (operations_in count b o (drop names is)) ≡ count
-  operations_many = view_many count b o (drop names is) operations_stored
+  operations_many = ap length (view_is count b o (drop names is) operations_stored) ∙ operations_stored.many
 
   uses_named : (ns : List (Option ℕ)) → flat_map (λ (i : Index). number_uses i.kind i.number) (map text_index ns) ≡ flat_map (number_uses kinds.Text) ns
   uses_named [] = refl
@@ -358,8 +319,7 @@ module _ (names count : ℕ) (b : List ℕ) (o : ℕ) (is : List Index) (s : IsS
   -- the symbols are those of the debug program
   pub stored_uses : (line_start : ℕ) → flat_map (λ (i : Index). number_uses i.kind i.number) is ≡ debug_uses (stored_debug line_start names count b o is)
   stored_uses line_start =
-      let of = flat_map (λ (i : Index). number_uses i.kind i.number) in
-      ap of (s.indices_are ∙ ap (λ js. map text_index s.named ++ js) s.stored.indices_are) ∙ flat_map-append (λ (i : Index). number_uses i.kind i.number) (map text_index s.named) (flat_map indices_of s.stored.operations)
+      ap (flat_map (λ (i : Index). number_uses i.kind i.number)) (s.indices_are ∙ ap (λ js. map text_index s.named ++ js) s.stored.indices_are) ∙ flat_map-append (λ (i : Index). number_uses i.kind i.number) (map text_index s.named) (flat_map indices_of s.stored.operations)
       ∙ (λ i. uses_named s.named i ++ uses_all s.stored.operations i) ∙ ap debug_uses (sym (debug_is line_start))
 
   -- once renumbered, it is stored as the renumbered debug program

@@ -17,6 +17,7 @@ pub fn debug_bytes_law()
 {}
 
 /// A numbered debug program weighs as much as the program that it denotes, and has the same positions.
+#[tactic(auto, using(crate::proofs::DebugMeanings::weights_are, crate::proofs::DebugMeanings::positions_are))]
 pub fn debug_unindexed_law()
     ensures weight { DebugWeightIsDenoted }
     ensures positions { DebugPositionsAreDenoted }
@@ -30,6 +31,7 @@ pub fn debug_renumber_law()
 
 /// The symbols that occur are those of the debug program that it denotes, one for one and in their order. Where there
 /// is a mark for each symbol, there is one for each that occurs.
+#[tactic(auto, using(crate::proofs::DebugMeanings::uses_encoded, crate::proofs::DebugMeanings::marks_there))]
 pub fn debug_uses_law()
     ensures uses { DebugUsesAreDenoted }
     ensures marks { DebugUsesHaveMarks }
@@ -41,6 +43,7 @@ pub fn operation_equality_law()
 {}
 
 /// Debug programs are equal exactly where the lines that they start at, their names and their operations are.
+#[tactic(auto, using(crate::proofs::DebugEqual::debug_decides))]
 pub fn debug_equality_law()
     ensures { (d e : NumberedDebug) → IsTrue (⟦<Debug<'static> as PartialEq>⟧.eq d e) ↔ (d ≡ e) }
 {

@@ -154,6 +154,7 @@ impl Debug<'_> {
 }
 
 // No debug program with as many names and operations has more bytes.
+#[tactic(auto, using(crate::proofs::DebugMeanings::bytes_most, crate::proofs::StoredOperations::names_many, crate::proofs::StoredOperations::operations_many))]
 fn most_len(debug: &Debug<'_>) -> usize
     ensures { length (numbered_debug_bytes debug.now) ≤ result }
 {

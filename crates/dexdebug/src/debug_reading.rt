@@ -74,6 +74,7 @@ fn number_at(bytes: &[u8], at: usize) -> Option<(u32, usize)>
 
 // The signed number at a place, and how many bytes it has.
 #[inline(always)]
+#[tactic(auto, using(crate::proofs::DebugRead::some_of))]
 fn lines_at(bytes: &[u8], at: usize) -> Option<(i32, usize)>
     requires { at ≤ length bytes.now }
     ensures found { IfSome result (λ read. Sleb128At bytes.now at read.0 read.1) }
@@ -382,6 +383,7 @@ fn shape_at(frame: &Frame<'_>, pools: &Pools<'_>, off: u32) -> Option<DebugShape
 /// its end, where a number is not spelled as it has to be, or where an index is out of range of its pool.
 ///
 /// Source: "debug_info_item".
+#[tactic(auto, using(crate::proofs::DebugBridge::shaped))]
 pub fn check_debug(frame: &Frame<'_>, pools: &Pools<'_>, off: u32) -> Result<DebugShape, ItemFault>
     ensures shape { IfOk result (IsShapeAt frame.now off pools.now) }
     ensures debug { ArePools frame.now pools.now
@@ -399,6 +401,7 @@ pub fn check_debug(frame: &Frame<'_>, pools: &Pools<'_>, off: u32) -> Result<Deb
 /// Condition: its shape is that which [`check_debug`] returned.
 ///
 /// Source: "debug_info_item".
+#[tactic(auto, using(crate::proofs::DebugBridge::ok_named))]
 pub fn build_debug<'a>(
     alloc: Global,
     frame: &Frame<'a>,

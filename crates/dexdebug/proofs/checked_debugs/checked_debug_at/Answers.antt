@@ -1,6 +1,5 @@
-use Rattle.dexdebug.proofs.Common.{ℕ, nat_eq, sym}
+use Rattle.dexdebug.proofs.Common.{ℕ, nat_eq, sym, HasDebugAt}
 use Rattle.std.specs.HashMap.{get}
-use Rattle.dexdebug.specs.{HasDebugAt}
 use Rattle.dexdebug.proofs.DebugsChecked.{debug_found, number_added}
 use Rattle.dexdebug.proofs.checked_debugs.checked_debug_at.Goals as goal
 

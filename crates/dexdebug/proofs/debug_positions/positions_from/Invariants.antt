@@ -1,6 +1,5 @@
-use Rattle.dexdebug.proofs.Common.{◌≡◌, ◌+◌, ◌*◌, ◌^◌, ◌≤◌, ◌++◌, length, map, All, pos, ◌+ℤ◌, ◌≤ℤ◌}
+use Rattle.dexdebug.proofs.Common.{◌≡◌, ◌+◌, ◌*◌, ◌^◌, ◌≤◌, ◌++◌, length, map, All, pos, ◌+ℤ◌, ◌≤ℤ◌, IsFormedOperation, unindexed_operation}
 use Rattle.dexdebug.specs.Positions as recorded
-use Rattle.dexdebug.specs.{IsFormedOperation, unindexed_operation}
 use Rattle.dexdebug.proofs.debug_positions.positions_from.Given as goal
 
 abbrev pub invariant-loop-operation : goal.invariant-loop-operation

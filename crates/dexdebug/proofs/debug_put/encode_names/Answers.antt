@@ -1,5 +1,4 @@
-use Rattle.dexdebug.proofs.Common.{ap, subst, All, flat_map, All-head, All-tail, uleb128p1, completes_all, completes_more}
-use Rattle.dexdebug.specs.{FitsIndex}
+use Rattle.dexdebug.proofs.Common.{ap, subst, All, flat_map, All-head, All-tail, uleb128p1, completes_all, completes_more, FitsIndex}
 use Rattle.dexdebug.proofs.debug_put.encode_names.Goals as goal
 
 pub encode_index-requires : goal.encode_index-requires
@@ -7,11 +6,10 @@ encode_index-requires g c = All-head FitsIndex c.in-Some.name c.next.new.self (s
 
 pub loop-name-preserved : goal.loop-name-preserved
 loop-name-preserved g c =
-    let steps = c.in-Some.ensures.steps in
     record {
-      formed = All-tail FitsIndex c.in-Some.name c.next.new.self (subst (All FitsIndex) steps c.loop-name.invariant.formed);
+      formed = All-tail FitsIndex c.in-Some.name c.next.new.self (subst (All FitsIndex) c.in-Some.ensures.steps c.loop-name.invariant.formed);
       completes = completes_more g.O.Output.gives g.met.O.Output.both (uleb128p1 c.in-Some.name) (flat_map uleb128p1 c.next.new.self) (flat_map uleb128p1 c.loop-name.name-iterator) (flat_map uleb128p1 c.args.names)
-          c.args.out.now c.loop-name.out c.encode_index.new.out (ap (flat_map uleb128p1) steps) c.loop-name.invariant.completes c.encode_index.ensures;
+          c.args.out.now c.loop-name.out c.encode_index.new.out (ap (flat_map uleb128p1) c.in-Some.ensures.steps) c.loop-name.invariant.completes c.encode_index.ensures;
     }
 
 pub returns : goal.returns

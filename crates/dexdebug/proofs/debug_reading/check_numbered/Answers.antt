@@ -16,6 +16,4 @@ pub returns-in_err-tally : goal.returns-in_err-tally
 returns-in_err-tally c = rw c.from_residual-in_err-tally.ensures (no_operations c.args.counts c.args.bytes.now c.args.at c.in_ok-operations_at.operations_at (c.in_ok-line_start.line_start, c.in_ok-line_start.start_len) (c.in_ok-names.names, c.in_ok-names.count_len) (record { starts = c.in_ok-line_start.ensures.only; counts = c.in_ok-names.ensures.only }) c.in_ok-operations_at.ensures c.in_err-tally.ensures)
 
 pub overflow_add-result-2 : goal.overflow_add-result-2
-overflow_add-result-2 c =
-    let t = c.in_ok-tally.ensures in
-    omega (arith, t.light, t.count, t.few)
+overflow_add-result-2 c = let t = c.in_ok-tally.ensures in omega (arith, t.light, t.count, t.few)

@@ -1,29 +1,21 @@
-use Rattle.dexdebug.proofs.Common.{◌++◌, [], refl, ap, sym, ◌∙◌, arith, append-nil, nil_from_length, flat_map}
-use Rattle.dexdebug.specs.{indices_of}
+use Rattle.dexdebug.proofs.Common.{◌++◌, [], refl, ap, sym, ◌∙◌, arith, append-nil, nil_from_length, flat_map, indices_of}
 use Rattle.dexdebug.proofs.DebugRuns.{all_operations_built, are_tallied, more_symbols, no_operations_built, opcode_some, next_operation}
 use Rattle.dexdebug.proofs.debug_reading.keep_symbols.Goals as goal
 
 pub returns-then-tally-eq0 : goal.returns-then-tally-eq0
 returns-then-tally-eq0 c =
     let t = c.requires.tallied in
-    record {
-      operations = t.operations;
-      are = are_tallied c.args.counts c.args.bytes.now c.args.from c.args.tally t;
-      kept = sym (append-nil c.args.indices.now.items) ∙ ap (λ is. c.args.indices.now.items ++ is) (sym (nil_from_length (flat_map indices_of t.operations) (omega (arith, t.indices))));
-    }
+    record { operations = t.operations; are = are_tallied c.args.counts c.args.bytes.now c.args.from c.args.tally t; kept = sym (append-nil c.args.indices.now.items) ∙ ap (λ is. c.args.indices.now.items ++ is) (sym (nil_from_length (flat_map indices_of t.operations) (omega (arith, t.indices)))) }
 
 pub loop-init : goal.loop-init
 loop-init c = record { operations = []; built = no_operations_built c.args.counts c.args.bytes.now c.args.from c.args.tally [] c.requires.tallied refl; kept = sym (append-nil c.args.indices.now.items) }
 
 pub operation_at-requires-clause-some : goal.operation_at-requires-clause-some
-operation_at-requires-clause-some c =
-    let had = c.loop.invariant in
-    opcode_some c.args.counts c.args.bytes.now c.args.from c.args.tally c.loop.counter c.loop.at had.operations had.built c.loop-test.true
+operation_at-requires-clause-some c = let had = c.loop.invariant in opcode_some c.args.counts c.args.bytes.now c.args.from c.args.tally c.loop.counter c.loop.at had.operations had.built c.loop-test.true
 
 pub unwrap-operation-requires : goal.unwrap-operation-requires
 unwrap-operation-requires c =
-    let had = c.loop.invariant in
-    (next_operation c.args.counts c.args.bytes.now c.args.from c.args.tally c.loop.counter c.loop.at had.operations c.operation_at.result had.built c.loop-test.true c.operation_at.ensures.only).some
+    (next_operation c.args.counts c.args.bytes.now c.args.from c.args.tally c.loop.counter c.loop.at c.loop.invariant.operations c.operation_at.result c.loop.invariant.built c.loop-test.true c.operation_at.ensures.only).some
 
 pub loop-preserved : goal.loop-preserved
 loop-preserved c =
@@ -33,5 +25,4 @@ loop-preserved c =
 
 pub returns : goal.returns
 returns c =
-    let had = c.loop.invariant in
-    record { operations = had.operations; are = all_operations_built c.args.counts c.args.bytes.now c.args.from c.args.tally c.loop.counter c.loop.at had.operations had.built (omega (arith, c.loop-test.false)); kept = had.kept }
+    record { operations = c.loop.invariant.operations; are = all_operations_built c.args.counts c.args.bytes.now c.args.from c.args.tally c.loop.counter c.loop.at c.loop.invariant.operations c.loop.invariant.built (omega (arith, c.loop-test.false)); kept = c.loop.invariant.kept }

@@ -1,6 +1,4 @@
-use Rattle.dexdebug.proofs.Common.{◌≡◌, ℕ, ◌+◌, Some, refl, sym, subst, arith}
-use Rattle.dexdebug.specs.declared.debug_operation.Operation.TheVariants.{AdvancePc, StartLocal, StartLocalExtended, EndLocal, RestartLocal, SetFile}
-use Rattle.dexdebug.specs.{IndexAt}
+use Rattle.dexdebug.proofs.Common.{◌≡◌, ℕ, ◌+◌, Some, refl, sym, subst, arith, AdvancePc, StartLocal, StartLocalExtended, EndLocal, RestartLocal, SetFile, IndexAt}
 use Rattle.dexdebug.proofs.DebugRead.{local_parts, some_parts, only_advance_pc, only_start_local, only_start_local_extended, only_end_local, only_restart_local, only_prologue_end, only_epilogue_begin, only_set_file}
 use Rattle.dexdebug.proofs.debug_reading.operation_at.Goals as goal
 

@@ -1,6 +1,5 @@
-use Rattle.dexdebug.proofs.Common.{◌≡◌, ◌↔◌, map}
+use Rattle.dexdebug.proofs.Common.{◌≡◌, ◌↔◌, map, image_or_none}
 use Rattle.dexpool.specs.declared.symbols.SymbolKind.TheVariants as kinds
-use Rattle.dexdebug.specs.{image_or_none}
 use Rattle.dexdebug.proofs.debug_same.same_names.Given as goal
 
 abbrev pub invariant-loop-name : goal.invariant-loop-name

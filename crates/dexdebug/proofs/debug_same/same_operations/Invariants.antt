@@ -1,5 +1,4 @@
-use Rattle.dexdebug.proofs.Common.{◌≡◌, ◌↔◌, map}
-use Rattle.dexdebug.specs.{renumbered_operation}
+use Rattle.dexdebug.proofs.Common.{◌≡◌, ◌↔◌, map, renumbered_operation}
 use Rattle.dexdebug.proofs.debug_same.same_operations.Given as goal
 
 abbrev pub invariant-loop-operation : goal.invariant-loop-operation

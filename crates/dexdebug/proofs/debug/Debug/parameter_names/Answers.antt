@@ -1,5 +1,4 @@
-use Rattle.dexdebug.proofs.Common.{ap, ◌∙◌, take}
-use Rattle.dexdebug.specs.{numbers_in}
+use Rattle.dexdebug.proofs.Common.{ap, ◌∙◌, take, numbers_in}
 use Rattle.dexdebug.proofs.StoredOperations.{names_enough}
 use Rattle.dexdebug.proofs.debug.Debug.parameter_names.Goals as goal
 

@@ -1,6 +1,4 @@
-use Rattle.dexdebug.proofs.Common.{subst, sym, ◌∙◌, ap, All, all_parts}
-use Rattle.dexdebug.specs.{HasPlace, IsFormedDebug, number_uses, debug_uses, renumbered_debug, stored_debug}
-use Rattle.dexdebug.specs.declared.indices.Index.{Index}
+use Rattle.dexdebug.proofs.Common.{subst, sym, ◌∙◌, ap, All, all_parts, HasPlace, IsFormedDebug, number_uses, debug_uses, renumbered_debug, stored_debug, Index}
 use Rattle.dexdebug.proofs.DebugUses.{debug_formed}
 use Rattle.dexdebug.proofs.StoredOperations.{renumbered_stored, renumbered_view, stored_uses}
 use Rattle.dexdebug.proofs.debug.Debug.renumber.Goals as goal
@@ -13,11 +11,9 @@ renumber_all-requires c =
 pub invariant_of-self : goal.invariant_of-self
 invariant_of-self c =
     let r = c.args.remap.now in
-    let d = stored_debug c.self.inside.line_start c.self.inside.names c.self.inside.count c.self.inside.bytes.now c.self.inside.at c.self.inside.indices.items in
-    let js = c.renumber_all.new.items.items in
-    let view = renumbered_view c.self.inside.names c.self.inside.count c.self.inside.bytes.now c.self.inside.at c.self.inside.indices.items c.self.invariant.1 r js c.renumber_all.ensures c.self.inside.line_start in (
-      subst IsFormedDebug (sym view) (debug_formed r d (subst (λ x. All (HasPlace r) (debug_uses x)) (sym c.self.view_is) c.requires) c.self.invariant.0),
-      renumbered_stored c.self.inside.names c.self.inside.count c.self.inside.bytes.now c.self.inside.at c.self.inside.indices.items c.self.invariant.1 r js c.renumber_all.ensures,
+    let view = renumbered_view c.self.inside.names c.self.inside.count c.self.inside.bytes.now c.self.inside.at c.self.inside.indices.items c.self.invariant.1 r c.renumber_all.new.items.items c.renumber_all.ensures c.self.inside.line_start in (
+      subst IsFormedDebug (sym view) (debug_formed r (stored_debug c.self.inside.line_start c.self.inside.names c.self.inside.count c.self.inside.bytes.now c.self.inside.at c.self.inside.indices.items) (subst (λ x. All (HasPlace r) (debug_uses x)) (sym c.self.view_is) c.requires) c.self.invariant.0),
+      renumbered_stored c.self.inside.names c.self.inside.count c.self.inside.bytes.now c.self.inside.at c.self.inside.indices.items c.self.invariant.1 r c.renumber_all.new.items.items c.renumber_all.ensures,
     )
 
 pub returns : goal.returns

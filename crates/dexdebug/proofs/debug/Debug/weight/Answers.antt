@@ -1,6 +1,5 @@
-use Rattle.dexdebug.proofs.Common.{ap, length, sum_by, arith}
-use Rattle.dexdebug.specs.{operation_weight}
-use Rattle.dexdebug.proofs.DebugWeights.{weight_is}
+use Rattle.dexdebug.proofs.Common.{ap, length, sum_by, arith, operation_weight}
+use Rattle.dexdebug.proofs.DebugMeanings.{weight_is}
 use Rattle.dexdebug.proofs.StoredOperations.{names_many}
 use Rattle.dexdebug.proofs.debug.Debug.weight.Goals as goal
 
@@ -8,8 +7,7 @@ pub operations_weight-requires : goal.operations_weight-requires
 operations_weight-requires c = omega (arith, ap length c.operations.ensures, ap (λ d. length d.operations) c.self.view_is, c.self.invariant.0.operations_count)
 
 pub overflow_add-result-2 : goal.overflow_add-result-2
-overflow_add-result-2 c =
-    omega (arith, c.operations_weight.ensures.bound, ap length c.operations.ensures, ap (λ d. length d.operations) c.self.view_is, c.self.invariant.0.operations_count)
+overflow_add-result-2 c = omega (arith, c.operations_weight.ensures.bound, ap length c.operations.ensures, ap (λ d. length d.operations) c.self.view_is, c.self.invariant.0.operations_count)
 
 pub returns : goal.returns
 returns c =

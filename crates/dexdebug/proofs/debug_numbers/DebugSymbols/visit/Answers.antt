@@ -1,6 +1,4 @@
-use Rattle.dexdebug.proofs.Common.{ap, subst, ◌∙◌, FoldsTo, flat_map}
-use Rattle.dexdebug.specs.{number_uses, debug_uses}
-use Rattle.dexdebug.specs.declared.indices.Index.{Index}
+use Rattle.dexdebug.proofs.Common.{ap, subst, ◌∙◌, FoldsTo, flat_map, number_uses, debug_uses, Index}
 use Rattle.dexdebug.proofs.StoredOperations.{stored_uses}
 use Rattle.dexdebug.proofs.debug_numbers.DebugSymbols.visit.Goals as goal
 

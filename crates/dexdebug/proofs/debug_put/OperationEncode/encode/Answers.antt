@@ -1,5 +1,4 @@
-use Rattle.dexdebug.proofs.Common.{◌∷◌, [], ◌++◌, subst, sym, uleb128, uleb128p1}
-use Rattle.dexdebug.specs.{numbered_operation_bytes}
+use Rattle.dexdebug.proofs.Common.{◌∷◌, [], ◌++◌, subst, sym, uleb128, uleb128p1, numbered_operation_bytes}
 use Rattle.dexdebug.proofs.Encoded.{regrouped}
 use Rattle.dexdebug.proofs.debug_put.OperationEncode.encode.Goals as goal
 

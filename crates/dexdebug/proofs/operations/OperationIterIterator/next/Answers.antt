@@ -1,5 +1,4 @@
-use Rattle.dexdebug.proofs.Common.{◌≡◌, ◌+◌, ◌-◌, ◌∷◌, length, drop, ap, sym, subst, ◌∙◌, arith}
-use Rattle.dexdebug.specs.{AreStored, operations_in, number_in, with_numbers, indices_of}
+use Rattle.dexdebug.proofs.Common.{◌≡◌, ◌+◌, ◌-◌, ◌∷◌, length, drop, ap, sym, subst, ◌∙◌, arith, AreStored, operations_in, number_in, with_numbers, indices_of}
 use Rattle.dexdebug.proofs.StoredOperations.{first_stored, special_follows, stored_code, stored_within, without_places}
 use Rattle.dexdebug.proofs.operations.OperationIterIterator.next.Goals as goal
 
@@ -16,9 +15,7 @@ pub returns-then-opcode-ge-DBG_FIRST_SPECIAL-clause-steps : goal.returns-then-op
 returns-then-opcode-ge-DBG_FIRST_SPECIAL-clause-steps c = sym c.self.view_is ∙ (special_follows c.self.inside.count c.self.inside.bytes.now c.self.inside.at c.self.inside.indices.now c.self.invariant (omega arith) (omega arith)).view
 
 pub returns-then-opcode-ge-DBG_FIRST_SPECIAL-clause-goes : goal.returns-then-opcode-ge-DBG_FIRST_SPECIAL-clause-goes
-returns-then-opcode-ge-DBG_FIRST_SPECIAL-clause-goes c =
-    let steps = returns-then-opcode-ge-DBG_FIRST_SPECIAL-clause-steps c in
-    record { on = λ _. (tt, tt, omega (arith, ap length steps)); keeps = tt; rests = λ _. tt }
+returns-then-opcode-ge-DBG_FIRST_SPECIAL-clause-goes c = record { on = λ _. (tt, tt, omega (arith, ap length (returns-then-opcode-ge-DBG_FIRST_SPECIAL-clause-steps c))); keeps = tt; rests = λ _. tt }
 
 pub operation_at-requires-clause-within : goal.operation_at-requires-clause-within
 operation_at-requires-clause-within c = let within = stored_within c.self.inside.count c.self.inside.bytes.now c.self.inside.at c.self.inside.indices.now c.self.invariant (omega arith) in omega (arith, within)
@@ -31,10 +28,9 @@ unwrap-operation-requires c = (first_stored c.self.inside.count c.self.inside.by
 
 pub invariant_of-self-then-places-eq0 : goal.invariant_of-self-then-places-eq0
 invariant_of-self-then-places-eq0 c =
-    let x = c.unwrap-operation.result in
     let follows = (first_stored c.self.inside.count c.self.inside.bytes.now c.self.inside.at c.self.inside.indices.now c.self.invariant (omega arith) c.operation_at.result c.operation_at.ensures.only).follows c.unwrap-operation.result c.unwrap-operation.ensures in
-    let none : length (indices_of x.0) ≡ 0 = omega (arith, c.index_count-places.ensures.count) in
-    subst (AreStored (c.self.inside.count - 1) c.self.inside.bytes.now (c.self.inside.at + (1 + x.1))) (ap (λ n. drop n c.self.inside.indices.now) none) follows.rest
+    let none : length (indices_of c.unwrap-operation.result.0) ≡ 0 = omega (arith, c.index_count-places.ensures.count) in
+    subst (AreStored (c.self.inside.count - 1) c.self.inside.bytes.now (c.self.inside.at + (1 + c.unwrap-operation.result.1))) (ap (λ n. drop n c.self.inside.indices.now) none) follows.rest
 
 pub returns-then-places-eq0-clause-steps : goal.returns-then-places-eq0-clause-steps
 returns-then-places-eq0-clause-steps c =
@@ -42,37 +38,27 @@ returns-then-places-eq0-clause-steps c =
     let is = c.self.inside.indices.now in
     let follows = (first_stored c.self.inside.count c.self.inside.bytes.now c.self.inside.at c.self.inside.indices.now c.self.invariant (omega arith) c.operation_at.result c.operation_at.ensures.only).follows c.unwrap-operation.result c.unwrap-operation.ensures in
     let none : length (indices_of x.0) ≡ 0 = omega (arith, c.index_count-places.ensures.count) in
-    let own = without_places x.0 (number_in is 0) (number_in is 1) (number_in is 2) none in
-    let left = ap (λ n. drop n is) none in
-    sym c.self.view_is ∙ follows.view ∙ (λ i. own i ∷ operations_in (c.self.inside.count - 1) c.self.inside.bytes.now (c.self.inside.at + (1 + x.1)) (left i))
+    sym c.self.view_is ∙ follows.view ∙ (λ i. (without_places x.0 (number_in is 0) (number_in is 1) (number_in is 2) none) i ∷ operations_in (c.self.inside.count - 1) c.self.inside.bytes.now (c.self.inside.at + (1 + x.1)) ((ap (λ n. drop n is) none) i))
 
 pub returns-then-places-eq0-clause-goes : goal.returns-then-places-eq0-clause-goes
-returns-then-places-eq0-clause-goes c =
-    let steps = returns-then-places-eq0-clause-steps c in
-    record { on = λ _. (tt, tt, omega (arith, ap length steps)); keeps = tt; rests = λ _. tt }
+returns-then-places-eq0-clause-goes c = record { on = λ _. (tt, tt, omega (arith, ap length (returns-then-places-eq0-clause-steps c))); keeps = tt; rests = λ _. tt }
 
 pub split_at-requires : goal.split_at-requires
 split_at-requires c =
-    let follows = (first_stored c.self.inside.count c.self.inside.bytes.now c.self.inside.at c.self.inside.indices.now c.self.invariant (omega arith) c.operation_at.result c.operation_at.ensures.only).follows c.unwrap-operation.result c.unwrap-operation.ensures in
-    omega (arith, follows.places, c.index_count-places.ensures.count)
+    omega (arith, ((first_stored c.self.inside.count c.self.inside.bytes.now c.self.inside.at c.self.inside.indices.now c.self.invariant (omega arith) c.operation_at.result c.operation_at.ensures.only).follows c.unwrap-operation.result c.unwrap-operation.ensures).places, c.index_count-places.ensures.count)
 
 pub invariant_of-self-2 : goal.invariant_of-self-2
 invariant_of-self-2 c =
-    let x = c.unwrap-operation.result in
-    let follows = (first_stored c.self.inside.count c.self.inside.bytes.now c.self.inside.at c.self.inside.indices.now c.self.invariant (omega arith) c.operation_at.result c.operation_at.ensures.only).follows x c.unwrap-operation.ensures in
-    let left = c.split_at.ensures.back ∙ ap (λ n. drop n c.self.inside.indices.now) c.index_count-places.ensures.count in
-    subst (λ is. AreStored (c.self.inside.count - 1) c.self.inside.bytes.now (c.self.inside.at + (1 + x.1)) is) (sym left) follows.rest
+    let follows = (first_stored c.self.inside.count c.self.inside.bytes.now c.self.inside.at c.self.inside.indices.now c.self.invariant (omega arith) c.operation_at.result c.operation_at.ensures.only).follows c.unwrap-operation.result c.unwrap-operation.ensures in
+    subst (λ is. AreStored (c.self.inside.count - 1) c.self.inside.bytes.now (c.self.inside.at + (1 + c.unwrap-operation.result.1)) is) (sym (c.split_at.ensures.back ∙ ap (λ n. drop n c.self.inside.indices.now) c.index_count-places.ensures.count)) follows.rest
 
 pub returns-clause-steps : goal.returns-clause-steps
 returns-clause-steps c =
     let x = c.unwrap-operation.result in
     let follows = (first_stored c.self.inside.count c.self.inside.bytes.now c.self.inside.at c.self.inside.indices.now c.self.invariant (omega arith) c.operation_at.result c.operation_at.ensures.only).follows x c.unwrap-operation.ensures in
-    let left = c.split_at.ensures.back ∙ ap (λ n. drop n c.self.inside.indices.now) c.index_count-places.ensures.count in
     let first : c.with_numbers.result ≡ with_numbers x.0 (number_in c.self.inside.indices.now 0) (number_in c.self.inside.indices.now 1) (number_in c.self.inside.indices.now 2) =
     c.with_numbers.ensures ∙ (λ i. with_numbers x.0 (c.number_in-name_idx.ensures i) (c.number_in-second.ensures i) (c.number_in-third.ensures i)) in
-    sym c.self.view_is ∙ follows.view ∙ sym (λ i. first i ∷ operations_in (c.self.inside.count - 1) c.self.inside.bytes.now (c.self.inside.at + (1 + x.1)) (left i))
+    sym c.self.view_is ∙ follows.view ∙ sym (λ i. first i ∷ operations_in (c.self.inside.count - 1) c.self.inside.bytes.now (c.self.inside.at + (1 + x.1)) ((c.split_at.ensures.back ∙ ap (λ n. drop n c.self.inside.indices.now) c.index_count-places.ensures.count) i))
 
 pub returns-clause-goes : goal.returns-clause-goes
-returns-clause-goes c =
-    let steps = returns-clause-steps c in
-    record { on = λ _. (tt, tt, omega (arith, ap length steps)); keeps = tt; rests = λ _. tt }
+returns-clause-goes c = record { on = λ _. (tt, tt, omega (arith, ap length (returns-clause-steps c))); keeps = tt; rests = λ _. tt }

@@ -1,10 +1,8 @@
 -- What the numbers in code items denote.
-use Rattle.dexcode.proofs.Common.{◌≡◌, ℕ, ◌<◌, List, [], ◌∷◌, ◌++◌, length, map, get_or, Option, Some, None, option_to_list, refl, ap, sym, ◌∙◌, subst, arith, All, AllZip, flat_map, IsSome, unwrap_or, option_map, get_or_default, All-nil, All-head, All-tail, All-append, BothOrNone, distinct, Text, TypeSymbol, Mentions, piece_symbols, handler_symbols, debug_symbols, code_symbols, Debug, Marks, IsAt, AreRising, AreMarksOf, Maps, image_of, AllMapTo, HasMark, IsUseOf, IsMappedUse, uses_of, NumberedDebug, DenotesDebug, HasPlace, renumbered_debug, debug_uses, all_of, all_parts, all_map}
+use Rattle.dexcode.proofs.Common.{◌≡◌, ℕ, ◌<◌, List, [], ◌∷◌, ◌++◌, length, map, get_or, Option, Some, None, option_to_list, refl, ap, sym, ◌∙◌, subst, arith, All, AllZip, flat_map, IsSome, unwrap_or, option_map, get_or_default, All-nil, All-head, All-tail, All-append, BothOrNone, distinct, Text, TypeSymbol, Mentions, piece_symbols, handler_symbols, debug_symbols, code_symbols, Debug, Marks, IsAt, AreRising, AreMarksOf, Maps, image_of, AllMapTo, HasMark, IsUseOf, IsMappedUse, uses_of, NumberedDebug, DenotesDebug, HasPlace, renumbered_debug, debug_uses, all_of, all_parts, all_map, Catch, handler_decides, NumberedHandler, NumberedTry, NumberedItem, DenotesCatch, DenotesTry, DenotesCode, same_handler, handlers_of, catch_meant, handler_meant, catch_use, handler_uses, tries_uses, item_uses, HasTypePlace, HasPlaces, HasImages, renumbered_catch, renumbered_try, renumbered_item}
 use Rattle.dexspec.specs.Code as symbolic
 use Rattle.dexpool.specs.declared.symbols.SymbolKind.TheVariants as kinds
 use Rattle.dexinsn.proofs.Meanings as pieces
-use Rattle.dexcode.specs.declared.handlers.Catch.{Catch}
-use Rattle.dexcode.specs.{handler_decides, NumberedHandler, NumberedTry, NumberedItem, DenotesCatch, DenotesTry, DenotesCode, same_handler, handlers_of, catch_meant, handler_meant, catch_use, handler_uses, tries_uses, item_uses, HasTypePlace, HasPlaces, HasImages, renumbered_catch, renumbered_try, renumbered_item}
 use Rattle.dexcode.proofs.CodeUses.{optional_debug_uses, debug_part, all_flat}
 use Rattle.dexdebug.proofs.DebugMeanings as debugs
 use Rattle.dexdebug.proofs.DebugMeanings.{mapped_at, zip-append}
@@ -26,12 +24,11 @@ module _ (m n : Mentions) (r : Maps) (l : AllMapTo m n r) where
 
   catches_remapped : (cs : List Catch) (xs : List symbolic.Catch) → All (IsMappedUse r) (map catch_use cs) → AllZip (DenotesCatch m) cs xs → AllZip (DenotesCatch n) (map (renumbered_catch r) cs) xs
   catches_remapped [] [] all h = tt
-  catches_remapped [] (x ∷ xs) all h = absurd h
-  catches_remapped (c ∷ cs) [] all h = absurd h
   catches_remapped (c ∷ cs) (x ∷ xs) all h = (
     record { type_is = type_by c.typ (image_of r kinds.Typ c.typ) x.type refl (All-head (IsMappedUse r) (catch_use c) (map catch_use cs) all) h.0.type_is; address_is = h.0.address_is },
     catches_remapped cs xs (All-tail (IsMappedUse r) (catch_use c) (map catch_use cs) all) h.1,
   )
+  catches_remapped _ _ all h = absurd h
 
   tries_remapped : (ts : List NumberedTry) (xs : List symbolic.Try) → All (HaveTypeImages r) (map (λ t. t.handler) ts) → AllZip (DenotesTry m) ts xs → AllZip (DenotesTry n) (map (renumbered_try r) ts) xs
   tries_remapped [] [] all h = tt
@@ -40,19 +37,14 @@ module _ (m n : Mentions) (r : Maps) (l : AllMapTo m n r) where
   tries_remapped (t ∷ ts) (x ∷ xs) all h =
       let handlers = map (λ (u : NumberedTry). u.handler) ts in
       let is = h.0.handler_is in (
-        record {
-          start_is = h.0.start_is;
-          count_is = h.0.count_is;
-          handler_is = record { catches_are = catches_remapped t.handler.catches x.handler.catches (All-head (HaveTypeImages r) t.handler handlers all) is.catches_are; catch_all_is = is.catch_all_is };
-        },
+        record { start_is = h.0.start_is; count_is = h.0.count_is; handler_is = record { catches_are = catches_remapped t.handler.catches x.handler.catches (All-head (HaveTypeImages r) t.handler handlers all) is.catches_are; catch_all_is = is.catch_all_is } },
         tries_remapped ts xs (All-tail (HaveTypeImages r) t.handler handlers all) h.1,
       )
 
   debug_remapped : (o : Option NumberedDebug) (x : Option Debug) → All (IsMappedUse r) (optional_debug_uses o) → BothOrNone (DenotesDebug m) o x → BothOrNone (DenotesDebug n) (option_map (renumbered_debug r) o) x
   debug_remapped None None all h = tt
-  debug_remapped None (Some x) all h = absurd h
-  debug_remapped (Some d) None all h = absurd h
   debug_remapped (Some d) (Some x) all h = debugs.renumbered_denotes m n r d x l (debug_part (IsMappedUse r) (Some d) d all refl) h
+  debug_remapped _ _ all h = absurd h
 
 -- if each number has an image from one numbering to another, the code denotes what it denoted before
 pub renumbered_denotes : (m n : Mentions) (r : Maps) (c : NumberedItem) (x : symbolic.Code) → AllMapTo m n r → HasImages r c → DenotesCode m c x → DenotesCode n (renumbered_item r c) x
@@ -96,14 +88,12 @@ module _ (m : Mentions) where
 
   pub debug_used : (o : Option NumberedDebug) (x : Option Debug) → BothOrNone (DenotesDebug m) o x → AllZip (IsUseOf m) (optional_debug_uses o) (flat_map debug_symbols (option_to_list x))
   debug_used None None h = tt
-  debug_used None (Some x) h = absurd h
-  debug_used (Some d) None h = absurd h
   debug_used (Some d) (Some x) h = zip-append (IsUseOf m) (debug_uses d) (debug_symbols x) [] [] (debugs.uses_encoded m d x h) tt
+  debug_used _ _ h = absurd h
 
   tries_used : (ts : List NumberedTry) (xs : List symbolic.Try) → AreRising m → AllZip (DenotesTry m) ts xs → AllZip (IsUseOf m) (tries_uses ts) (flat_map handler_symbols (symbolic.handlers_of xs))
   tries_used ts xs rising h =
-      let same : map (handler_meant m) (handlers_of ts) ≡ symbolic.handlers_of xs = sym (handlers_meant m rising ts (tries_in_range m ts xs h)) ∙ ap symbolic.handlers_of (sym (tries_mean m ts xs h)) in
-      subst (λ ys. AllZip (IsUseOf m) (tries_uses ts) (flat_map handler_symbols ys)) same (handlers_used (handlers_of ts) (handlers_in ts xs h))
+      subst (λ ys. AllZip (IsUseOf m) (tries_uses ts) (flat_map handler_symbols ys)) (sym (handlers_meant m rising ts (tries_in_range m ts xs h)) ∙ ap symbolic.handlers_of (sym (tries_mean m ts xs h))) (handlers_used (handlers_of ts) (handlers_in ts xs h))
 
   pub uses_encoded : (c : NumberedItem) (x : symbolic.Code) → AreRising m → DenotesCode m c x → AllZip (IsUseOf m) (item_uses c) (code_symbols x)
   uses_encoded c x rising h =

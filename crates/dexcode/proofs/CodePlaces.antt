@@ -1,14 +1,12 @@
 -- The numbers in a code item have places where all numbers have images.
-use Rattle.dexcode.proofs.Common.{◌≡◌, ℕ, ◌+◌, ◌<◌, ◌^◌, List, [], ◌++◌, length, Option, Some, None, option_to_list, refl, subst, arith, All, flat_map, IsSome, IfSome, All-nil, All-cons, All-append, Mentions, piece_symbols, debug_symbols, SymbolKind, count_of, MapsAll, Maps, image_of, AllMapTo, Use, IsMappedUse, uses_of, KeepOrder, MapsDown, NumberedDebug, FitsIndex, IsFormedOperation, IsFormedDebug, HasPlace, number_uses, operation_uses, debug_uses, name_of, type_of, signature_of, maps_within, all_of, all_prefix, all_map}
+use Rattle.dexcode.proofs.Common.{◌≡◌, ℕ, ◌+◌, ◌<◌, ◌^◌, List, [], ◌++◌, length, Option, Some, None, option_to_list, refl, subst, arith, All, flat_map, IsSome, IfSome, All-nil, All-cons, All-append, Mentions, piece_symbols, debug_symbols, SymbolKind, count_of, MapsAll, Maps, image_of, AllMapTo, Use, IsMappedUse, uses_of, KeepOrder, MapsDown, NumberedDebug, FitsIndex, IsFormedOperation, IsFormedDebug, HasPlace, number_uses, operation_uses, debug_uses, name_of, type_of, signature_of, maps_within, all_of, all_prefix, all_map, Try, NumberedHandler, NumberedItem, DenotesCode, IsFormedHandler, AreStored, all_named, handlers_of, catch_use, handler_uses, tries_uses, item_uses, HasTypePlace, HasPlaces, HasImages, NumbersFit}
 use Rattle.dexspec.specs.Code as symbolic
 use Rattle.dexpool.specs.declared.symbols.SymbolKind.TheVariants as kinds
 use Rattle.dexinsn.specs.Numbered as pieces
 use Rattle.dexinsn.proofs.Fits as insn_proofs
 use Rattle.dexinsn.proofs.Meanings as pieces_proofs
 use Rattle.dexinsn.specs.Fitting.{ImagesFit, IsGreatest, MapsShort, short_strings}
-use Rattle.dexcode.specs.declared.tries.Try.{Try}
 use Rattle.dexdebug.specs.declared.debug_operation.Operation.{Operation}
-use Rattle.dexcode.specs.{NumberedHandler, NumberedItem, DenotesCode, IsFormedHandler, AreStored, all_named, handlers_of, catch_use, handler_uses, tries_uses, item_uses, HasTypePlace, HasPlaces, HasImages, NumbersFit}
 use Rattle.dexcode.proofs.CodeMeanings.{handlers_in, debug_used}
 use Rattle.dexcode.proofs.CodeUses.{optional_debug_uses, all_flat, pieces_part, tries_part, debugs_part}
 use Rattle.dexpool.proofs.KeptTables.{all_both}
@@ -17,11 +15,7 @@ use Rattle.dexcode.proofs.TryRows.{IsInRange}
 
 -- the numbers of the code have images if its symbols have
 pub images_of_uses : (r : Maps) (c : NumberedItem) → All (IsMappedUse r) (item_uses c) → HasImages r c
-images_of_uses r c all = record {
-  pieces_have = insn_proofs.images_of_uses r c.body.pieces (pieces_part (IsMappedUse r) c all);
-  catches_have = tries_part (IsMappedUse r) c all;
-  debug_has = debugs_part (IsMappedUse r) c all;
-}
+images_of_uses r c all = record { pieces_have = insn_proofs.images_of_uses r c.body.pieces (pieces_part (IsMappedUse r) c all); catches_have = tries_part (IsMappedUse r) c all; debug_has = debugs_part (IsMappedUse r) c all }
 
 -- ---- all numbers have images
 
@@ -93,8 +87,7 @@ types_cut r us down fit images =
 
 optional_cut : (r : Maps) (o : Option NumberedDebug) → MapsDown r → IfSome o IsFormedDebug → All (IsMappedUse r) (optional_debug_uses o) → All (HasPlace r) (optional_debug_uses o)
 optional_cut r None down formed images = All-nil (HasPlace r)
-optional_cut r (Some d) down formed images =
-    All-append (HasPlace r) (debug_uses d) [] (debug_cut r d down formed (all_prefix (IsMappedUse r) (debug_uses d) [] images)) (All-nil (HasPlace r))
+optional_cut r (Some d) down formed images = All-append (HasPlace r) (debug_uses d) [] (debug_cut r d down formed (all_prefix (IsMappedUse r) (debug_uses d) [] images)) (All-nil (HasPlace r))
 
 pub code_cut : (r : Maps) (c : NumberedItem) → MapsDown r → NumbersFit c → All (IsMappedUse r) (item_uses c) → HasPlaces r c
 code_cut r c down fit all = record {
@@ -115,13 +108,10 @@ image_small r kinds.Method i j fit e = omega (arith, fit.methods_fit i j e)
 pub uses_joined : (r : Maps) (us : List Use) → ImagesFit r → All (IsMappedUse r) us → All (HasPlace r) us
 uses_joined r us fit images = all_of (IsMappedUse r) (HasPlace r) us (λ u some. let at = image_there r u (image_of r u.kind u.number) refl some in (at.0, at.1, image_small r u.kind u.number at.0 fit at.1)) images
 
-types_joined : (r : Maps) (us : List Use) → ImagesFit r → All (IsMappedUse r) us → All (HasTypePlace r) us
-types_joined r us fit images = all_of (HasPlace r) (HasTypePlace r) us (λ u place. (place.0, place.1, omega (arith, place.2))) (uses_joined r us fit images)
-
 pub code_joined : (r : Maps) (c : NumberedItem) (greatest : Option ℕ) → KeepOrder r → ImagesFit r → IsGreatest (short_strings c.body.pieces) greatest → MapsShort r greatest → All (IsMappedUse r) (item_uses c) → HasPlaces r c
 code_joined r c greatest order fit is short all = record {
   pieces_have = insn_proofs.places_after_join r c.body.pieces greatest order fit is short (pieces_part (IsMappedUse r) c all);
-  catches_have = types_joined r (tries_uses c.tries) fit (tries_part (IsMappedUse r) c all);
+  catches_have = all_of (HasPlace r) (HasTypePlace r) (tries_uses c.tries) (λ u place. (place.0, place.1, omega (arith, place.2))) (uses_joined r (tries_uses c.tries) fit (tries_part (IsMappedUse r) c all));
   debug_has = uses_joined r (optional_debug_uses c.debug) fit (debugs_part (IsMappedUse r) c all);
 }
 

@@ -1,11 +1,8 @@
 -- How many bytes a code item of numbers has, against what it weighs.
-use Rattle.dexcode.proofs.Common.{◌≡◌, ℕ, ◌+◌, ◌*◌, ◌%◌, ◌^◌, ◌<◌, ◌≤◌, ◌==◌, Bool, true, false, if◌then◌else◌, nat_lt, List, [], ◌∷◌, ◌++◌, length, Option, Some, None, option_to_list, refl, ap, sym, arith, length-append, All, flat_map, lt-ltb, length-map, All-head, All-tail, sum_by-cons, ushort, uint, uleb128, sleb128, size_u, length-ushort, length-uint, NumberedPiece, NumberedCode, numbered_units, numbered_bytes}
+use Rattle.dexcode.proofs.Common.{◌≡◌, ℕ, ◌+◌, ◌*◌, ◌%◌, ◌^◌, ◌<◌, ◌≤◌, ◌==◌, Bool, true, if◌then◌else◌, nat_lt, List, [], ◌∷◌, ◌++◌, length, Option, Some, None, option_to_list, refl, ap, sym, arith, length-append, All, flat_map, lt-ltb, length-map, All-head, All-tail, sum_by-cons, ushort, uint, uleb128, sleb128, size_u, length-ushort, length-uint, NumberedPiece, NumberedCode, numbered_units, numbered_bytes, Catch, Try, NumberedHandler, NumberedTry, NumberedItem, named, all_named, handlers_of, handlers_weight, AreStored, HasShortTypes, handler_count, numbered_catch_bytes, numbered_handler_bytes, numbered_handler_off, numbered_try_bytes, numbered_list_bytes, numbered_table_bytes, gap_bytes, numbered_tries_bytes, numbered_head_bytes, unit_count, numbered_item_bytes, numbered_code_bytes, numbered_tries_weight, numbered_code_weight, false}
 use Rattle.dexspec.proofs.numbers.Groups.{length-groups}
 use Rattle.dexspec.proofs.written.PlacedBytes.{length_rows}
 use Rattle.dexspec.proofs.size.SizeItems.{uleb128-size, sleb128-size, if-size}
-use Rattle.dexcode.specs.declared.handlers.Catch.{Catch}
-use Rattle.dexcode.specs.declared.tries.Try.{Try}
-use Rattle.dexcode.specs.{NumberedHandler, NumberedTry, NumberedItem, named, all_named, handlers_of, handlers_weight, AreStored, HasShortTypes, handler_count, numbered_catch_bytes, numbered_handler_bytes, numbered_handler_off, numbered_try_bytes, numbered_list_bytes, numbered_table_bytes, gap_bytes, numbered_tries_bytes, numbered_head_bytes, unit_count, numbered_item_bytes, numbered_code_bytes, numbered_tries_weight, numbered_code_weight}
 
 -- ---- units
 
@@ -16,9 +13,7 @@ units_length ps = length_rows ushort 2 length-ushort (flat_map numbered_units ps
 -- ---- tries
 
 try_length : (hs : List NumberedHandler) (t : NumberedTry) → length (numbered_try_bytes hs t) ≡ 8
-try_length hs t =
-    let off = numbered_handler_off (length (uleb128 (length hs))) hs t.handler in
-    omega (arith, length-append (uint t.start_addr) (ushort t.insn_count ++ ushort off), length-append (ushort t.insn_count) (ushort off), length-uint t.start_addr, length-ushort t.insn_count, length-ushort off)
+try_length hs t = let off = numbered_handler_off (length (uleb128 (length hs))) hs t.handler in omega (arith, length-append {A = ℕ}, length-uint t.start_addr, length-ushort t.insn_count, length-ushort off)
 
 pub tries_length : (hs : List NumberedHandler) (ts : List NumberedTry) → length (flat_map (numbered_try_bytes hs) ts) ≡ 8 * length ts
 tries_length hs = length_rows (numbered_try_bytes hs) 8 (try_length hs)
@@ -37,15 +32,12 @@ three false false = omega arith
 
 -- a number of 16 bits has three bytes at most
 short_length : (v : ℕ) → v < 0x10000 → length (uleb128 v) ≤ 3
-short_length v lt =
-    let size : size_u v ≤ 3 = rw (lt-ltb v 0x200000 (omega (arith, lt))) (three (nat_lt v 0x80) (nat_lt v 0x4000)) in
-    omega (arith, length-groups (size_u v) v, size)
+short_length v lt = let size : size_u v ≤ 3 = rw (lt-ltb v 0x200000 (omega (arith, lt))) (three (nat_lt v 0x80) (nat_lt v 0x4000)) in omega (arith, length-groups (size_u v) v, size)
 
 catches_length : (cs : List Catch) → All (λ c. c.typ < 2 ^ 16) cs → length (flat_map numbered_catch_bytes cs) ≤ 8 * length cs
 catches_length [] all = omega arith
 catches_length (c ∷ cs) all =
-    let small = All-head (λ (c : Catch). c.typ < 2 ^ 16) c cs all in
-    omega (arith, length-append (numbered_catch_bytes c) (flat_map numbered_catch_bytes cs), length-append (uleb128 c.typ) (uleb128 c.addr), short_length c.typ small, uleb128-size c.addr, catches_length cs (All-tail (λ (c : Catch). c.typ < 2 ^ 16) c cs all))
+    omega (arith, length-append {A = ℕ}, short_length c.typ (All-head (λ (c : Catch). c.typ < 2 ^ 16) c cs all), uleb128-size c.addr, catches_length cs (All-tail (λ (c : Catch). c.typ < 2 ^ 16) c cs all))
 
 catch_all_length : (o : Option ℕ) → length (flat_map uleb128 (option_to_list o)) ≤ 5
 catch_all_length None = omega arith
@@ -54,13 +46,10 @@ catch_all_length (Some address) = omega (arith, length-append (uleb128 address) 
 -- a handler has no more than ten bytes for each catch and ten
 catches_most : (cs : List Catch) → length (flat_map numbered_catch_bytes cs) ≤ 10 * length cs
 catches_most [] = omega arith
-catches_most (c ∷ cs) = omega (arith, length-append (numbered_catch_bytes c) (flat_map numbered_catch_bytes cs), length-append (uleb128 c.typ) (uleb128 c.addr), uleb128-size c.typ, uleb128-size c.addr, catches_most cs)
+catches_most (c ∷ cs) = omega (arith, length-append {A = ℕ}, uleb128-size c.typ, uleb128-size c.addr, catches_most cs)
 
 pub handler_most : (h : NumberedHandler) → length (numbered_handler_bytes h) ≤ 10 + 10 * length h.catches
-handler_most h =
-    let catches = flat_map numbered_catch_bytes h.catches in
-    let all = flat_map uleb128 (option_to_list h.catch_all_addr) in
-    omega (arith, length-append (sleb128 (handler_count h)) (catches ++ all), length-append catches all, sleb128-size (handler_count h), catches_most h.catches, catch_all_length h.catch_all_addr)
+handler_most h = let all = flat_map uleb128 (option_to_list h.catch_all_addr) in omega (arith, length-append {A = ℕ}, sleb128-size (handler_count h), catches_most h.catches, catch_all_length h.catch_all_addr)
 
 handlers_most : (hs : List NumberedHandler) → 10 + length (flat_map numbered_handler_bytes hs) ≤ 2 * handlers_weight hs
 handlers_most [] = omega arith
@@ -71,9 +60,7 @@ list_most hs = omega (arith, length-append (uleb128 (length hs)) (flat_map numbe
 
 pub handler_length : (h : NumberedHandler) → HasShortTypes h → length (numbered_handler_bytes h) ≤ 10 + 8 * length h.catches
 handler_length h typed =
-    let catches = flat_map numbered_catch_bytes h.catches in
-    let all = flat_map uleb128 (option_to_list h.catch_all_addr) in
-    omega (arith, length-append (sleb128 (handler_count h)) (catches ++ all), length-append catches all, sleb128-size (handler_count h), catches_length h.catches typed, catch_all_length h.catch_all_addr)
+    let all = flat_map uleb128 (option_to_list h.catch_all_addr) in omega (arith, length-append {A = ℕ}, sleb128-size (handler_count h), catches_length h.catches typed, catch_all_length h.catch_all_addr)
 
 handlers_length : (hs : List NumberedHandler) → All HasShortTypes hs → 5 + length (flat_map numbered_handler_bytes hs) ≤ handlers_weight hs
 handlers_length [] typed = omega arith
@@ -85,57 +72,28 @@ list_length hs typed = omega (arith, length-append (uleb128 (length hs)) (flat_m
 
 -- ---- the whole
 
-gap_length : (count : ℕ) → length (gap_bytes count) ≤ 2
-gap_length count = if-size (count % 2 == 1) 2 (ushort 0) [] (omega (arith, length-ushort 0)) (omega arith)
-
 after_length : (count : ℕ) (ts : List NumberedTry) → All HasShortTypes (handlers_of ts) → length (numbered_tries_bytes count ts) ≤ 2 + numbered_tries_weight ts
 after_length count [] typed = omega arith
 after_length count (t ∷ ts) typed =
-    let hs = handlers_of (t ∷ ts) in
-    let tries = flat_map (numbered_try_bytes hs) (t ∷ ts) in
-    omega (arith, length-append (gap_bytes count) (tries ++ numbered_list_bytes hs), length-append tries (numbered_list_bytes hs), gap_length count, tries_length hs (t ∷ ts), list_length hs typed)
+    let hs = handlers_of (t ∷ ts) in omega (arith, length-append {A = ℕ}, if-size (count % 2 == 1) 2 (ushort 0) [] (omega (arith, length-ushort 0)) (omega arith), tries_length hs (t ∷ ts), list_length hs typed)
 
 pub head_length : (debug_off tries : ℕ) (c : NumberedCode) (units : ℕ) → length (numbered_head_bytes debug_off tries c units) ≡ 16
 head_length debug_off tries c units =
-    let x5 = uint debug_off ++ uint units in
-    let x4 = ushort tries ++ x5 in
-    let x3 = ushort c.outs ++ x4 in
-    let x2 = ushort c.ins ++ x3 in
-    omega (
-      arith,
-      length-append (ushort c.registers) x2,
-      length-append (ushort c.ins) x3,
-      length-append (ushort c.outs) x4,
-      length-append (ushort tries) x5,
-      length-append (uint debug_off) (uint units),
-      length-ushort c.registers,
-      length-ushort c.ins,
-      length-ushort c.outs,
-      length-ushort tries,
-      length-uint debug_off,
-      length-uint units,
-    )
+    let x3 = ushort c.outs ++ (ushort tries ++ (uint debug_off ++ uint units)) in omega (arith, length-append {A = ℕ}, length-ushort c.registers, length-ushort c.ins, length-ushort c.outs, length-ushort tries, length-uint debug_off, length-uint units)
 
 pub item_length : (debug_off : ℕ) (c : NumberedCode) (ts : List NumberedTry) → length (numbered_item_bytes debug_off c ts) ≡ 16 + 2 * unit_count c + length (numbered_tries_bytes (unit_count c) ts)
 unfolding numbered_item_bytes
-item_length debug_off c ts =
-    let head = numbered_head_bytes debug_off (length ts) c (unit_count c) in
-    let tries = numbered_tries_bytes (unit_count c) ts in
-    omega (arith, length-append head (numbered_bytes c.pieces ++ tries), length-append (numbered_bytes c.pieces) tries, head_length debug_off (length ts) c (unit_count c), units_length c.pieces)
+item_length debug_off c ts = let tries = numbered_tries_bytes (unit_count c) ts in omega (arith, length-append {A = ℕ}, head_length debug_off (length ts) c (unit_count c), units_length c.pieces)
 
 -- without tries there is nothing after the units
 pub item_alone : (debug_off : ℕ) (c : NumberedCode) (hs : List NumberedHandler) (ts : List Try) → ts ≡ [] → length (numbered_item_bytes debug_off c (all_named hs ts)) ≡ 16 + 2 * unit_count c
-item_alone debug_off c hs ts none =
-    let nothing : length (numbered_tries_bytes (unit_count c) (all_named hs ts)) ≡ 0 = ap (λ us. length (numbered_tries_bytes (unit_count c) (all_named hs us))) none in
-    omega (arith, item_length debug_off c (all_named hs ts), nothing)
+item_alone debug_off c hs ts none = omega (arith, item_length debug_off c (all_named hs ts), ap (λ us. length (numbered_tries_bytes (unit_count c) (all_named hs us))) none)
 
 -- with tries there are these and their list
 pub item_after : (debug_off : ℕ) (c : NumberedCode) (hs : List NumberedHandler) (ts : List Try) → AreStored hs ts → (ts ≡ [] → ⊥)
     → length (numbered_item_bytes debug_off c (all_named hs ts)) ≡ 16 + 2 * unit_count c + length (gap_bytes (unit_count c)) + 8 * length ts + length (numbered_list_bytes hs)
 item_after debug_off c hs ts stored some =
-    let us = all_named hs ts in
-    let parts = ap length (tries_parts (unit_count c) hs ts stored some) in
-    omega (arith, item_length debug_off c us, parts, length-append (gap_bytes (unit_count c)) (numbered_table_bytes hs us), length-append (flat_map (numbered_try_bytes hs) us) (numbered_list_bytes hs), tries_length hs us, length-map ts (named hs))
+    let us = all_named hs ts in omega (arith, item_length debug_off c us, ap length (tries_parts (unit_count c) hs ts stored some), length-append {A = ℕ}, tries_length hs us, length-map ts (named hs))
 
 -- with the bytes of its alignment it has no more than it weighs
 pub code_length : (debug_off : ℕ) (c : NumberedItem) → All HasShortTypes (handlers_of c.tries) → length (numbered_code_bytes debug_off c) + 3 ≤ numbered_code_weight c

@@ -1,11 +1,9 @@
 -- Code items of numbers: their bytes and their weight are those of the code that they denote.
-use Rattle.dexcode.proofs.Common.{◌≡◌, ℕ, ◌+◌, ◌%◌, ◌<◌, ◌==◌, if◌then◌else◌, List, [], ◌∷◌, ◌++◌, length, map, option_to_list, refl, ap, sym, ◌∙◌, arith, append_assoc, pos, ◌-ℤ◌, option_map_or, All, flat_map, All-head, All-tail, length-map, ushort, uint, uleb128, sleb128, text_cmp, Mentions, units_of, tries_weight, code_weight, Rises-from_rises, rank-get_or, text_total, AreRising, NumberedPiece, Denote, numbered_units, numbered_bytes}
+use Rattle.dexcode.proofs.Common.{◌≡◌, ℕ, ◌+◌, ◌%◌, ◌<◌, ◌==◌, if◌then◌else◌, List, [], ◌∷◌, ◌++◌, length, map, option_to_list, refl, ap, sym, ◌∙◌, arith, append_assoc, pos, ◌-ℤ◌, option_map_or, All, flat_map, All-head, All-tail, length-map, ushort, uint, uleb128, sleb128, text_cmp, Mentions, tries_weight, code_weight, Rises-from_rises, rank-get_or, text_total, AreRising, NumberedPiece, Denote, numbered_units, numbered_bytes, Catch, NumberedHandler, NumberedTry, NumberedItem, catch_meant, handler_meant, try_meant, same_handler, handlers_of, DenotesCode, numbered_catch_bytes, handler_count, numbered_handler_bytes, numbered_handler_off, numbered_try_bytes, numbered_list_bytes, numbered_table_bytes, numbered_tries_bytes, unit_count, numbered_item_bytes, numbered_code_bytes, numbered_tries_weight, numbered_code_weight}
 use Rattle.dexspec.specs.Code as symbolic
 use Rattle.dexspec.specs.Pieces as pieces
 use Rattle.dexspec.specs.Spellings as spelled
 use Rattle.dexspec.proofs.size.SizeCode.{length-units}
-use Rattle.dexcode.specs.declared.handlers.Catch.{Catch}
-use Rattle.dexcode.specs.{NumberedHandler, NumberedTry, NumberedItem, catch_meant, handler_meant, try_meant, same_handler, handlers_of, DenotesCode, numbered_catch_bytes, handler_count, numbered_handler_bytes, numbered_handler_off, numbered_try_bytes, numbered_list_bytes, numbered_table_bytes, numbered_tries_bytes, unit_count, numbered_item_bytes, numbered_code_bytes, numbered_tries_weight, numbered_code_weight}
 use Rattle.dexcode.proofs.TryRows.{IsInRange, same_meant, handlers_meant, weight_meant}
 use Rattle.dexcode.proofs.Images.{all_back_map, all_distinct, flat_mapped}
 use Rattle.dexcode.proofs.Meanings.{tries_mean, tries_in_range}
@@ -23,10 +21,7 @@ module _ (m : Mentions) (rising : AreRising m) where
   count_is h = ap (λ (n : ℕ). option_map_or (λ address. pos 0 -ℤ pos n) h.catch_all_addr (pos n)) (length-map h.catches (catch_meant m))
 
   handler_bytes_are : (h : NumberedHandler) → IsInRange m h → spelled.handler_bytes m (handler_meant m h) ≡ numbered_handler_bytes h
-  handler_bytes_are h all =
-      let count = count_is h in
-      let catches = catches_bytes_are h.catches all in
-      λ i. sleb128 (count i) ++ (catches i ++ flat_map uleb128 (option_to_list h.catch_all_addr))
+  handler_bytes_are h all = λ i. sleb128 ((count_is h) i) ++ ((catches_bytes_are h.catches all) i ++ flat_map uleb128 (option_to_list h.catch_all_addr))
 
   handlers_bytes_are : (hs : List NumberedHandler) → All (IsInRange m) hs → flat_map (spelled.handler_bytes m) (map (handler_meant m) hs) ≡ flat_map numbered_handler_bytes hs
   handlers_bytes_are = flat_mapped (IsInRange m) (spelled.handler_bytes m) (handler_meant m) numbered_handler_bytes handler_bytes_are
@@ -35,18 +30,12 @@ module _ (m : Mentions) (rising : AreRising m) where
   off_is from [] h all own = refl
   off_is from (k ∷ ks) h all own =
       let range = All-head (IsInRange m) k ks all in
-      let same = same_meant m rising k h range own in
-      let bytes = handler_bytes_are k range in
-      let rest = off_is (from + length (numbered_handler_bytes k)) ks h (All-tail (IsInRange m) k ks all) own in
       let step : spelled.handler_off m (from + length (spelled.handler_bytes m (handler_meant m k))) (map (handler_meant m) ks) (handler_meant m h) ≡ spelled.handler_off m (from + length (numbered_handler_bytes k)) (map (handler_meant m) ks) (handler_meant m h) =
-      ap (λ (bs : List ℕ). spelled.handler_off m (from + length bs) (map (handler_meant m) ks) (handler_meant m h)) bytes in
-      λ i. if same i then from else (step ∙ rest) i
+      ap (λ (bs : List ℕ). spelled.handler_off m (from + length bs) (map (handler_meant m) ks) (handler_meant m h)) (handler_bytes_are k range) in
+      λ i. if (same_meant m rising k h range own) i then from else (step ∙ (off_is (from + length (numbered_handler_bytes k)) ks h (All-tail (IsInRange m) k ks all) own)) i
 
   list_bytes_are : (hs : List NumberedHandler) → All (IsInRange m) hs → spelled.handler_list_bytes m (map (handler_meant m) hs) ≡ numbered_list_bytes hs
-  list_bytes_are hs all =
-      let count = length-map hs (handler_meant m) in
-      let handlers = handlers_bytes_are hs all in
-      λ i. uleb128 (count i) ++ handlers i
+  list_bytes_are hs all = λ i. uleb128 ((length-map hs (handler_meant m)) i) ++ (handlers_bytes_are hs all) i
 
   try_bytes_are : (hs : List NumberedHandler) (t : NumberedTry) → All (IsInRange m) hs → IsInRange m t.handler → spelled.try_bytes m (map (handler_meant m) hs) (try_meant m t) ≡ numbered_try_bytes hs t
   try_bytes_are hs t all own =
@@ -64,11 +53,8 @@ module _ (m : Mentions) (rising : AreRising m) where
       → flat_map (spelled.try_bytes m (symbolic.handlers_of (map (try_meant m) ts))) (map (try_meant m) ts) ++ spelled.handler_list_bytes m (symbolic.handlers_of (map (try_meant m) ts)) ≡ numbered_table_bytes (handlers_of ts) ts
   table_bytes_are ts all =
       let hs = handlers_of ts in
-      let named = handlers_meant m rising ts all in
       let range = handlers_in_range ts all in
-      let tries = all_try_bytes_are hs ts range all in
-      let list = list_bytes_are hs range in
-      ap (λ gs. flat_map (spelled.try_bytes m gs) (map (try_meant m) ts) ++ spelled.handler_list_bytes m gs) named ∙ (λ i. tries i ++ list i)
+      ap (λ gs. flat_map (spelled.try_bytes m gs) (map (try_meant m) ts) ++ spelled.handler_list_bytes m gs) (handlers_meant m rising ts all) ∙ (λ i. (all_try_bytes_are hs ts range all) i ++ (list_bytes_are hs range) i)
 
   pub tries_bytes_are : (count : ℕ) (ts : List NumberedTry) → All (IsInRange m) (map (λ t. t.handler) ts) → spelled.tries_bytes m count (map (try_meant m) ts) ≡ numbered_tries_bytes count ts
   tries_bytes_are count [] all = refl
@@ -76,10 +62,7 @@ module _ (m : Mentions) (rising : AreRising m) where
 
   pub tries_weigh : (ts : List NumberedTry) → All (IsInRange m) (map (λ t. t.handler) ts) → tries_weight (map (try_meant m) ts) ≡ numbered_tries_weight ts
   tries_weigh [] all = refl
-  tries_weigh (t ∷ ts) all =
-      let hs = handlers_of (t ∷ ts) in
-      let named = ap symbolic.handlers_weight (handlers_meant m rising (t ∷ ts) all) ∙ weight_meant m hs in
-      omega (arith, named, length-map ts (try_meant m))
+  tries_weigh (t ∷ ts) all = omega (arith, ap symbolic.handlers_weight (handlers_meant m rising (t ∷ ts) all) ∙ weight_meant m (handlers_of (t ∷ ts)), length-map ts (try_meant m))
 
 -- ---- the whole
 
@@ -90,29 +73,19 @@ pub code_bytes_are : UnitsLaw → (m : Mentions) (debug_off : ℕ) (c : Numbered
 unfolding numbered_item_bytes numbered_bytes spelled.code_bytes
 code_bytes_are law m debug_off c x rising h =
     let units = law m c.body.pieces x.pieces rising h.pieces_are in
-    let registers = h.registers_are in
-    let ins = h.ins_are in
-    let outs = h.outs_are in
     let all = tries_in_range m c.tries x.tries h.tries_are in
     let meant = sym (tries_mean m c.tries x.tries h.tries_are) in
     let count : length c.tries ≡ length x.tries = sym (length-map c.tries (try_meant m)) ∙ ap length meant in
     let tries : numbered_tries_bytes (unit_count c.body) c.tries ≡ spelled.tries_bytes m (length (flat_map (spelled.piece_units m) x.pieces)) x.tries =
     sym (tries_bytes_are m rising (unit_count c.body) c.tries all) ∙ (λ i. spelled.tries_bytes m (length (units i)) (meant i)) in
-    let following = flat_map ushort (flat_map numbered_units c.body.pieces) ++ numbered_tries_bytes (unit_count c.body) c.tries in
-    joined (ushort c.body.registers) (ushort c.body.ins) (ushort c.body.outs) (ushort (length c.tries)) (uint debug_off) (uint (unit_count c.body)) following
-    ∙ (λ i. ushort (registers i) ++ (ushort (ins i) ++ (ushort (outs i) ++ (ushort (count i) ++ (uint debug_off ++ (uint (length (units i)) ++ (flat_map ushort (units i) ++ tries i)))))))
+    joined (ushort c.body.registers) (ushort c.body.ins) (ushort c.body.outs) (ushort (length c.tries)) (uint debug_off) (uint (unit_count c.body)) (flat_map ushort (flat_map numbered_units c.body.pieces) ++ numbered_tries_bytes (unit_count c.body) c.tries)
+    ∙ (λ i. ushort (h.registers_are i) ++ (ushort (h.ins_are i) ++ (ushort (h.outs_are i) ++ (ushort (count i) ++ (uint debug_off ++ (uint (length (units i)) ++ (flat_map ushort (units i) ++ tries i)))))))
   where
     joined : (a b c d e f g : List ℕ) → (a ++ (b ++ (c ++ (d ++ (e ++ f))))) ++ g ≡ a ++ (b ++ (c ++ (d ++ (e ++ (f ++ g)))))
     joined a b c d e f g =
-        append_assoc a (b ++ (c ++ (d ++ (e ++ f)))) g
-        ∙ ap (λ (xs : List ℕ). a ++ xs) (append_assoc b (c ++ (d ++ (e ++ f))) g)
-        ∙ ap (λ (xs : List ℕ). a ++ (b ++ xs)) (append_assoc c (d ++ (e ++ f)) g)
-        ∙ ap (λ (xs : List ℕ). a ++ (b ++ (c ++ xs))) (append_assoc d (e ++ f) g)
-        ∙ ap (λ (xs : List ℕ). a ++ (b ++ (c ++ (d ++ xs)))) (append_assoc e f g)
+        append_assoc a (b ++ (c ++ (d ++ (e ++ f)))) g ∙ ap (λ (xs : List ℕ). a ++ xs) (append_assoc b (c ++ (d ++ (e ++ f))) g) ∙ ap (λ (xs : List ℕ). a ++ (b ++ xs)) (append_assoc c (d ++ (e ++ f)) g)
+        ∙ ap (λ (xs : List ℕ). a ++ (b ++ (c ++ xs))) (append_assoc d (e ++ f) g) ∙ ap (λ (xs : List ℕ). a ++ (b ++ (c ++ (d ++ xs)))) (append_assoc e f g)
 
 pub code_weighs : UnitsLaw → (m : Mentions) (c : NumberedItem) (x : symbolic.Code) → AreRising m → DenotesCode m c x → numbered_code_weight c ≡ code_weight x
 code_weighs law m c x rising h =
-    let units : unit_count c.body ≡ length (flat_map units_of x.pieces) = ap length (law m c.body.pieces x.pieces rising h.pieces_are) ∙ length-units m x.pieces in
-    let all = tries_in_range m c.tries x.tries h.tries_are in
-    let tries : numbered_tries_weight c.tries ≡ tries_weight x.tries = sym (tries_weigh m rising c.tries all) ∙ ap tries_weight (sym (tries_mean m c.tries x.tries h.tries_are)) in
-    omega (arith, units, tries)
+    omega (arith, ap length (law m c.body.pieces x.pieces rising h.pieces_are) ∙ length-units m x.pieces, sym (tries_weigh m rising c.tries (tries_in_range m c.tries x.tries h.tries_are)) ∙ ap tries_weight (sym (tries_mean m c.tries x.tries h.tries_are)))

@@ -1,6 +1,5 @@
 -- The symbols of a code item, part by part.
-use Rattle.dexcode.proofs.Common.{◌≡◌, List, [], ◌∷◌, ◌++◌, Option, Some, None, option_to_list, refl, sym, subst, All, FoldsTo, flat_map, append-nil, All-nil, All-append, All-head, All-tail, Use, uses_of, NumberedDebug, debug_uses, all_prefix, all_back, visited_both}
-use Rattle.dexcode.specs.{NumberedItem, tries_uses, item_uses}
+use Rattle.dexcode.proofs.Common.{◌≡◌, List, [], ◌∷◌, ◌++◌, Option, Some, None, option_to_list, refl, sym, subst, All, FoldsTo, flat_map, append-nil, All-nil, All-append, All-head, All-tail, Use, uses_of, NumberedDebug, debug_uses, all_prefix, all_back, visited_both, NumberedItem, tries_uses, item_uses}
 
 -- what holds of all that each member gives holds of all together
 pub all_flat : {X : Type 0} (P : X → Type 0) (Q : Use → Type 0) (f : X → List Use) (xs : List X) → ((x : X) → P x → All Q (f x)) → All P xs → All Q (flat_map f xs)

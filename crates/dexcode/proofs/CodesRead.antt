@@ -1,11 +1,13 @@
 -- Code items read: what is at the offset, and which condition fails.
-use Rattle.dexcode.proofs.Common.{◌≡◌, ◌≢◌, ℕ, ◌+◌, ◌*◌, ◌%◌, Bool, false, List, [], length, map, get_or, Option, Some, None, refl, ap, sym, subst, ◌∙◌, inl, inr, arith, pos, All, All-nil, uint_at, ushort_at, Mentions, Cut, Piece, is_instruction_start, DebugAt, code_units, PiecesAt, RegistersAt, ItemFault, Refused, Memory, ArePools, AreRising, NumberedCode, ArePiecesAt, AreStartsAt, NumberedDebug, IsDebugAt}
+use Rattle.dexcode.proofs.Common.{◌≡◌, ◌≢◌, ℕ, ◌+◌, ◌*◌, ◌%◌, Bool, false, List, [], length, map, get_or, Option, Some, None, refl, ap, sym, subst, ◌∙◌, inl, inr, arith, pos, All, All-nil, uint_at, ushort_at, Mentions, Cut, Piece, is_instruction_start, DebugAt, code_units, PiecesAt, RegistersAt, ItemFault, Refused, Memory, ArePools, AreRising, NumberedCode, ArePiecesAt, AreStartsAt, NumberedDebug, IsDebugAt, NumberedTry, try_meant, TryItemsAt, TriesAt, IsTriesFault, IsCodeAt, IsCodeFault, IsDebugOf, Result, Ok, Err, IfOk, IfErr, sum_by-cons, Code, code_weight, debug_weight, NumberedPiece, IsDebugFault, HasCodeOf, HasProgramOf, HaveTriesOf, IsProgramFault, numbered_code_weight, NumberedItem, DenotesCode}
 use Rattle.dexspec.specs.Code as whole
 use Rattle.dexspec.proofs.wellformed.FormedRows.{length-ushorts_at}
-use Rattle.dexcode.specs.{NumberedTry, try_meant, TryItemsAt, TriesAt, IsTriesFault, IsCodeAt, IsCodeFault}
-use Rattle.dexcode.specs.internal.Extras.{IsDebugOf}
 use Rattle.dexcode.proofs.Meanings.{tries_encoded}
 use Rattle.dexcode.proofs.TryRows.{IsInRange, items_found, items_back, items_in_range}
+use Rattle.dexinsn.specs.declared.shape.PiecesShape.{PiecesShape}
+use Rattle.dexinsn.specs.Checking.{HasPiecesOf}
+use Rattle.dexdebug.specs.Checking.{HasDebugAt}
+use Rattle.dexcode.proofs.CodeSizes.{units_length}
 
 -- ---- tries, by the number of units
 
@@ -64,23 +66,13 @@ pub no_debug : (b : List ℕ) (off : ℕ) (m : Mentions) → uint_at b (off + 8)
 no_debug b off m zero = record { program = None; at = inl (zero, refl); encodes = tt }
 
 pub some_debug : (b : List ℕ) (off debug_off : ℕ) (m : Mentions) (d : NumberedDebug) → debug_off ≡ uint_at b (off + 8) → (debug_off ≡ 0 → ⊥) → IsDebugAt b debug_off m d → IsDebugOf b off m (Some d)
-some_debug b off debug_off m d is some h = record {
-  program = Some h.program;
-  at = inr ((λ e. some (is ∙ e)), subst (λ (o : ℕ). DebugAt b o h.program) is h.at);
-  encodes = h.encodes;
-}
+some_debug b off debug_off m d is some h = record { program = Some h.program; at = inr ((λ e. some (is ∙ e)), subst (λ (o : ℕ). DebugAt b o h.program) is h.at); encodes = h.encodes }
 
 pub code_found : (b : List ℕ) (off : ℕ) (m : Mentions) → ArePools b m → AreRising m → (starts : List Bool) → AreStartsAt b off starts → (body : NumberedCode) → RegistersAt b off body.registers body.ins body.outs → ArePiecesAt b off m body.pieces
     → (ts : List NumberedTry) → TriesAt starts (length m.types) b off ts → (d : Option NumberedDebug) → IsDebugOf b off m d → IsCodeAt b off m (record { body = body; tries = ts; debug = d })
 code_found b off m pools rising starts starts_are body registers pieces ts tries d debug = record {
   symbolic = record { registers = body.registers; ins = body.ins; outs = body.outs; pieces = pieces.symbolic; tries = map (try_meant m) ts; debug = debug.program };
-  at = record {
-    registers = registers;
-    cuts = pieces.cuts;
-    pieces = pieces.at;
-    tries = tries_found b off m pools rising starts starts_are pieces.cuts pieces.symbolic pieces.at ts tries;
-    debug = debug.at;
-  };
+  at = record { registers = registers; cuts = pieces.cuts; pieces = pieces.at; tries = tries_found b off m pools rising starts starts_are pieces.cuts pieces.symbolic pieces.at ts tries; debug = debug.at };
   encodes = record {
     registers_are = refl;
     ins_are = refl;
@@ -100,3 +92,54 @@ tries_fault b off m pools rising starts starts_are body pieces (Refused number) 
       λ cuts ps tries at there. let back = tries_back b off m pools rising starts starts_are cuts ps at tries there in h.1 back.0 back.1,
     ))
 tries_fault b off m pools rising starts starts_are body pieces Memory h = tt
+
+-- ---- Code items checked: what is at the offset and what it weighs, and which condition fails
+
+-- a numbered code item weighs as much as the code that it denotes
+abbrev pub WeightLaw : Type 0
+WeightLaw = (m : Mentions) (c : NumberedItem) (x : Code) → AreRising m → DenotesCode m c x → numbered_code_weight c ≡ code_weight x
+
+-- the code_item at an offset weighs what its parts weigh
+pub code_weighed : WeightLaw → (b : List ℕ) (off : ℕ) (m : Mentions) → ArePools b m → AreRising m → (starts : List Bool) → AreStartsAt b off starts → (s : PiecesShape) → HasPiecesOf b off m s
+    → (tries program : ℕ) → HaveTriesOf starts (length m.types) b off tries → HasProgramOf b off program → HasCodeOf b off (24 + 2 * s.units + tries + program)
+code_weighed law b off m pools rising starts starts_are s pieces tries program ts d =
+    let item : NumberedItem = record { body = record { registers = s.registers; ins = s.ins; outs = s.outs; pieces = pieces.pieces }; tries = ts.tries; debug = None } in
+    let unindexed : Code = record { registers = s.registers; ins = s.ins; outs = s.outs; pieces = pieces.at.symbolic; tries = map (try_meant m) ts.tries; debug = None } in
+    let encodes : DenotesCode m item unindexed = record {
+      registers_are = refl;
+      ins_are = refl;
+      outs_are = refl;
+      pieces_are = pieces.at.are_encoded;
+      tries_are = tries_encoded m ts.tries (tries_range b off m pools rising starts starts_are pieces.at.cuts pieces.at.symbolic pieces.at.at ts.tries ts.at);
+      debug_is = tt;
+    } in
+    record {
+      code = record { registers = s.registers; ins = s.ins; outs = s.outs; pieces = pieces.at.symbolic; tries = map (try_meant m) ts.tries; debug = d.program };
+      at = record { registers = pieces.registers; cuts = pieces.at.cuts; pieces = pieces.at.at; tries = tries_found b off m pools rising starts starts_are pieces.at.cuts pieces.at.symbolic pieces.at.at ts.tries ts.at; debug = d.at };
+      weighs = omega (arith, law m item unindexed rising encodes, units_length pieces.pieces, pieces.units, ts.weighs, d.weighs);
+    }
+
+-- where there are pieces and no debug program, there is no code
+pub program_fault : {b : List ℕ} {off : ℕ} {m : Mentions} {ps : List NumberedPiece} → ArePiecesAt b off m ps → (fault : ItemFault) → IsProgramFault b off fault → IsCodeFault b off fault
+program_fault pieces (Refused number) h = inr (inr (h.0, record { cuts = pieces.cuts; pieces = pieces.symbolic; at = pieces.at }, h.1, h.2))
+program_fault pieces Memory h = tt
+
+-- the debug program at the offset is that of the code_item
+pub program_found : (b : List ℕ) (off debug_off weight : ℕ) → debug_off ≡ uint_at b (off + 8) → (debug_off ≡ 0 → ⊥) → HasDebugAt b debug_off weight → HasProgramOf b off weight
+program_found b off debug_off weight is some h = record { program = Some h.program; at = inr ((λ e. some (is ∙ e)), subst (λ (o : ℕ). DebugAt b o h.program) is h.at); weighs = omega (arith, sum_by-cons debug_weight h.program [], h.weighs); light = h.light }
+
+-- if there is none at the offset, the code_item has none
+pub no_program : (b : List ℕ) (off debug_off : ℕ) → debug_off ≡ uint_at b (off + 8) → (debug_off ≡ 0 → ⊥) → (fault : ItemFault) → IsDebugFault b debug_off fault → IsProgramFault b off fault
+no_program b off debug_off is some (Refused number) h = (h.0, (λ e. some (is ∙ e)), λ d at. h.1 d (subst (λ (o : ℕ). DebugAt b o d) (sym is) at))
+no_program b off debug_off is some Memory h = tt
+
+-- the same of what a check returns
+pub if_program_found : (b : List ℕ) (off debug_off : ℕ) → debug_off ≡ uint_at b (off + 8) → (debug_off ≡ 0 → ⊥) → (r : Result ℕ ItemFault) → IfOk r (HasDebugAt b debug_off) → IfOk r (HasProgramOf b off)
+if_program_found b off debug_off is some (Ok weight) h = program_found b off debug_off weight is some h
+if_program_found b off debug_off is some (Err fault) h = tt
+
+pub if_no_program : (b : List ℕ) (off debug_off : ℕ) → debug_off ≡ uint_at b (off + 8) → (debug_off ≡ 0 → ⊥) → (r : Result ℕ ItemFault) → IfErr r (IsDebugFault b debug_off) → IfErr r (IsProgramFault b off)
+if_no_program b off debug_off is some (Ok weight) h = tt
+if_no_program b off debug_off is some (Err fault) h = no_program b off debug_off is some fault h
+
+-- ---- numbers by offsets

@@ -1,8 +1,6 @@
 -- Handlers of a list: what those before a place weigh, and where each begins.
-use Rattle.dexcode.proofs.Common.{◌≡◌, ℕ, zero, suc, ◌+◌, ◌*◌, ◌^◌, ◌<◌, ◌≤◌, Bool, List, [], ◌∷◌, ◌++◌, length, map, take, get_or, refl, ap, sym, subst, ◌∙◌, if◌then◌else◌, arith, length-append, All, flat_map, false_from_ne_true, sum_by-cons, sum_by_more, AreDistinct, ushort, uint, uleb128, Mentions, distinct_once, all_of}
+use Rattle.dexcode.proofs.Common.{◌≡◌, ℕ, zero, suc, ◌+◌, ◌*◌, ◌^◌, ◌<◌, ◌≤◌, Bool, List, [], ◌∷◌, ◌++◌, length, map, take, get_or, refl, ap, sym, subst, ◌∙◌, if◌then◌else◌, arith, length-append, All, flat_map, false_from_ne_true, sum_by-cons, sum_by_more, AreDistinct, ushort, uint, uleb128, Mentions, distinct_once, all_of, Try, handler_decides, NumberedHandler, NumberedTry, no_handler, same_handler, handlers_of, handlers_weight, named, all_named, AreStored, HasShortTypes, ArePlaces, numbered_handler_bytes, numbered_handler_off, numbered_try_bytes, place_of, placed_try_bytes}
 use Rattle.std.proofs.lemmas.List.Concat.{length-flat_map}
-use Rattle.dexcode.specs.declared.tries.Try.{Try}
-use Rattle.dexcode.specs.{handler_decides, NumberedHandler, NumberedTry, no_handler, same_handler, handlers_of, handlers_weight, named, all_named, AreStored, HasShortTypes, ArePlaces, numbered_handler_bytes, numbered_handler_off, numbered_try_bytes, place_of, placed_try_bytes}
 use Rattle.dexcode.proofs.Images.{all_distinct, flat_mapped}
 use Rattle.dexcode.proofs.TryRows.{IsInRange}
 
@@ -33,25 +31,17 @@ place_more hs i d n k lt h g =
 off_at : (from : ℕ) (hs : List NumberedHandler) (i : ℕ) (d : NumberedHandler) → AreDistinct hs → i < length hs → numbered_handler_off from hs (get_or hs i d) ≡ from + length (flat_map numbered_handler_bytes (take i hs))
 off_at from [] i d apart lt = absurd (omega (arith, lt))
 off_at from (h ∷ hs) zero d apart lt =
-    let same = (handler_decides h h).1 refl in
-    let end : from ≡ from + 0 = omega arith in
-    ap (λ (b : Bool). if b then from else numbered_handler_off (from + length (numbered_handler_bytes h)) hs h) same ∙ end
+    let end : from ≡ from + 0 = omega arith in ap (λ (b : Bool). if b then from else numbered_handler_off (from + length (numbered_handler_bytes h)) hs h) ((handler_decides h h).1 refl) ∙ end
 off_at from (h ∷ hs) (suc i) d apart lt =
     let other = false_from_ne_true (same_handler h (get_or hs i d)) (λ e. apart 0 (suc i) d (omega arith) lt ((handler_decides h (get_or hs i d)).0 e)) in
-    let rest = off_at (from + length (numbered_handler_bytes h)) hs i d (λ j k z less within. apart (suc j) (suc k) z (omega (arith, less)) (omega (arith, within))) (omega (arith, lt)) in
     let skipped : numbered_handler_off from (h ∷ hs) (get_or hs i d) ≡ numbered_handler_off (from + length (numbered_handler_bytes h)) hs (get_or hs i d) = ap (λ (b : Bool). if b then from else numbered_handler_off (from + length (numbered_handler_bytes h)) hs (get_or hs i d)) other in
-    omega (arith, skipped, rest, length-append (numbered_handler_bytes h) (flat_map numbered_handler_bytes (take i hs)))
+    omega (arith, skipped, (off_at (from + length (numbered_handler_bytes h)) hs i d (λ j k z less within. apart (suc j) (suc k) z (omega (arith, less)) (omega (arith, within))) (omega (arith, lt))), length-append (numbered_handler_bytes h) (flat_map numbered_handler_bytes (take i hs)))
 
 -- ---- tries with the places of their handlers
 
-try_placed : (hs : List NumberedHandler) (places : List ℕ) (t : Try) → AreDistinct hs → ArePlaces hs places → t.handler < length hs → placed_try_bytes places t ≡ numbered_try_bytes hs (named hs t)
-try_placed hs places t apart are lt =
-    let off = are.each t.handler lt ∙ sym (off_at (length (uleb128 (length hs))) hs t.handler no_handler apart lt) in
-    ap (λ (n : ℕ). uint t.start_addr ++ (ushort t.insn_count ++ ushort n)) off
-
 pub tries_placed : (hs : List NumberedHandler) (places : List ℕ) (ts : List Try) → AreDistinct hs → ArePlaces hs places → All (λ t. t.handler < length hs) ts → flat_map (placed_try_bytes places) ts ≡ flat_map (numbered_try_bytes hs) (all_named hs ts)
 tries_placed hs places ts apart are all =
-    sym (flat_mapped (λ t. t.handler < length hs) (numbered_try_bytes hs) (named hs) (placed_try_bytes places) (λ t lt. sym (try_placed hs places t apart are lt)) ts all)
+    sym (flat_mapped (λ t. t.handler < length hs) (numbered_try_bytes hs) (named hs) (placed_try_bytes places) (λ t lt. sym (ap (λ (n : ℕ). uint t.start_addr ++ (ushort t.insn_count ++ ushort n)) (are.each t.handler lt ∙ sym (off_at (length (uleb128 (length hs))) hs t.handler no_handler apart lt)))) ts all)
 
 -- handlers that are stored are listed once
 pub stored_apart : (hs : List NumberedHandler) (ts : List Try) → AreStored hs ts → AreDistinct hs

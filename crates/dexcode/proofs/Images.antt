@@ -11,10 +11,7 @@ seq_map At Bt f b each o (x ∷ xs) n h = (h.0, h.1, each o x h.0 h.2, seq_map A
 -- and back
 pub seq_back : {X Y : Type 0} (At : Item X) (Bt : Item Y) (f : X → Y) (b : List ℕ) → ((o : ℕ) (y : Y) (n : ℕ) → Bt b o y n → (x : X) × At b o x n × (f x ≡ y)) → (o : ℕ) (ys : List Y) (n : ℕ) → Sequence Bt b o ys n → (xs : List X) × Sequence At b o xs n × (map f xs ≡ ys)
 seq_back At Bt f b each o [] n h = ([], h, refl)
-seq_back At Bt f b each o (y ∷ ys) n h =
-    let first = each o y h.0 h.2 in
-    let rest = seq_back At Bt f b each (o + h.0) ys h.1 h.3 in
-    (first.0 ∷ rest.0, (h.0, h.1, first.1, rest.1, h.4), λ i. first.2 i ∷ rest.2 i)
+seq_back At Bt f b each o (y ∷ ys) n h = let first = each o y h.0 h.2 in let rest = seq_back At Bt f b each (o + h.0) ys h.1 h.3 in (first.0 ∷ rest.0, (h.0, h.1, first.1, rest.1, h.4), λ i. first.2 i ∷ rest.2 i)
 
 -- the first items of a sequence are one
 pub seq_take : {X : Type 0} (At : Item X) (b : List ℕ) (o : ℕ) (xs : List X) (n i : ℕ) → Sequence At b o xs n → (k : ℕ) × Sequence At b o (take i xs) k

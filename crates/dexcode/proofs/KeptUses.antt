@@ -25,8 +25,7 @@ module _ {X : Type 0} (R : X → X → Ordering) (o : IsTotalOrder R) (exact : I
       let lt : i < length xs = omega (arith, count, mark_within ms i mark) in
       let d = some xs i lt in
       let x = get_or xs i d in
-      let there = among (symbol x) (Contains-map symbol (kept ms xs) x (kept_has ms xs i d mark lt)) in
-      some_or (image images i) (λ e. l.none i d lt e (in_order-has R o exact (flat_map parts ss) x (Contains-flat_map parts ss (symbol x) x there (itself_in x))))
+      some_or (image images i) (λ e. l.none i d lt e (in_order-has R o exact (flat_map parts ss) x (Contains-flat_map parts ss (symbol x) x (among (symbol x) (Contains-map symbol (kept ms xs) x (kept_has ms xs i d mark lt))) (itself_in x))))
 
 module _ (m : Mentions) (marks : Marks) (r : Maps) (are : AreMarksOf m marks) (l : AllMapTo m (closed (marked m marks)) r) where
   abbrev texts : List Symbol

@@ -3,8 +3,6 @@ pub mod Prefixes
 pub mod HandlersRead
 pub mod Listed
 pub mod Named
-pub mod OneHandler
-pub mod TriesListed
 pub mod TryTables
 pub mod Whole
 pub mod Images
@@ -20,4 +18,3 @@ pub mod HandlerPlaces
 pub mod CodeSizes
 pub mod Meanings
 pub mod MeaningRanked
-pub mod CodesChecked

@@ -1,11 +1,9 @@
 -- Numbers are the ranks of what they mean, so code of two numberings, mapped to a third, is the same there just where
 -- it means the same.
-use Rattle.dexcode.proofs.Common.{◌≡◌, ℕ, ◌<◌, [], length, map, Some, None, refl, ap, sym, ◌∙◌, ◌↔◌, option_map, rank, Symbol, TextSymbol, TypeSymbol, ProtoSymbol, FieldSymbol, MethodSymbol, proto_cmp, field_cmp, method_cmp, Mentions, Piece, SymbolKind, RanksAreNumbers, Maps, AllMapTo, count_of, NumberedPiece, Instruction, Payload, kind_in, debug_in, IsKnownDebug}
+use Rattle.dexcode.proofs.Common.{◌≡◌, ℕ, ◌<◌, [], length, map, Some, refl, ap, sym, ◌∙◌, ◌↔◌, option_map, rank, Symbol, TextSymbol, TypeSymbol, ProtoSymbol, FieldSymbol, MethodSymbol, proto_cmp, field_cmp, method_cmp, Mentions, Piece, SymbolKind, RanksAreNumbers, Maps, AllMapTo, count_of, NumberedPiece, Instruction, Payload, kind_in, debug_in, IsKnownDebug, Catch, symbol_at, piece_in, code_in, IsKnownPiece, IsKnownTry, IsKnownCode, NumberedTry, NumberedItem, catch_meant, try_meant, HasImages, renumbered_item}
 use Rattle.dexspec.specs.Pieces as pieces
 use Rattle.dexspec.specs.Code as symbolic
 use Rattle.dexpool.specs.declared.symbols.SymbolKind.TheVariants as kinds
-use Rattle.dexcode.specs.declared.handlers.Catch.{Catch}
-use Rattle.dexcode.specs.{symbol_at, piece_in, code_in, IsKnownPiece, IsKnownTry, IsKnownCode, NumberedTry, NumberedItem, catch_meant, try_meant, HasImages, renumbered_item}
 use Rattle.dexcode.proofs.CodeMeanings as codes_remapped
 use Rattle.dexcode.proofs.Meanings.{code_known, code_means, code_encoded}
 use Rattle.dexdebug.proofs.DebugRanked.{all_back, one_back, text_rank, type_rank, ranked_debug, debug_back}
@@ -31,11 +29,7 @@ module _ (m : Mentions) where
   ranked_try t = record { start_addr = t.start; insn_count = t.count; handler = record { catches = map ranked_catch t.handler.catches; catch_all_addr = t.handler.catch_all } }
 
   abbrev ranked_code : symbolic.Code → NumberedItem
-  ranked_code x = record {
-    body = record { registers = x.registers; ins = x.ins; outs = x.outs; pieces = map ranked_piece x.pieces };
-    tries = map ranked_try x.tries;
-    debug = option_map (ranked_debug m) x.debug;
-  }
+  ranked_code x = record { body = record { registers = x.registers; ins = x.ins; outs = x.outs; pieces = map ranked_piece x.pieces }; tries = map ranked_try x.tries; debug = option_map (ranked_debug m) x.debug }
 
 -- ---- the ranks are the numbers
 
@@ -48,27 +42,22 @@ module _ (m : Mentions) (ranks : RanksAreNumbers m) where
   symbol_back kinds.Method i lt = ranks.methods_are i (record { class = []; name = []; proto = record { return_type = []; parameters = [] } }) lt
 
   piece_back : (p : NumberedPiece) → IsKnownPiece m p → ranked_piece m (piece_in m p) ≡ p
-  piece_back (Instruction us None) h = refl
   piece_back (Instruction us (Some n)) h = ap (λ (i : ℕ). Instruction us (Some i)) (symbol_back (kind_in us) n h.1)
-  piece_back (Payload us) h = refl
+  piece_back _ h = refl
 
   catch_back : (c : Catch) → c.typ < length m.types → ranked_catch m (catch_meant m c) ≡ c
   catch_back c lt = let typ = ranks.types_are c.typ [] lt in λ i. record { typ = typ i; addr = c.addr }
 
   try_back : (t : NumberedTry) → IsKnownTry m t → ranked_try m (try_meant m t) ≡ t
   try_back t h =
-      let catches = all_back (catch_meant m) (ranked_catch m) (λ (c : Catch). c.typ < length m.types) catch_back t.handler.catches h in
-      λ i. record { start_addr = t.start_addr; insn_count = t.insn_count; handler = record { catches = catches i; catch_all_addr = t.handler.catch_all_addr } }
+      λ i. record { start_addr = t.start_addr; insn_count = t.insn_count; handler = record { catches = (all_back (catch_meant m) (ranked_catch m) (λ (c : Catch). c.typ < length m.types) catch_back t.handler.catches h) i; catch_all_addr = t.handler.catch_all_addr } }
 
   code_back : (c : NumberedItem) → IsKnownCode m c → ranked_code m (code_in m c) ≡ c
   code_back c h =
-      let ps = all_back (piece_in m) (ranked_piece m) (IsKnownPiece m) piece_back c.body.pieces h.pieces_known in
-      let tries = all_back (try_meant m) (ranked_try m) (IsKnownTry m) try_back c.tries h.tries_known in
-      let debug = one_back (debug_in m) (ranked_debug m) (IsKnownDebug m) (debug_back m ranks) c.debug h.debug_known in
       λ i. record {
-        body = record { registers = c.body.registers; ins = c.body.ins; outs = c.body.outs; pieces = ps i };
-        tries = tries i;
-        debug = debug i;
+        body = record { registers = c.body.registers; ins = c.body.ins; outs = c.body.outs; pieces = (all_back (piece_in m) (ranked_piece m) (IsKnownPiece m) piece_back c.body.pieces h.pieces_known) i };
+        tries = (all_back (try_meant m) (ranked_try m) (IsKnownTry m) try_back c.tries h.tries_known) i;
+        debug = (one_back (debug_in m) (ranked_debug m) (IsKnownDebug m) (debug_back m ranks) c.debug h.debug_known) i;
       }
 
 -- ---- other numbers

@@ -1,10 +1,8 @@
 -- What numbered code means, as a function.
-use Rattle.dexcode.proofs.Common.{◌≡◌, ℕ, ◌<◌, List, [], length, map, Option, Some, None, refl, ap, sym, subst, All, AllZip, IsSome, option_map_or, All-map, Pool, StringPool, TypePool, ProtoPool, FieldPool, MethodPool, Symbol, TextSymbol, TypeSymbol, ProtoSymbol, FieldSymbol, MethodSymbol, pool_of, Piece, index_pool, Mentions, SymbolKind, IsNumbered, count_of, NumberedPiece, Instruction, Payload, Denotes, kind_of_pool, DenotesDebug, debug_in, IsKnownDebug}
+use Rattle.dexcode.proofs.Common.{◌≡◌, ℕ, ◌<◌, List, [], length, map, Option, Some, None, refl, ap, sym, subst, All, AllZip, IsSome, option_map_or, All-map, Pool, StringPool, TypePool, ProtoPool, FieldPool, MethodPool, Symbol, TextSymbol, TypeSymbol, ProtoSymbol, FieldSymbol, MethodSymbol, pool_of, Piece, index_pool, Mentions, SymbolKind, IsNumbered, count_of, NumberedPiece, Instruction, Payload, Denotes, kind_of_pool, DenotesDebug, debug_in, IsKnownDebug, Catch, symbol_at, piece_in, code_in, IsKnownPiece, IsKnownTry, IsKnownCode, NumberedTry, NumberedItem, DenotesCatch, DenotesTry, DenotesCode, catch_meant, try_meant}
 use Rattle.dexspec.specs.Pieces as pieces
 use Rattle.dexspec.specs.Code as symbolic
 use Rattle.dexpool.specs.declared.symbols.SymbolKind.TheVariants as kinds
-use Rattle.dexcode.specs.declared.handlers.Catch.{Catch}
-use Rattle.dexcode.specs.{symbol_at, piece_in, code_in, IsKnownPiece, IsKnownTry, IsKnownCode, NumberedTry, NumberedItem, DenotesCatch, DenotesTry, DenotesCode, catch_meant, try_meant}
 use Rattle.dexdebug.proofs.MeaningDebug.{all_known, all_mean, all_encoded, one_known, one_means, one_encoded, at_place, debug_known, debug_means, debug_encoded}
 use Rattle.dexcode.proofs.TryRows.{IsInRange}
 use Rattle.dexcode.proofs.Images.{all_back_map}
@@ -48,44 +46,31 @@ module _ (m : Mentions) where
 
   piece_means : (p : NumberedPiece) (q : Piece) → Denotes m p q → q ≡ piece_in m p
   piece_means (Instruction us None) (pieces.Instruction xs None) h = ap (λ (vs : List ℕ). pieces.Instruction vs None) (sym h)
-  piece_means (Instruction us (Some n)) (pieces.Instruction xs (Some s)) h =
-      let named = index_named (index_pool us) n s h.1 h.2 in
-      λ i. pieces.Instruction (sym h.0 i) (Some (named.is i))
+  piece_means (Instruction us (Some n)) (pieces.Instruction xs (Some s)) h = λ i. pieces.Instruction (sym h.0 i) (Some ((index_named (index_pool us) n s h.1 h.2).is i))
   piece_means (Payload us) (pieces.Payload xs) h = ap pieces.Payload (sym h)
   piece_means _ _ h = absurd h
 
   piece_encoded : (p : NumberedPiece) → IsKnownPiece m p → Denotes m p (piece_in m p)
-  piece_encoded (Instruction us None) h = refl
   piece_encoded (Instruction us (Some n)) h = let encodes = symbol_encoded (index_pool us) n h.0 h.1 in (refl, encodes.0, encodes.1)
-  piece_encoded (Payload us) h = refl
+  piece_encoded _ h = refl
 
   -- ---- tries
 
   catch_means : (c : Catch) (x : symbolic.Catch) → DenotesCatch m c x → x ≡ catch_meant m c
-  catch_means c x h =
-      let typ = sym (h.type_is.is []) in
-      let address = sym h.address_is in
-      λ i. record { type = typ i; address = address i }
+  catch_means c x h = λ i. record { type = (sym (h.type_is.is [])) i; address = (sym h.address_is) i }
 
   try_known : (t : NumberedTry) (x : symbolic.Try) → DenotesTry m t x → IsKnownTry m t
   try_known t x h = all_known (DenotesCatch m) (λ (c : Catch). c.typ < length m.types) (catch_meant m) (λ c y e. e.type_is.within) t.handler.catches x.handler.catches h.handler_is.catches_are
 
   try_means : (t : NumberedTry) (x : symbolic.Try) → DenotesTry m t x → x ≡ try_meant m t
   try_means t x h =
-      let start = sym h.start_is in
-      let count = sym h.count_is in
-      let catches = all_mean (DenotesCatch m) (λ (c : Catch). c.typ < length m.types) (catch_meant m) catch_means t.handler.catches x.handler.catches h.handler_is.catches_are in
-      let all = sym h.handler_is.catch_all_is in
-      λ i. record { start = start i; count = count i; handler = record { catches = catches i; catch_all = all i } }
+      λ i. record { start = (sym h.start_is) i; count = (sym h.count_is) i; handler = record { catches = (all_mean (DenotesCatch m) (λ (c : Catch). c.typ < length m.types) (catch_meant m) catch_means t.handler.catches x.handler.catches h.handler_is.catches_are) i; catch_all = (sym h.handler_is.catch_all_is) i } }
 
   try_encoded : (t : NumberedTry) → IsKnownTry m t → DenotesTry m t (try_meant m t)
   try_encoded t h = record {
     start_is = refl;
     count_is = refl;
-    handler_is = record {
-      catches_are = all_encoded (DenotesCatch m) (λ (c : Catch). c.typ < length m.types) (catch_meant m) (λ c lt. record { type_is = at_place m.types c.typ [] lt; address_is = refl }) t.handler.catches h;
-      catch_all_is = refl;
-    };
+    handler_is = record { catches_are = all_encoded (DenotesCatch m) (λ (c : Catch). c.typ < length m.types) (catch_meant m) (λ c lt. record { type_is = at_place m.types c.typ [] lt; address_is = refl }) t.handler.catches h; catch_all_is = refl };
   }
 
   pub tries_mean : (ts : List NumberedTry) (xs : List symbolic.Try) → AllZip (DenotesTry m) ts xs → xs ≡ map (try_meant m) ts
@@ -108,13 +93,8 @@ module _ (m : Mentions) where
 
   pub code_means : (c : NumberedItem) (x : symbolic.Code) → DenotesCode m c x → x ≡ code_in m c
   code_means c x h =
-      let registers = sym h.registers_are in
-      let ins = sym h.ins_are in
-      let outs = sym h.outs_are in
-      let ps = all_mean (Denotes m) (IsKnownPiece m) (piece_in m) piece_means c.body.pieces x.pieces h.pieces_are in
-      let tries = tries_mean c.tries x.tries h.tries_are in
       let debug = one_means (DenotesDebug m) (IsKnownDebug m) (debug_in m) (debug_means m) c.debug x.debug h.debug_is in
-      λ i. record { registers = registers i; ins = ins i; outs = outs i; pieces = ps i; tries = tries i; debug = debug i }
+      λ i. record { registers = (sym h.registers_are) i; ins = (sym h.ins_are) i; outs = (sym h.outs_are) i; pieces = (all_mean (Denotes m) (IsKnownPiece m) (piece_in m) piece_means c.body.pieces x.pieces h.pieces_are) i; tries = (tries_mean c.tries x.tries h.tries_are) i; debug = debug i }
 
   pub code_encoded : (c : NumberedItem) → IsKnownCode m c → DenotesCode m c (code_in m c)
   code_encoded c h = record {

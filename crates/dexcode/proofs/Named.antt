@@ -1,11 +1,8 @@
 -- Tries and the list of the handlers that they name.
-use Rattle.dexcode.proofs.Common.{◌≡◌, ℕ, ◌+◌, ◌<◌, Bool, List, [], ◌∷◌, ◌++◌, length, map, get_or, All, Option, None, refl, ap, sym, ◌∙◌, subst, inl, inr, take, if◌then◌else◌, arith, unwrap_or, Contains, cases_eq, length-append, get_or_append_left, map-append, map_more, Contains-get_or, All-nil, All-head, All-tail, All-push, All-weaker, insert_key, distinct, insert_grows, distinct_more}
+use Rattle.dexcode.proofs.Common.{◌≡◌, ℕ, ◌+◌, ◌<◌, Bool, List, [], ◌∷◌, ◌++◌, length, map, get_or, All, Option, None, refl, ap, sym, ◌∙◌, subst, inl, inr, take, if◌then◌else◌, arith, unwrap_or, Contains, cases_eq, length-append, get_or_append_left, map-append, map_more, Contains-get_or, All-nil, All-head, All-tail, All-push, All-weaker, insert_key, distinct, insert_grows, distinct_more, Try, NumberedHandler, NumberedTry, IsFormedHandler, no_handler, named, all_named, handlers_of, same_handler, handler_decides, handler_equiv, HandlerAt, AreKnown, IsHandlerAt, IsPutAt}
 use Rattle.std.proofs.lemmas.Map.Views.{list_any-from_Contains}
-use Rattle.dexcode.specs.declared.tries.Try.{Try}
-use Rattle.dexcode.specs.{NumberedHandler, NumberedTry, IsFormedHandler, no_handler, named, all_named, handlers_of, same_handler, handler_decides, handler_equiv, HandlerAt}
-use Rattle.dexcode.specs.internal.NamedHandlers.{AreKnown, IsHandlerAt, IsPutAt}
 use Rattle.dexcode.proofs.Listed.{no_number}
-use Rattle.dexcode.proofs.OneHandler.{one_handler}
+use Rattle.dexcode.proofs.HandlersRead.{one_handler}
 
 -- a handler that is there is not added
 pub insert_there : (hs : List NumberedHandler) (h d : NumberedHandler) (k : ℕ) → k < length hs → get_or hs k d ≡ h → insert_key same_handler hs h ≡ hs
@@ -20,10 +17,7 @@ known_more starts types b list h {off} there hs hs' more numbers numbers' number
         let same : number ≡ k = ap (λ o. unwrap_or o 0) (sym put.here ∙ ap (λ (q : ℕ). get_or numbers' q None) (sym here) ∙ e) in
         let one : (g : NumberedHandler) → IsHandlerAt starts types b (list + p) g → h ≡ g = λ g at. (one_handler starts types b (list + off) h g there.size at.size there.encodes (subst (λ (q : ℕ). HandlerAt starts types b (list + q) g at.size) here at.encodes)).0 in
         (subst (λ (q : ℕ). q < length hs') same lt, λ g at. subst (λ (q : ℕ). get_or hs' q no_handler ≡ h) same is ∙ one g at)
-    | inr other ↦ let old = known.each p k (sym (put.others p other) ∙ e) in (
-      omega (arith, old.0, ap length grown, length-append hs more),
-      λ g at. ap (λ gs. get_or gs k no_handler) grown ∙ get_or_append_left hs more no_handler k old.0 ∙ old.1 g at,
-    )
+    | inr other ↦ let old = known.each p k (sym (put.others p other) ∙ e) in (omega (arith, old.0, ap length grown, length-append hs more), λ g at. ap (λ gs. get_or gs k no_handler) grown ∙ get_or_append_left hs more no_handler k old.0 ∙ old.1 g at)
   ];
 }
 
@@ -31,8 +25,7 @@ known_more starts types b list h {off} there hs hs' more numbers numbers' number
 pub named_grown : (hs more : List NumberedHandler) (ts : List Try) → All (λ t. t.handler < length hs) ts → all_named (hs ++ more) ts ≡ all_named hs ts
 named_grown hs more [] all = refl
 named_grown hs more (t ∷ ts) all =
-    let first : named (hs ++ more) t ≡ named hs t = ap (λ (h : NumberedHandler). record { start_addr = t.start_addr; insn_count = t.insn_count; handler = h }) (get_or_append_left hs more no_handler t.handler (All-head (λ (x : Try). x.handler < length hs) t ts all)) in
-    λ i. first i ∷ named_grown hs more ts (All-tail (λ (x : Try). x.handler < length hs) t ts all) i
+    λ i. (ap (λ (h : NumberedHandler). record { start_addr = t.start_addr; insn_count = t.insn_count; handler = h }) (get_or_append_left hs more no_handler t.handler (All-head (λ (x : Try). x.handler < length hs) t ts all))) i ∷ named_grown hs more ts (All-tail (λ (x : Try). x.handler < length hs) t ts all) i
 
 -- nor is one of them lost
 pub within_grown : (hs more : List NumberedHandler) (ts : List Try) → All (λ t. t.handler < length hs) ts → All (λ t. t.handler < length (hs ++ more)) ts
@@ -44,8 +37,7 @@ next_used listed tries i d lt =
     let before = all_named listed (take i tries) in
     let next = named listed (get_or tries i d) in
     let handler : NumberedTry → NumberedHandler = λ t. t.handler in
-    sym (distinct_more same_handler handler_decides (map handler before) next.handler)
-    ∙ ap (distinct same_handler) (sym (map-append handler before (next ∷ [])))
+    sym (distinct_more same_handler handler_decides (map handler before) next.handler) ∙ ap (distinct same_handler) (sym (map-append handler before (next ∷ [])))
     ∙ ap handlers_of (sym (map_more (named listed) tries i d lt))
 
 -- one more try has the number of its handler
@@ -59,11 +51,10 @@ names_more listed hs hs' tries numbered numbered' i k d lt inserted within is us
     let new : Try = record { start_addr = t.start_addr; insn_count = t.insn_count; handler = k } in
     let grows = insert_grows same_handler hs (get_or listed t.handler no_handler) in
     let grown : hs' ≡ hs ++ grows.0 = inserted ∙ grows.1 in
-    let named_new : named hs' new ≡ named listed t = ap (λ (h : NumberedHandler). record { start_addr = t.start_addr; insn_count = t.insn_count; handler = h }) is in
     let old : all_named hs' numbered ≡ all_named listed (take i tries) = ap (λ gs. all_named gs numbered) grown ∙ named_grown hs grows.0 numbered all ∙ names in
     let kept : All (λ x. x.handler < length hs') numbered = subst (λ gs. All (λ x. x.handler < length gs) numbered) (sym grown) (within_grown hs grows.0 numbered all) in (
       inserted ∙ ap (λ gs. insert_key same_handler gs (get_or listed t.handler no_handler)) used ∙ next_used listed tries i d lt,
-      ap (all_named hs') pushed ∙ map-append (named hs') numbered (new ∷ []) ∙ (λ j. old j ++ named_new j ∷ []) ∙ sym (map_more (named listed) tries i d lt),
+      ap (all_named hs') pushed ∙ map-append (named hs') numbered (new ∷ []) ∙ (λ j. old j ++ (ap (λ (h : NumberedHandler). record { start_addr = t.start_addr; insn_count = t.insn_count; handler = h }) is) j ∷ []) ∙ sym (map_more (named listed) tries i d lt),
       subst (All (λ x. x.handler < length hs')) (sym pushed) (All-push (λ (x : Try). x.handler < length hs') numbered new kept within),
     )
 

@@ -1,11 +1,9 @@
 -- Tries and handlers with numbers are where those with types are whose rows have these numbers.
-use Rattle.dexcode.proofs.Common.{◌≡◌, ℕ, suc, ◌+◌, ◌*◌, ◌<◌, ◌≤◌, Bool, false, List, [], ◌∷◌, ◌++◌, length, map, take, drop, get_or, Option, Some, None, refl, ap, sym, subst, ◌∙◌, arith, ℤ, pos, one_answer, All, All-map, All-head, All-tail, length-map, length-append, map-append, get_or-map, get_or_default, map-map, Sequence, distinct, rank, Uleb128At, Text, text_cmp, Cut, is_instruction_start, Mentions, Rises-from_rises, rank-get_or, text_total, one_sequence, sum_by-mapped, ArePools, AreRising}
+use Rattle.dexcode.proofs.Common.{◌≡◌, ℕ, suc, ◌+◌, ◌*◌, ◌<◌, ◌≤◌, Bool, false, List, [], ◌∷◌, ◌++◌, length, map, take, drop, get_or, Option, Some, None, refl, ap, sym, subst, ◌∙◌, arith, ℤ, pos, one_answer, All, All-map, All-head, All-tail, length-map, length-append, map-append, get_or-map, get_or_default, map-map, Sequence, distinct, rank, Uleb128At, Text, text_cmp, Cut, is_instruction_start, Mentions, Rises-from_rises, rank-get_or, text_total, one_sequence, sum_by-mapped, ArePools, AreRising, Catch, handler_decides, NumberedHandler, NumberedTry, no_handler, catch_meant, handler_meant, try_meant, same_handler, handlers_of, handlers_weight, CatchAt, CatchAllAt, HandlerAt, IsHandler, TryAt, AreApart, TryItemsAt}
 use Rattle.dexspec.specs.Code as symbolic
 use Rattle.dexspec.proofs.determined.OneRow.{one_type}
 use Rattle.dexspec.proofs.determined.OneCode as one
 use Rattle.dexspec.proofs.written.HandlerPlaces.{handler_decides as symbolic_decides}
-use Rattle.dexcode.specs.declared.handlers.Catch.{Catch}
-use Rattle.dexcode.specs.{handler_decides, NumberedHandler, NumberedTry, no_handler, catch_meant, handler_meant, try_meant, same_handler, handlers_of, handlers_weight, CatchAt, CatchAllAt, HandlerAt, IsHandler, TryAt, AreApart, TryItemsAt}
 use Rattle.dexcode.proofs.Images.{seq_map, seq_back, seq_take, seq_all, split_at, distinct_map}
 
 -- ---- weight
@@ -35,15 +33,10 @@ module _ (m : Mentions) (rising : AreRising m) where
       let heads : catch_meant m c ≡ catch_meant m d = cc in
       let tails : map (catch_meant m) cs ≡ map (catch_meant m) ds = cc in
       let typ : c.typ ≡ d.typ = one_number c.typ d.typ (All-head (λ (c : Catch). c.typ < length m.types) c cs h) (All-head (λ (c : Catch). c.typ < length m.types) d ds g) (ap (λ x. x.type) heads) in
-      let addr : c.addr ≡ d.addr = ap (λ x. x.address) heads in
-      let rest = one_list cs ds (All-tail (λ (c : Catch). c.typ < length m.types) c cs h) (All-tail (λ (c : Catch). c.typ < length m.types) d ds g) tails in
-      λ i. record { typ = typ i; addr = addr i } ∷ rest i
+      λ i. record { typ = typ i; addr = (ap (λ x. x.address) heads) i } ∷ (one_list cs ds (All-tail (λ (c : Catch). c.typ < length m.types) c cs h) (All-tail (λ (c : Catch). c.typ < length m.types) d ds g) tails) i
 
   one_meaning : (h k : NumberedHandler) → IsInRange m h → IsInRange m k → handler_meant m h ≡ handler_meant m k → h ≡ k
-  one_meaning h k p q e =
-      let catches = one_list h.catches k.catches p q (ap (λ x. x.catches) e) in
-      let all : h.catch_all_addr ≡ k.catch_all_addr = ap (λ x. x.catch_all) e in
-      λ i. record { catches = catches i; catch_all_addr = all i }
+  one_meaning h k p q e = λ i. record { catches = (one_list h.catches k.catches p q (ap (λ x. x.catches) e)) i; catch_all_addr = (ap (λ x. x.catch_all) e) i }
 
   pub same_meant : (h k : NumberedHandler) → IsInRange m h → IsInRange m k → symbolic.same_handler (handler_meant m h) (handler_meant m k) ≡ same_handler h k
   same_meant h k p q =
@@ -60,14 +53,12 @@ module _ (m : Mentions) (rising : AreRising m) where
 -- ---- addresses
 
 apart_meant : (m : Mentions) (ts : List NumberedTry) → AreApart ts → symbolic.AreApart (map (try_meant m) ts)
-apart_meant m [] h = tt
-apart_meant m (t ∷ []) h = tt
 apart_meant m (t ∷ u ∷ ts) h = (h.0, apart_meant m (u ∷ ts) h.1)
+apart_meant m _ h = tt
 
 apart_back : (m : Mentions) (ts : List NumberedTry) → symbolic.AreApart (map (try_meant m) ts) → AreApart ts
-apart_back m [] h = tt
-apart_back m (t ∷ []) h = tt
 apart_back m (t ∷ u ∷ ts) h = (h.0, apart_back m (u ∷ ts) h.1)
+apart_back m _ h = tt
 
 -- ---- what is in the file
 
@@ -134,14 +125,12 @@ module _ (b : List ℕ) (m : Mentions) (pools : ArePools b m) (rising : AreRisin
 
   place_found : (o size : ℕ) (hs : List NumberedHandler) (off : ℕ) (h : NumberedHandler) → IsHandler starts (length m.types) b o size hs off h → symbolic.IsHandler us cuts b o size (map (handler_meant m) hs) off (handler_meant m h)
   place_found o size hs off h g =
-      let i = g.index in
-      let parts : hs ≡ take i hs ++ h ∷ drop (suc i) hs = split_at hs i no_handler g.begins.within ∙ ap (λ k. take i hs ++ k ∷ drop (suc i) hs) (g.is no_handler) in
       record {
-        before = map (handler_meant m) (take i hs);
-        after = map (handler_meant m) (drop (suc i) hs);
+        before = map (handler_meant m) (take g.index hs);
+        after = map (handler_meant m) (drop (suc g.index) hs);
         before_size = g.before;
-        parts = ap (map (handler_meant m)) parts ∙ map-append (handler_meant m) (take i hs) (h ∷ drop (suc i) hs);
-        encodes = seq_map (HandlerAt starts (length m.types)) (symbolic.HandlerAt us cuts) (handler_meant m) b handler_found (o + size) (take i hs) g.before g.begins.encodes;
+        parts = ap (map (handler_meant m)) (split_at hs g.index no_handler g.begins.within ∙ ap (λ k. take g.index hs ++ k ∷ drop (suc g.index) hs) (g.is no_handler)) ∙ map-append (handler_meant m) (take g.index hs) (h ∷ drop (suc g.index) hs);
+        encodes = seq_map (HandlerAt starts (length m.types)) (symbolic.HandlerAt us cuts) (handler_meant m) b handler_found (o + size) (take g.index hs) g.before g.begins.encodes;
         place = g.place;
       }
 
@@ -150,12 +139,10 @@ module _ (b : List ℕ) (m : Mentions) (pools : ArePools b m) (rising : AreRisin
   place_back o size total hs off x list g =
       let f = handler_meant m in
       let i = length g.before in
-      let len : length hs ≡ i + suc (length g.after) = sym (length-map hs f) ∙ ap length g.parts ∙ length-append g.before (x ∷ g.after) in
-      let lt : i < length hs = omega (arith, len) in
-      let front : map f (take i hs) ≡ g.before = prefix_map f hs g.before (x ∷ g.after) g.parts in
+      let lt : i < length hs = omega (arith, sym (length-map hs f) ∙ ap length g.parts ∙ length-append g.before (x ∷ g.after)) in
       let some = seq_take (HandlerAt starts (length m.types)) b (o + size) hs total i list in
       let found = seq_map (HandlerAt starts (length m.types)) (symbolic.HandlerAt us cuts) f b handler_found (o + size) (take i hs) some.0 some.1 in
-      let same = one_sequence (symbolic.HandlerAt us cuts) (one.one_handler us cuts) b (o + size) (map f (take i hs)) g.before some.0 g.before_size (ap length front) found g.encodes in
+      let same = one_sequence (symbolic.HandlerAt us cuts) (one.one_handler us cuts) b (o + size) (map f (take i hs)) g.before some.0 g.before_size (ap length (prefix_map f hs g.before (x ∷ g.after) g.parts)) found g.encodes in
       let is : f (get_or hs i no_handler) ≡ x = sym (get_or-map f hs i no_handler x lt) ∙ ap (λ ys. get_or ys i x) g.parts ∙ at_seam g.before x g.after in (
         get_or hs i no_handler,
         record { index = i; before = some.0; begins = record { within = lt; encodes = some.1 }; place = omega (arith, g.place, same.1); is = λ d. get_or_default hs i d no_handler lt },
@@ -165,10 +152,7 @@ module _ (b : List ℕ) (m : Mentions) (pools : ArePools b m) (rising : AreRisin
       prefix_map : {X Y : Type 0} (f : X → Y) (xs : List X) (ys zs : List Y) → map f xs ≡ ys ++ zs → map f (take (length ys) xs) ≡ ys
       prefix_map f xs [] zs e = refl
       prefix_map f [] (y ∷ ys) zs e = absurd cc
-      prefix_map f (x ∷ xs) (y ∷ ys) zs e =
-          let head : f x ≡ y = cc in
-          let tail : map f xs ≡ ys ++ zs = cc in
-          λ i. head i ∷ prefix_map f xs ys zs tail i
+      prefix_map f (x ∷ xs) (y ∷ ys) zs e = let head : f x ≡ y = cc in let tail : map f xs ≡ ys ++ zs = cc in λ i. head i ∷ prefix_map f xs ys zs tail i
 
       at_seam : {X : Type 0} (xs : List X) (x : X) (ys : List X) → get_or (xs ++ x ∷ ys) (length xs) x ≡ x
       at_seam [] x ys = refl
@@ -196,8 +180,7 @@ module _ (b : List ℕ) (m : Mentions) (pools : ArePools b m) (rising : AreRisin
 
   pub items_in_range : (list size total o n : ℕ) (hs : List NumberedHandler) (ts : List NumberedTry) → Sequence (HandlerAt starts (length m.types)) b (list + size) hs total → Sequence (TryAt starts (length m.types) (length us) list size hs) b o ts n → All (IsInRange m) (map (λ t. t.handler) ts)
   items_in_range list size total o n hs ts are_encoded items =
-      let all = seq_all (HandlerAt starts (length m.types)) (IsInRange m) b handler_in_range (list + size) hs total are_encoded in
-      All-map (IsInRange m) (λ (t : NumberedTry). t.handler) ts (seq_all (TryAt starts (length m.types) (length us) list size hs) (λ t. IsInRange m t.handler) b (try_in_range list size hs all) o ts n items)
+      All-map (IsInRange m) (λ (t : NumberedTry). t.handler) ts (seq_all (TryAt starts (length m.types) (length us) list size hs) (λ t. IsInRange m t.handler) b (try_in_range list size hs (seq_all (HandlerAt starts (length m.types)) (IsInRange m) b handler_in_range (list + size) hs total are_encoded)) o ts n items)
 
   same_weight : (ts : List NumberedTry) → All (IsInRange m) (map (λ t. t.handler) ts) → symbolic.handlers_weight (symbolic.handlers_of (map (try_meant m) ts)) ≡ handlers_weight (handlers_of ts)
   same_weight ts all = ap symbolic.handlers_weight (handlers_meant m rising ts all) ∙ weight_meant m (handlers_of ts)
@@ -225,7 +208,6 @@ module _ (b : List ℕ) (m : Mentions) (pools : ArePools b m) (rising : AreRisin
       let hs = seq_back (HandlerAt starts (length m.types)) (symbolic.HandlerAt us cuts) (handler_meant m) b handler_back (list + h.count_size) h.handlers h.handlers_size h.list in
       let moved = subst (λ gs. Sequence (symbolic.TryAt us cuts list h.count_size gs) b o xs (8 * count)) (sym hs.2) h.items in
       let ts = seq_back (TryAt starts (length m.types) (length us) list h.count_size hs.0) (symbolic.TryAt us cuts list h.count_size (map (handler_meant m) hs.0)) (try_meant m) b (try_back list h.count_size h.handlers_size hs.0 hs.1) o xs (8 * count) moved in
-      let len : length h.handlers ≡ length hs.0 = sym (ap length hs.2) ∙ length-map hs.0 (handler_meant m) in
       let few = subst (λ ys. symbolic.handlers_weight (symbolic.handlers_of ys) ≤ symbolic.most_handlers) (sym ts.2) h.few in (
         ts.0,
         record {
@@ -233,7 +215,7 @@ module _ (b : List ℕ) (m : Mentions) (pools : ArePools b m) (rising : AreRisin
           handlers = hs.0;
           count_size = h.count_size;
           handlers_size = h.handlers_size;
-          list_count = subst (λ (n : ℕ). Uleb128At b list n h.count_size) len h.list_count;
+          list_count = subst (λ (n : ℕ). Uleb128At b list n h.count_size) (sym (ap length hs.2) ∙ length-map hs.0 (handler_meant m)) h.list_count;
           list = hs.1;
           items = ts.1;
           apart = apart_back m ts.0 (subst symbolic.AreApart (sym ts.2) h.apart);

@@ -1,22 +1,47 @@
 -- Tries that name handlers by their numbers are the try_items at their offset.
-use Rattle.dexcode.proofs.Common.{◌≡◌, ℕ, zero, suc, ◌+◌, ◌*◌, ◌^◌, ◌<◌, ◌≤◌, Bool, List, [], ◌∷◌, length, take, drop, get_or, Option, refl, ap, sym, subst, ◌∙◌, arith, length-drop, length-map, get_or-drop, get_or_default, All, Sequence, number_of, ushort_at, most_handlers, one_uleb128, one_sequence}
-use Rattle.dexcode.specs.declared.tries.Try.{Try}
-use Rattle.dexcode.specs.{NumberedHandler, NumberedTry, IsFormedHandler, no_handler, named, all_named, handlers_of, handlers_weight, HandlerAt, IsListAt, TryAt, ListedTryAt, AreApart, AreApartFrom, TriesRead, TryItemsAt}
-use Rattle.dexcode.specs.internal.NamedHandlers.{IsHandlerAt, AreListed}
+use Rattle.dexcode.proofs.Common.{◌≡◌, ℕ, zero, suc, ◌+◌, ◌*◌, ◌^◌, ◌<◌, ◌≤◌, Bool, List, [], ◌∷◌, length, take, drop, get_or, Option, refl, ap, sym, subst, ◌∙◌, arith, length-drop, length-map, get_or-drop, get_or_default, All, Sequence, number_of, ushort_at, most_handlers, one_uleb128, one_sequence, Try, NumberedHandler, NumberedTry, IsFormedHandler, no_handler, named, all_named, handlers_of, handlers_weight, HandlerAt, IsListAt, TryAt, ListedTryAt, AreApart, AreApartFrom, TriesRead, TryItemsAt, IsHandlerAt, AreListed, NoTries, ◌++◌, unwrap_or, length-append}
 use Rattle.dexcode.proofs.Images.{seq_map, seq_back, seq_all}
 use Rattle.dexcode.proofs.Listed.{handler_some, sleb_some}
-use Rattle.dexcode.proofs.OneHandler.{one_handler}
-use Rattle.dexcode.proofs.TriesListed.{one_listed_try}
+use Rattle.dexcode.proofs.HandlersRead.{one_handler}
 use Rattle.dexcode.proofs.Whole.{all_formed}
-use Rattle.dexcode.specs.internal.TriesReading.{NoTries}
+use Rattle.dexcode.proofs.Prefixes.{same_prefix}
+
+-- ---- Tries that name handlers by their numbers: there is at most one at an offset; they do not overlap
+
+-- one try
+pub one_listed_try : (units : ℕ) (numbers : List (Option ℕ)) → (b : List ℕ) (o : ℕ) (t u : Try) (n k : ℕ) → ListedTryAt units numbers b o t n → ListedTryAt units numbers b o u k → (t ≡ u) × (n ≡ k)
+one_listed_try units numbers b o t u n k h g =
+    ((λ i. record { start_addr = (sym h.start_is ∙ g.start_is) i; insn_count = (sym h.count_is ∙ g.count_is) i; handler = (ap (λ (x : Option ℕ). unwrap_or x 0) (sym h.named ∙ g.named)) i }), h.size ∙ sym g.size)
+
+-- one more after them
+pub apart_more : (from to : ℕ) (ts : List Try) (t : Try) → AreApartFrom from ts to → to ≤ t.start_addr → AreApartFrom from (ts ++ t ∷ []) (t.start_addr + t.insn_count)
+apart_more from to [] t h le = (omega (arith, h, le), refl)
+apart_more from to (u ∷ ts) t h le = (h.0, apart_more (u.start_addr + u.insn_count) to ts t h.1 le)
+
+-- the next is after them
+next_apart : (from to end : ℕ) (ts : List Try) (t : Try) (us : List Try) → AreApartFrom from ts to → AreApartFrom from (ts ++ t ∷ us) end → to ≤ t.start_addr
+next_apart from to end [] t us h g = omega (arith, h, g.0)
+next_apart from to end (u ∷ ts) t us h g = next_apart (u.start_addr + u.insn_count) to end ts t us h.1 g.1
+
+-- if the next begins before the end of those read, there are no such tries
+next_overlaps : (units : ℕ) (numbers : List (Option ℕ)) → (b : List ℕ) (o : ℕ) (ts : List Try) (t : Try) (us : List Try) (n k to end : ℕ) → 0 < length us → ListedTryAt units numbers b (o + n) t 8 → Sequence (ListedTryAt units numbers) b (o + n) us k
+    → AreApartFrom 0 ts to → AreApartFrom 0 (ts ++ us) end → t.start_addr < to → ⊥
+next_overlaps units numbers b o ts t [] n k to end some at h apart all lt = omega (arith, some)
+next_overlaps units numbers b o ts t (u ∷ us) n k to end some at h apart all lt =
+    omega (arith, lt, ap (λ x. x.start_addr) (one_listed_try units numbers b (o + n) t u 8 h.0 at h.2).0, next_apart 0 to end ts u us apart all)
+
+pub overlap : (units : ℕ) (numbers : List (Option ℕ)) → (b : List ℕ) (o : ℕ) (ts : List Try) (t : Try) (us : List Try) (n m to end : ℕ) → length ts < length us → Sequence (ListedTryAt units numbers) b o ts n → ListedTryAt units numbers b (o + n) t 8
+    → AreApartFrom 0 ts to → t.start_addr < to → Sequence (ListedTryAt units numbers) b o us m → AreApartFrom 0 us end → ⊥
+overlap units numbers b o ts t us n m to end lt h at apart less g all =
+    let front = same_prefix (ListedTryAt units numbers) (one_listed_try units numbers) b o ts us n m (omega (arith, lt)) h g in
+    next_overlaps units numbers b o ts t front.0 n front.1 to end (omega (arith, lt, ap length front.2 ∙ length-append ts front.0)) at front.3 apart (subst (λ (vs : List Try). AreApartFrom 0 vs end) front.2 all) less
 
 -- ---- addresses
 
 -- tries that are apart from an address on are apart
 apart_named : (hs : List NumberedHandler) (from to : ℕ) (ts : List Try) → AreApartFrom from ts to → AreApart (all_named hs ts)
-apart_named hs from to [] h = tt
-apart_named hs from to (t ∷ []) h = tt
 apart_named hs from to (t ∷ u ∷ ts) h = (h.1.0, apart_named hs (t.start_addr + t.insn_count) to (u ∷ ts) h.1)
+apart_named hs from to _ h = tt
 
 apart_back : (hs : List NumberedHandler) (from : ℕ) (t : Try) (ts : List Try) → from ≤ t.start_addr → AreApart (all_named hs (t ∷ ts)) → (to : ℕ) × AreApartFrom from (t ∷ ts) to
 apart_back hs from t [] le h = (t.start_addr + t.insn_count, (le, refl))
@@ -55,13 +80,7 @@ module _ (starts : List Bool) (types units : ℕ) (b : List ℕ) (list : ℕ) (h
         count_is = h.count_is;
         some = h.some;
         within = h.within;
-        handler_is = record {
-          index = t.handler;
-          before = begins.0;
-          begins = begins.1;
-          place = omega (arith, begins.2);
-          is = λ d. get_or_default hs t.handler d no_handler begins.1.within;
-        };
+        handler_is = record { index = t.handler; before = begins.0; begins = begins.1; place = omega (arith, begins.2); is = λ d. get_or_default hs t.handler d no_handler begins.1.within };
         size = h.size;
       }
 
@@ -72,15 +91,14 @@ module _ (starts : List Bool) (types units : ℕ) (b : List ℕ) (list : ℕ) (h
   module _ (small : (i : ℕ) → get_or b i 0 < 256) where
     try_listed : (o : ℕ) (s : NumberedTry) (n : ℕ) → TryAt starts types units list at.count_size hs b o s n → (t : Try) × ListedTryAt units numbers b o t n × (named hs t ≡ s)
     try_listed o s n h =
-        let there = h.handler_is in
-        let is = there.is no_handler in (
-          record { start_addr = s.start_addr; insn_count = s.insn_count; handler = there.index },
+        let is = h.handler_is.is no_handler in (
+          record { start_addr = s.start_addr; insn_count = s.insn_count; handler = h.handler_is.index },
           record {
             start_is = h.start_is;
             count_is = h.count_is;
             some = h.some;
             within = h.within;
-            named = at.numbered.known (ushort_at b (o + 6)) there.index there.before (ushort_small b (o + 6) small) there.begins (omega (arith, there.place));
+            named = at.numbered.known (ushort_at b (o + 6)) h.handler_is.index h.handler_is.before (ushort_small b (o + 6) small) h.handler_is.begins (omega (arith, h.handler_is.place));
             size = h.size;
           },
           λ j. record { start_addr = s.start_addr; insn_count = s.insn_count; handler = is j },
@@ -94,8 +112,7 @@ module _ (starts : List Bool) (types units : ℕ) (b : List ℕ) (list : ℕ) (h
 -- the offsets of successive tries differ by eight bytes
 tries_at : (units : ℕ) (numbers : List (Option ℕ)) (b : List ℕ) (o : ℕ) (ts : List Try) (n : ℕ) → Sequence (ListedTryAt units numbers) b o ts n → (j : ℕ) (d : Try) → j < length ts → ListedTryAt units numbers b (o + 8 * j) (get_or ts j d) 8
 tries_at units numbers b o [] n h j d lt = absurd (omega (arith, lt))
-tries_at units numbers b o (t ∷ ts) n h zero d lt =
-    subst (λ (p : ℕ). ListedTryAt units numbers b p t 8) (omega arith) (subst (ListedTryAt units numbers b o t) h.2.size h.2)
+tries_at units numbers b o (t ∷ ts) n h zero d lt = subst (λ (p : ℕ). ListedTryAt units numbers b p t 8) (omega arith) (subst (ListedTryAt units numbers b o t) h.2.size h.2)
 tries_at units numbers b o (t ∷ ts) n h (suc j) d lt =
     let place : o + h.0 + 8 * j ≡ o + 8 * suc j = omega (arith, h.2.size) in
     subst (λ (p : ℕ). ListedTryAt units numbers b p (get_or ts j d) 8) place (tries_at units numbers b (o + h.0) ts h.1 h.3 j d (omega (arith, lt)))
@@ -143,8 +160,7 @@ module _ (starts : List Bool) (types units : ℕ) (b : List ℕ) (o count : ℕ)
   found_listed hs numbers ts to at read = record {
     each = λ j d lt.
         let t = get_or ts j d in
-        let item = tries_at units numbers b o ts (8 * count) read.are_encoded j d lt in
-        let begins = at.numbered.begins (ushort_at b (o + 8 * j + 6)) t.handler item.named in
+        let begins = at.numbered.begins (ushort_at b (o + 8 * j + 6)) t.handler (tries_at units numbers b o ts (8 * count) read.are_encoded j d lt).named in
         let place : o + 8 * count + at.count_size + begins.0 ≡ o + 8 * count + ushort_at b (o + 8 * j + 6) = omega (arith, begins.2) in
         subst (λ (p : ℕ). IsHandlerAt starts types b p (get_or hs t.handler no_handler)) place (is_at_end starts types b (o + 8 * count + at.count_size) hs at.size at.are_encoded t.handler begins.0 no_handler begins.1.within begins.1.encodes);
     formed = found_formed hs numbers at;
@@ -160,8 +176,7 @@ module _ (starts : List Bool) (types units : ℕ) (b : List ℕ) (o count : ℕ)
       let same = one_sequence (HandlerAt starts types) (one_handler starts types) b (list + at.count_size) h.handlers hs h.handlers_size at.size many.0
       (subst (λ (i : ℕ). Sequence (HandlerAt starts types) b (list + i) h.handlers h.handlers_size) many.1 h.list) at.are_encoded in
       let moved = subst (λ (i : ℕ). Sequence (TryAt starts types units list i h.handlers) b o ss (8 * count)) many.1 h.items in
-      let items = subst (λ (gs : List NumberedHandler). Sequence (TryAt starts types units list at.count_size gs) b o ss (8 * count)) same.0 moved in
-      tries_listed starts types units b list hs numbers at small o ss (8 * count) items
+      tries_listed starts types units b list hs numbers at small o ss (8 * count) (subst (λ (gs : List NumberedHandler). Sequence (TryAt starts types units list at.count_size gs) b o ss (8 * count)) same.0 moved)
 
   length-same : (hs : List NumberedHandler) (ts : List Try) (ss : List NumberedTry) → all_named hs ts ≡ ss → length ts ≡ length ss
   length-same hs ts ss e = sym (length-map ts (named hs)) ∙ ap length e
@@ -170,14 +185,10 @@ module _ (starts : List Bool) (types units : ℕ) (b : List ℕ) (o count : ℕ)
   pub no_tries : ((i : ℕ) → get_or b i 0 < 256) → (hs : List NumberedHandler) (numbers : List (Option ℕ)) → IsListAt starts types b (o + 8 * count) hs numbers
       → NoTries units numbers b o count → (ss : List NumberedTry) → TryItemsAt starts types units b o count ss → ⊥
   no_tries small hs numbers at none ss h =
-      let there = back small hs numbers at ss h in
-      let apart = apart_from hs there.0 (subst AreApart (sym there.2) h.apart) in
-      none there.0 (8 * count) apart.0 (length-same hs there.0 ss there.2 ∙ h.many) there.1 apart.1
+      let there = back small hs numbers at ss h in let apart = apart_from hs there.0 (subst AreApart (sym there.2) h.apart) in none there.0 (8 * count) apart.0 (length-same hs there.0 ss there.2 ∙ h.many) there.1 apart.1
 
   pub too_heavy : ((i : ℕ) → get_or b i 0 < 256) → (hs : List NumberedHandler) (numbers : List (Option ℕ)) (ts : List Try) (to : ℕ) → IsListAt starts types b (o + 8 * count) hs numbers → TriesRead units numbers b o count ts to
       → most_handlers < handlers_weight (handlers_of (all_named hs ts)) → (ss : List NumberedTry) → TryItemsAt starts types units b o count ss → ⊥
   too_heavy small hs numbers ts to at read heavy ss h =
       let there = back small hs numbers at ss h in
-      let same = one_sequence (ListedTryAt units numbers) (one_listed_try units numbers) b o there.0 ts (8 * count) (8 * count) (length-same hs there.0 ss there.2 ∙ h.many ∙ sym read.many) there.1 read.are_encoded in
-      let named_same : ss ≡ all_named hs ts = sym there.2 ∙ ap (all_named hs) same.0 in
-      omega (arith, heavy, h.few, ap (λ us. handlers_weight (handlers_of us)) named_same)
+      omega (arith, heavy, h.few, ap (λ us. handlers_weight (handlers_of us)) (sym there.2 ∙ ap (all_named hs) (one_sequence (ListedTryAt units numbers) (one_listed_try units numbers) b o there.0 ts (8 * count) (8 * count) (length-same hs there.0 ss there.2 ∙ h.many ∙ sym read.many) there.1 read.are_encoded).0))

@@ -1,16 +1,12 @@
 -- The types of handlers, remapped: which handlers stay distinct, and what tries name then.
-use Rattle.dexcode.proofs.Common.{◌≡◌, ℕ, ◌+◌, ◌*◌, ◌<◌, Bool, List, [], ◌∷◌, length, map, get_or, Some, refl, ap, sym, ◌∙◌, subst, arith, inl, inr, Decides, one_answer, unwrap_or, All, flat_map, cases_lt, length-map, get_or-map, All-head, All-tail, All-contains, Contains-get_or, map-map, distinct_has, distinct, Maps, KeepOrder, all_parts, sum_by-mapped}
+use Rattle.dexcode.proofs.Common.{◌≡◌, ℕ, ◌+◌, ◌*◌, ◌<◌, Bool, List, [], ◌∷◌, length, map, get_or, Some, refl, ap, sym, ◌∙◌, subst, arith, inl, inr, Decides, one_answer, unwrap_or, All, flat_map, cases_lt, length-map, get_or-map, All-head, All-tail, All-contains, Contains-get_or, map-map, distinct_has, distinct, Maps, KeepOrder, all_parts, sum_by-mapped, Catch, Try, handler_decides, NumberedHandler, NumberedTry, AreStored, same_handler, handlers_of, handlers_weight, no_handler, named, all_named, catch_use, handler_uses, tries_uses, HasTypePlace, AreTypesApart, remapped_type, remapped_try, renumbered_catch, renumbered_handler, renumbered_try}
 use Rattle.dexpool.specs.declared.symbols.SymbolKind.TheVariants as kinds
-use Rattle.dexcode.specs.declared.handlers.Catch.{Catch}
-use Rattle.dexcode.specs.declared.tries.Try.{Try}
-use Rattle.dexcode.specs.{handler_decides, NumberedHandler, NumberedTry, AreStored, same_handler, handlers_of, handlers_weight, no_handler, named, all_named, catch_use, handler_uses, tries_uses, HasTypePlace, AreTypesApart, remapped_type, remapped_try, renumbered_catch, renumbered_handler, renumbered_try}
 use Rattle.dexcode.proofs.Images.{distinct_map}
 use Rattle.dexcode.proofs.Whole.{formed_remapped}
 
 -- what holds of the distinct members holds of all
 pub all_from_distinct : {X : Type 0} (same : X → X → Bool) → ((x y : X) → Decides (same x y) (x ≡ y)) → (P : X → Type 0) (xs : List X) → All P (distinct same xs) → All P xs
-all_from_distinct same decides P xs h =
-    λ k d lt. All-contains P (distinct same xs) (get_or xs k d) h (distinct_has same (λ x y e. (decides x y).0 e) xs (get_or xs k d) (Contains-get_or xs k d lt))
+all_from_distinct same decides P xs h = λ k d lt. All-contains P (distinct same xs) (get_or xs k d) h (distinct_has same (λ x y e. (decides x y).0 e) xs (get_or xs k d) (Contains-get_or xs k d lt))
 
 -- ---- handlers remapped
 
@@ -27,10 +23,7 @@ types_apart r keep = λ i j k e f. elim (cases_lt i j) [
 
 module _ (r : Maps) (apart : AreTypesApart r) where
   one_type : (i j : ℕ) → HasTypePlace r (record { kind = kinds.Typ; number = i }) → HasTypePlace r (record { kind = kinds.Typ; number = j }) → remapped_type r i ≡ remapped_type r j → i ≡ j
-  one_type i j p q e =
-      let first : remapped_type r i ≡ p.0 = ap (λ o. unwrap_or o i) p.1 in
-      let second : remapped_type r j ≡ q.0 = ap (λ o. unwrap_or o j) q.1 in
-      apart i j p.0 p.1 (q.1 ∙ ap Some (sym second ∙ sym e ∙ first))
+  one_type i j p q e = let first : remapped_type r i ≡ p.0 = ap (λ o. unwrap_or o i) p.1 in apart i j p.0 p.1 (q.1 ∙ ap Some (sym (ap (λ o. unwrap_or o j) q.1) ∙ sym e ∙ first))
 
   one_list : (cs ds : List Catch) → All (HasTypePlace r) (map catch_use cs) → All (HasTypePlace r) (map catch_use ds) → map (renumbered_catch r) cs ≡ map (renumbered_catch r) ds → cs ≡ ds
   one_list [] [] h g e = refl
@@ -40,15 +33,10 @@ module _ (r : Maps) (apart : AreTypesApart r) where
       let heads : renumbered_catch r c ≡ renumbered_catch r d = ap (λ xs. get_or xs 0 (renumbered_catch r c)) e in
       let tails : map (renumbered_catch r) cs ≡ map (renumbered_catch r) ds = cc in
       let typ : c.typ ≡ d.typ = one_type c.typ d.typ (All-head (HasTypePlace r) (catch_use c) (map catch_use cs) h) (All-head (HasTypePlace r) (catch_use d) (map catch_use ds) g) (ap (λ x. x.typ) heads) in
-      let addr : c.addr ≡ d.addr = ap (λ x. x.addr) heads in
-      let rest = one_list cs ds (All-tail (HasTypePlace r) (catch_use c) (map catch_use cs) h) (All-tail (HasTypePlace r) (catch_use d) (map catch_use ds) g) tails in
-      λ i. record { typ = typ i; addr = addr i } ∷ rest i
+      λ i. record { typ = typ i; addr = (ap (λ x. x.addr) heads) i } ∷ (one_list cs ds (All-tail (HasTypePlace r) (catch_use c) (map catch_use cs) h) (All-tail (HasTypePlace r) (catch_use d) (map catch_use ds) g) tails) i
 
   one_handler : (h k : NumberedHandler) → HaveTypePlaces r h → HaveTypePlaces r k → renumbered_handler r h ≡ renumbered_handler r k → h ≡ k
-  one_handler h k p q e =
-      let catches = one_list h.catches k.catches p q (ap (λ x. x.catches) e) in
-      let all : h.catch_all_addr ≡ k.catch_all_addr = ap (λ x. x.catch_all_addr) e in
-      λ i. record { catches = catches i; catch_all_addr = all i }
+  one_handler h k p q e = λ i. record { catches = (one_list h.catches k.catches p q (ap (λ x. x.catches) e)) i; catch_all_addr = (ap (λ x. x.catch_all_addr) e) i }
 
   same_remapped : (h k : NumberedHandler) → HaveTypePlaces r h → HaveTypePlaces r k → same_handler (renumbered_handler r h) (renumbered_handler r k) ≡ same_handler h k
   same_remapped h k p q =
@@ -62,8 +50,7 @@ module _ (r : Maps) (apart : AreTypesApart r) where
   pub handlers_remapped : (ts : List NumberedTry) → All (HasTypePlace r) (tries_uses ts) → handlers_of (map (renumbered_try r) ts) ≡ map (renumbered_handler r) (handlers_of ts)
   handlers_remapped ts all =
       let handlers = map (λ (t : NumberedTry). t.handler) ts in
-      let each = all_from_distinct same_handler handler_decides (HaveTypePlaces r) handlers (all_parts (HasTypePlace r) handler_uses (distinct same_handler handlers) all) in
-      ap (distinct same_handler) (handlers_map ts) ∙ distinct_map same_handler same_handler (renumbered_handler r) (HaveTypePlaces r) same_remapped handlers each
+      ap (distinct same_handler) (handlers_map ts) ∙ distinct_map same_handler same_handler (renumbered_handler r) (HaveTypePlaces r) same_remapped handlers (all_from_distinct same_handler handler_decides (HaveTypePlaces r) handlers (all_parts (HasTypePlace r) handler_uses (distinct same_handler handlers) all))
 
 -- ---- as they are stored
 
@@ -76,17 +63,12 @@ weight_remapped r hs =
 pub named_remapped : (r : Maps) (hs : List NumberedHandler) (ts : List Try) → All (λ t. t.handler < length hs) ts → all_named (map (renumbered_handler r) hs) ts ≡ map (renumbered_try r) (all_named hs ts)
 named_remapped r hs [] all = refl
 named_remapped r hs (t ∷ ts) all =
-    let handler = get_or-map (renumbered_handler r) hs t.handler no_handler no_handler (All-head (λ (x : Try). x.handler < length hs) t ts all) in
-    let rest = named_remapped r hs ts (All-tail (λ (x : Try). x.handler < length hs) t ts all) in
-    λ i. record { start_addr = t.start_addr; insn_count = t.insn_count; handler = handler i } ∷ rest i
-
-within_remapped : (r : Maps) (hs : List NumberedHandler) (ts : List Try) → All (λ t. t.handler < length hs) ts → All (λ t. t.handler < length (map (renumbered_handler r) hs)) ts
-within_remapped r hs ts all = subst (λ (n : ℕ). All (λ (t : Try). t.handler < n) ts) (sym (length-map hs (renumbered_handler r))) all
+    λ i. record { start_addr = t.start_addr; insn_count = t.insn_count; handler = (get_or-map (renumbered_handler r) hs t.handler no_handler no_handler (All-head (λ (x : Try). x.handler < length hs) t ts all)) i } ∷ (named_remapped r hs ts (All-tail (λ (x : Try). x.handler < length hs) t ts all)) i
 
 -- stored tries are still stored once their handlers are remapped
 pub stored_remapped : (r : Maps) (hs : List NumberedHandler) (ts : List Try) → AreTypesApart r → All (HasTypePlace r) (tries_uses (all_named hs ts)) → AreStored hs ts → AreStored (map (renumbered_handler r) hs) ts
 stored_remapped r hs ts apart all are = record {
-  within = within_remapped r hs ts are.within;
+  within = subst (λ (n : ℕ). All (λ (t : Try). t.handler < n) ts) (sym (length-map hs (renumbered_handler r))) are.within;
   used = ap (map (renumbered_handler r)) are.used ∙ sym (handlers_remapped r apart (all_named hs ts) all) ∙ ap handlers_of (sym (named_remapped r hs ts are.within));
   few = are.few;
   light = omega (arith, weight_remapped r hs, are.light);

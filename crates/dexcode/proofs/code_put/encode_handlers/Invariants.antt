@@ -1,5 +1,4 @@
-use Rattle.dexcode.proofs.Common.{take, flat_map}
-use Rattle.dexcode.specs.{numbered_handler_bytes}
+use Rattle.dexcode.proofs.Common.{take, flat_map, numbered_handler_bytes}
 use Rattle.dexcode.proofs.code_put.encode_handlers.Given as goal
 
 abbrev pub invariant-loop-handler : goal.invariant-loop-handler

@@ -1,5 +1,4 @@
-use Rattle.dexcode.proofs.Common.{given_more, given_all}
-use Rattle.dexcode.specs.{placed_try_bytes}
+use Rattle.dexcode.proofs.Common.{given_more, given_all, placed_try_bytes}
 use Rattle.dexcode.proofs.code_put.encode_items.Goals as goal
 
 pub loop-item-preserved : goal.loop-item-preserved

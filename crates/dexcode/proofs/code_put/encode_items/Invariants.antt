@@ -1,5 +1,4 @@
-use Rattle.dexcode.proofs.Common.{take, flat_map}
-use Rattle.dexcode.specs.{placed_try_bytes}
+use Rattle.dexcode.proofs.Common.{take, flat_map, placed_try_bytes}
 use Rattle.dexcode.proofs.code_put.encode_items.Given as goal
 
 abbrev pub invariant-loop-item : goal.invariant-loop-item

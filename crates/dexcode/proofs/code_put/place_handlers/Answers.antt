@@ -1,5 +1,4 @@
-use Rattle.dexcode.proofs.Common.{◌≡◌, ℕ, length, get_or, slice_set, ap, sym, ◌∙◌, inl, inr, arith, length-set, get_or-set_same, get_or-set_other, get_or_default, cases_eq}
-use Rattle.dexcode.specs.{no_handler, numbered_handler_bytes, place_of}
+use Rattle.dexcode.proofs.Common.{◌≡◌, ℕ, length, get_or, slice_set, ap, sym, ◌∙◌, inl, inr, arith, length-set, get_or-set_same, get_or-set_other, get_or_default, cases_eq, no_handler, numbered_handler_bytes, place_of}
 use Rattle.dexcode.proofs.HandlerPlaces.{weight_count, weight_more, place_more}
 use Rattle.dexcode.proofs.CodeSizes.{handler_length}
 use Rattle.dexcode.proofs.code_put.place_handlers.Goals as goal
@@ -13,18 +12,15 @@ bounds-places-i c = omega (arith, c.requires.enough, c.loop-i-test.true, c.loop-
 pub loop-i-preserved : goal.loop-i-preserved
 loop-i-preserved c =
     let hs = c.args.handlers.now in
-    let i = c.loop-i.i in
-    let places = c.loop-i.places in
-    let place = c.loop-i.place in
     let inv = c.loop-i.invariant in
     let lt = c.loop-i-test.true in
-    let is : get_or hs i no_handler ≡ c.index-handlers-i.result = get_or_default hs i no_handler c.index-handlers-i.result lt ∙ sym c.index-handlers-i.is in
+    let is : get_or hs c.loop-i.i no_handler ≡ c.index-handlers-i.result = get_or_default hs c.loop-i.i no_handler c.index-handlers-i.result lt ∙ sym c.index-handlers-i.is in
     record {
-      sum = place_more hs i no_handler place c.handler_len-place.result lt inv.sum (c.handler_len-place.ensures.len ∙ ap (λ h. length (numbered_handler_bytes h)) (sym is));
-      few = omega (arith, inv.few, c.handler_len-place.ensures.len, ap (λ h. length (numbered_handler_bytes h)) is, handler_length (get_or hs i no_handler) (c.requires.short.typed i no_handler lt), weight_more hs i no_handler lt);
-      count = length-set places i place ∙ inv.count;
-      each = λ k less. elim (cases_eq k i) [
-        | inl here ↦ ap (λ (q : ℕ). get_or (slice_set places i place) q 0) here ∙ get_or-set_same places i place 0 (omega (arith, inv.count, c.requires.enough, lt)) ∙ inv.sum ∙ ap (place_of hs) (sym here)
-        | inr other ↦ get_or-set_other places i k place 0 other ∙ inv.each k (omega (arith, less, other))
+      sum = place_more hs c.loop-i.i no_handler c.loop-i.place c.handler_len-place.result lt inv.sum (c.handler_len-place.ensures.len ∙ ap (λ h. length (numbered_handler_bytes h)) (sym is));
+      few = omega (arith, inv.few, c.handler_len-place.ensures.len, ap (λ h. length (numbered_handler_bytes h)) is, handler_length (get_or hs c.loop-i.i no_handler) (c.requires.short.typed c.loop-i.i no_handler lt), weight_more hs c.loop-i.i no_handler lt);
+      count = length-set c.loop-i.places c.loop-i.i c.loop-i.place ∙ inv.count;
+      each = λ k less. elim (cases_eq k c.loop-i.i) [
+        | inl here ↦ ap (λ (q : ℕ). get_or (slice_set c.loop-i.places c.loop-i.i c.loop-i.place) q 0) here ∙ get_or-set_same c.loop-i.places c.loop-i.i c.loop-i.place 0 (omega (arith, inv.count, c.requires.enough, lt)) ∙ inv.sum ∙ ap (place_of hs) (sym here)
+        | inr other ↦ get_or-set_other c.loop-i.places c.loop-i.i k c.loop-i.place 0 other ∙ inv.each k (omega (arith, less, other))
       ];
     }

@@ -1,8 +1,5 @@
-use Rattle.dexcode.proofs.Common.{ℕ, List, sym, subst, err_from_is_err_and, AreRising, AreStartsAt}
-use Rattle.dexcode.specs.{NumberedTry, TriesAt, IsTriesFault}
-use Rattle.dexcode.specs.internal.Extras.{IsDebugOf, tries_of, debug_of}
-use Rattle.dexcode.proofs.CodesChecked.{program_fault}
-use Rattle.dexcode.proofs.CodesRead.{code_found, tries_fault}
+use Rattle.dexcode.proofs.Common.{ℕ, List, sym, subst, err_from_is_err_and, AreRising, AreStartsAt, NumberedTry, TriesAt, IsTriesFault, IsDebugOf, tries_of, debug_of}
+use Rattle.dexcode.proofs.CodesRead.{program_fault, code_found, tries_fault}
 use Rattle.dexcode.proofs.code_reading.read_code_in.Goals as goal
 
 pub returns-in_err-tries-clause-refused : goal.returns-in_err-tries-clause-refused
@@ -22,10 +19,7 @@ returns-in_err-debug-clause-refused c = λ pools.
 pub returns-clause-code : goal.returns-clause-code
 returns-clause-code c = λ pools.
     let rising = subst AreRising c.numbering.ensures c.is_numbering.ensures.rising in
-    let extras = c.in_ok-extras.ensures in
-    let first = subst (TriesAt c.starts-starts.result c.len-types.result c.bytes.result.now c.args.off) (sym extras.tries) c.in_ok-tries.ensures.tries in
-    let second = subst (λ bytes. TriesAt c.starts-starts.result c.len-types.result bytes c.args.off (tries_of c.in_ok-extras.extras)) c.bytes.ensures.bytes first in
-    let tries = subst (λ (n : ℕ). TriesAt c.starts-starts.result n c.args.frame.now c.args.off (tries_of c.in_ok-extras.extras)) c.len-types.ensures second in
-    let debug = subst (IsDebugOf c.args.frame.now c.args.off c.args.pools.now) (sym extras.debug) (c.in_ok-debug.ensures.program pools) in
+    let first = subst (TriesAt c.starts-starts.result c.len-types.result c.bytes.result.now c.args.off) (sym c.in_ok-extras.ensures.tries) c.in_ok-tries.ensures.tries in
+    let tries = subst (λ (n : ℕ). TriesAt c.starts-starts.result n c.args.frame.now c.args.off (tries_of c.in_ok-extras.extras)) c.len-types.ensures (subst (λ bytes. TriesAt c.starts-starts.result c.len-types.result bytes c.args.off (tries_of c.in_ok-extras.extras)) c.bytes.ensures.bytes first) in
     code_found c.args.frame.now c.args.off c.args.pools.now pools rising c.starts-starts.result (subst (AreStartsAt c.args.frame.now c.args.off) (sym c.starts-starts.ensures) c.in_ok-shape.ensures.starts) c.in_ok-pieces.pieces c.in_ok-pieces.ensures.registers (c.in_ok-pieces.ensures.pieces pools)
-    (tries_of c.in_ok-extras.extras) tries (debug_of c.in_ok-extras.extras) debug
+    (tries_of c.in_ok-extras.extras) tries (debug_of c.in_ok-extras.extras) (subst (IsDebugOf c.args.frame.now c.args.off c.args.pools.now) (sym c.in_ok-extras.ensures.debug) (c.in_ok-debug.ensures.program pools))

@@ -1,5 +1,4 @@
-use Rattle.dexcode.proofs.Common.{◌≡◌, take}
-use Rattle.dexcode.specs.{handlers_weight}
+use Rattle.dexcode.proofs.Common.{◌≡◌, take, handlers_weight}
 use Rattle.dexcode.proofs.code_weight.handlers_weight.Given as goal
 
 abbrev pub invariant-loop-handler : goal.invariant-loop-handler

@@ -1,5 +1,4 @@
-use Rattle.dexcode.proofs.Common.{◌≡◌, ◌≤◌, take, most_handlers}
-use Rattle.dexcode.specs.{handlers_weight}
+use Rattle.dexcode.proofs.Common.{◌≡◌, ◌≤◌, take, most_handlers, handlers_weight}
 use Rattle.dexcode.proofs.stored_tries.are_light.Given as goal
 
 abbrev pub invariant-loop-handler : goal.invariant-loop-handler

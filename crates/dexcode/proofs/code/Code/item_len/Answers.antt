@@ -1,5 +1,4 @@
-use Rattle.dexcode.proofs.Common.{length, ap, ◌∙◌}
-use Rattle.dexcode.specs.{numbered_item_bytes}
+use Rattle.dexcode.proofs.Common.{length, ap, ◌∙◌, numbered_item_bytes}
 use Rattle.dexcode.proofs.code.Code.item_len.Goals as goal
 
 pub returns-clause-numbered : goal.returns-clause-numbered

@@ -1,6 +1,4 @@
-use Rattle.dexcode.proofs.Common.{Some, ap, sym, subst, ◌∙◌, All, option_map, HasPlace}
-use Rattle.dexcode.specs.{tries_uses, HasTypePlace}
-use Rattle.dexcode.specs.internal.Extras.{tries_of, debug_of}
+use Rattle.dexcode.proofs.Common.{Some, ap, sym, subst, ◌∙◌, All, option_map, HasPlace, tries_uses, HasTypePlace, tries_of, debug_of}
 use Rattle.dexcode.proofs.CodeUses.{debug_part, optional_debug_uses}
 use Rattle.dexcode.proofs.code.Code.renumber.Goals as goal
 
@@ -11,8 +9,7 @@ renumber-requires-in-Debug c =
 
 pub renumber-requires-in-Tries : goal.renumber-requires-in-Tries
 renumber-requires-in-Tries c =
-    let tries = sym (ap (λ x. x.tries) c.self.view_is) ∙ ap tries_of c.in-Tries.is ∙ ap (λ b. b.tries) (sym c.deref_mut-in-Tries.ensures.value) in
-    subst (λ ts. All (HasTypePlace c.args.remap.now) (tries_uses ts)) tries c.requires.catches_have
+    subst (λ ts. All (HasTypePlace c.args.remap.now) (tries_uses ts)) (sym (ap (λ x. x.tries) c.self.view_is) ∙ ap tries_of c.in-Tries.is ∙ ap (λ b. b.tries) (sym c.deref_mut-in-Tries.ensures.value)) c.requires.catches_have
 
 pub renumber-requires-in-Some : goal.renumber-requires-in-Some
 renumber-requires-in-Some c =

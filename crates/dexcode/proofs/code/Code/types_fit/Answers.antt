@@ -1,5 +1,4 @@
-use Rattle.dexcode.proofs.Common.{All, ap, subst, ◌∙◌, ◌↔◌, IsTrue}
-use Rattle.dexcode.specs.{handlers_of, HasShortTypes}
+use Rattle.dexcode.proofs.Common.{All, ap, subst, ◌∙◌, ◌↔◌, IsTrue, handlers_of, HasShortTypes}
 use Rattle.dexcode.proofs.code.Code.types_fit.Goals as goal
 
 pub returns : goal.returns

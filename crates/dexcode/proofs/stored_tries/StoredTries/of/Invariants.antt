@@ -1,6 +1,4 @@
-use Rattle.dexcode.proofs.Common.{◌≡◌, ◌+◌, ◌*◌, List, take}
-use Rattle.dexcode.specs.{NumberedHandler}
-use Rattle.dexcode.specs.internal.NamedHandlers.{AreListed}
+use Rattle.dexcode.proofs.Common.{◌≡◌, ◌+◌, ◌*◌, List, take, NumberedHandler, AreListed}
 use Rattle.dexcode.proofs.Named.{NamedSoFar}
 use Rattle.dexcode.proofs.stored_tries.StoredTries.of.Given as goal
 

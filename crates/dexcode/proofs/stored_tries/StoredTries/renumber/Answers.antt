@@ -1,5 +1,4 @@
-use Rattle.dexcode.proofs.Common.{map, sym, ◌∙◌, ap, subst, All, flat_map, all_parts}
-use Rattle.dexcode.specs.{AreStored, handlers_of, all_named, handler_uses, tries_uses, HasTypePlace, renumbered_try}
+use Rattle.dexcode.proofs.Common.{map, sym, ◌∙◌, ap, subst, All, flat_map, all_parts, AreStored, handlers_of, all_named, handler_uses, tries_uses, HasTypePlace, renumbered_try}
 use Rattle.dexcode.proofs.TypesRemapped.{types_apart, stored_remapped, named_remapped}
 use Rattle.dexcode.proofs.stored_tries.StoredTries.renumber.Goals as goal
 
@@ -15,6 +14,5 @@ invariant_of-self c =
 
 pub returns : goal.returns
 returns c =
-    ap (λ hs. all_named hs c.self.inside.tries.items) c.renumber_all.ensures
-    ∙ named_remapped c.args.remap.now c.self.inside.handlers.items c.self.inside.tries.items c.self.invariant.within
+    ap (λ hs. all_named hs c.self.inside.tries.items) c.renumber_all.ensures ∙ named_remapped c.args.remap.now c.self.inside.handlers.items c.self.inside.tries.items c.self.invariant.within
     ∙ ap (map (renumbered_try c.args.remap.now)) c.self.view_is

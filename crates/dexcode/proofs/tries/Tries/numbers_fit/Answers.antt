@@ -1,5 +1,4 @@
-use Rattle.dexcode.proofs.Common.{◌<◌, ◌^◌, subst, All}
-use Rattle.dexcode.specs.{tries_uses}
+use Rattle.dexcode.proofs.Common.{◌<◌, ◌^◌, subst, All, tries_uses}
 use Rattle.dexcode.proofs.CodePlaces.{stored_small}
 use Rattle.dexcode.proofs.tries.Tries.numbers_fit.Goals as goal
 

@@ -1,5 +1,4 @@
-use Rattle.dexcode.proofs.Common.{sym, subst, All}
-use Rattle.dexcode.specs.{catch_use, handler_uses, HasTypePlace}
+use Rattle.dexcode.proofs.Common.{sym, subst, All, catch_use, handler_uses, HasTypePlace}
 use Rattle.dexcode.proofs.Images.{all_back_map}
 use Rattle.dexcode.proofs.tries_numbers.HandlerRenumber.renumber.Goals as goal
 

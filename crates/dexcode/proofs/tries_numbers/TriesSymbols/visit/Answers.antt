@@ -1,5 +1,4 @@
-use Rattle.dexcode.proofs.Common.{ap, subst, ◌∙◌, FoldsTo, flat_map}
-use Rattle.dexcode.specs.{handlers_of, handler_uses}
+use Rattle.dexcode.proofs.Common.{ap, subst, ◌∙◌, FoldsTo, flat_map, handlers_of, handler_uses}
 use Rattle.dexcode.proofs.tries_numbers.TriesSymbols.visit.Goals as goal
 
 pub returns : goal.returns

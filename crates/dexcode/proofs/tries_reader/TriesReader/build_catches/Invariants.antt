@@ -1,4 +1,4 @@
-use Rattle.dexcode.specs.{CatchesRead}
+use Rattle.dexcode.proofs.Common.{CatchesRead}
 use Rattle.dexcode.proofs.tries_reader.TriesReader.build_catches.Given as goal
 
 abbrev pub invariant-loop : goal.invariant-loop

@@ -1,8 +1,6 @@
-use Rattle.dexcode.proofs.Common.{arith}
-use Rattle.dexcode.specs.{CatchAt}
+use Rattle.dexcode.proofs.Common.{arith, CatchAt}
 use Rattle.dexcode.proofs.Prefixes.{stuck}
-use Rattle.dexcode.proofs.OneHandler.{one_catch}
-use Rattle.dexcode.proofs.HandlersRead.{one_catch_more}
+use Rattle.dexcode.proofs.HandlersRead.{one_catch, one_catch_more}
 use Rattle.dexcode.proofs.tries_reader.TriesReader.catches_len.Goals as goal
 
 pub returns-in_err-len-clause-none : goal.returns-in_err-len-clause-none

@@ -1,4 +1,4 @@
-use Rattle.dexcode.specs.internal.NamedHandlers.{HaveCatches}
+use Rattle.dexcode.proofs.Common.{HaveCatches}
 use Rattle.dexcode.proofs.tries_reader.TriesReader.catches_len.Given as goal
 
 abbrev pub invariant-loop : goal.invariant-loop

@@ -1,5 +1,4 @@
-use Rattle.dexcode.proofs.Common.{◌+◌, ap, sym, subst, ◌∙◌, refl, arith, w32, nat_abs, to_z-of_z}
-use Rattle.dexcode.specs.{CatchAllAt}
+use Rattle.dexcode.proofs.Common.{◌+◌, ap, sym, subst, ◌∙◌, refl, arith, w32, nat_abs, to_z-of_z, CatchAllAt}
 use Rattle.dexcode.proofs.HandlersRead.{no_catches, no_catch_all}
 use Rattle.dexcode.proofs.tries_reader.TriesReader.handler_len.Goals as goal
 
@@ -14,7 +13,6 @@ returns-in_err-all_size-clause-none c = rw c.from_residual-in_err-all_size.ensur
 pub returns-clause-some : goal.returns-clause-some
 returns-clause-some c =
     let same = to_z-of_z w32 c.in-Ok.read.0 c.in-Ok.ensures.found.spelled.in_range in
-    let read = c.in_ok-catches_size.ensures.some.read in
     record {
       handler = record { catches = c.in_ok-catches_size.ensures.some.catches; catch_all_addr = c.in_ok-all_size.field-0-0 };
       encodes = record {
@@ -23,10 +21,10 @@ returns-clause-some c =
         catches_size = c.in_ok-catches_size.catches_size;
         all_size = c.in_ok-all_size.all_size;
         count_is = c.in-Ok.ensures.found;
-        many = sym (read.many ∙ c.unsigned_abs-many.ensures.value ∙ ap nat_abs same);
-        catches_are = read.are_encoded;
+        many = sym (c.in_ok-catches_size.ensures.some.read.many ∙ c.unsigned_abs-many.ensures.value ∙ ap nat_abs same);
+        catches_are = c.in_ok-catches_size.ensures.some.read.are_encoded;
         all = subst (λ z. CatchAllAt c.args.self.now.starts.now z c.args.self.now.bytes.now (c.args.at + c.in-Ok.read.1 + c.in_ok-catches_size.catches_size) c.in_ok-all_size.field-0-0 c.in_ok-all_size.all_size) same c.in_ok-all_size.ensures.some;
         size = refl;
       };
-      within = omega (arith, read.within, c.in_ok-all_size.ensures.within);
+      within = omega (arith, c.in_ok-catches_size.ensures.some.read.within, c.in_ok-all_size.ensures.within);
     }

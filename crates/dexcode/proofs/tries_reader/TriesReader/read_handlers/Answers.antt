@@ -1,7 +1,6 @@
-use Rattle.dexcode.proofs.Common.{◌∷◌, [], ◌++◌, ◌+◌, ◌-◌, refl, rules, arith}
-use Rattle.dexcode.specs.{HandlerAt, IsNumberPut}
+use Rattle.dexcode.proofs.Common.{◌∷◌, [], ◌++◌, ◌+◌, ◌-◌, refl, rules, arith, HandlerAt, IsNumberPut}
 use Rattle.dexcode.proofs.Prefixes.{stuck}
-use Rattle.dexcode.proofs.OneHandler.{one_handler}
+use Rattle.dexcode.proofs.HandlersRead.{one_handler}
 use Rattle.dexcode.proofs.Listed.{one_handler_more}
 use Rattle.dexcode.proofs.tries_reader.TriesReader.read_handlers.Goals as goal
 

@@ -1,5 +1,5 @@
-use Rattle.dexcode.proofs.Common.{List}
-use Rattle.dexcode.specs.{NumberedHandler, HandlersRead}
+use Rattle.dexcode.proofs.Common.{List, NumberedHandler}
+use Rattle.dexcode.specs.{HandlersRead}
 use Rattle.dexcode.proofs.tries_reader.TriesReader.read_handlers.Given as goal
 
 abbrev pub invariant-loop-number : goal.invariant-loop-number

@@ -8,8 +8,7 @@ returns-in_err-read_try_table-clause-fault c =
     let p = err_from_is_err_and c.from_residual.result c.from_residual.ensures.1 in
     let some : c.u16_at-count.result ≡ 0 → ⊥ = λ e. grind (arith, common_steps) in
     let even : c.u32_at-units.result % 2 ≡ 0 = grind (arith, common_steps) in
-    let none = even_none c.args.self.now.starts.now c.args.self.now.types c.args.self.now.bytes.now c.args.off c.u32_at-units.result c.u16_at-count.result c.u32_at-units.ensures c.u16_at-count.ensures some even in
-    rw (p.1, p.2) (fault_so none c.in_err-read_try_table.field-0.0 c.in_err-read_try_table.ensures.fault)
+    rw (p.1, p.2) (fault_so (even_none c.args.self.now.starts.now c.args.self.now.types c.args.self.now.bytes.now c.args.off c.u32_at-units.result c.u16_at-count.result c.u32_at-units.ensures c.u16_at-count.ensures some even) c.in_err-read_try_table.field-0.0 c.in_err-read_try_table.ensures.fault)
 
 pub returns-in_err-read_try_table-2-clause-fault : goal.returns-in_err-read_try_table-2-clause-fault
 returns-in_err-read_try_table-2-clause-fault c =

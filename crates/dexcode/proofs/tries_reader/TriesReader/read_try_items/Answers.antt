@@ -1,7 +1,6 @@
-use Rattle.dexcode.proofs.Common.{◌≡◌, ◌∷◌, [], ◌++◌, ◌+◌, ◌*◌, refl, sym, subst, arith, common_steps, length-append, Sequence, one_after}
-use Rattle.dexcode.specs.{ListedTryAt}
+use Rattle.dexcode.proofs.Common.{◌≡◌, ◌∷◌, [], ◌++◌, ◌+◌, ◌*◌, refl, sym, subst, arith, common_steps, length-append, Sequence, one_after, ListedTryAt}
 use Rattle.dexcode.proofs.Prefixes.{stuck}
-use Rattle.dexcode.proofs.TriesListed.{one_listed_try, apart_more, overlap}
+use Rattle.dexcode.proofs.TryTables.{one_listed_try, apart_more, overlap}
 use Rattle.dexcode.proofs.tries_reader.TriesReader.read_try_items.Goals as goal
 
 pub returns-in-None-clause-fault : goal.returns-in-None-clause-fault
@@ -34,9 +33,5 @@ loop-preserved c =
     let apart = apart_more 0 c.loop.end c.loop.tries.items c.in-Some.item c.loop.invariant.2.apart (omega arith) in (
       omega (arith, c.loop.invariant.0),
       omega (arith, next, c.in-Some.ensures.some.within),
-      record {
-        are_encoded = rw pushed are_encoded;
-        many = rw pushed (omega (arith, length-append c.loop.tries.items (c.in-Some.item ∷ []), c.loop.invariant.2.many));
-        apart = rw pushed (rw next apart);
-      },
+      record { are_encoded = rw pushed are_encoded; many = rw pushed (omega (arith, length-append c.loop.tries.items (c.in-Some.item ∷ []), c.loop.invariant.2.many)); apart = rw pushed (rw next apart) },
     )

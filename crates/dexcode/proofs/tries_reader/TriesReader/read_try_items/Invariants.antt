@@ -1,5 +1,4 @@
-use Rattle.dexcode.proofs.Common.{◌≡◌, ◌+◌, ◌*◌, ◌≤◌}
-use Rattle.dexcode.specs.{TriesRead}
+use Rattle.dexcode.proofs.Common.{◌≡◌, ◌+◌, ◌*◌, ◌≤◌, TriesRead}
 use Rattle.dexcode.proofs.tries_reader.TriesReader.read_try_items.Given as goal
 
 abbrev pub invariant-loop : goal.invariant-loop

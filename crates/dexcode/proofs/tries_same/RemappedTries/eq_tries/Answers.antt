@@ -1,5 +1,4 @@
-use Rattle.dexcode.proofs.Common.{◌<◌, length, arith, same_at}
-use Rattle.dexcode.specs.{remapped_try}
+use Rattle.dexcode.proofs.Common.{◌<◌, length, arith, same_at, remapped_try}
 use Rattle.dexcode.proofs.tries_same.RemappedTries.eq_tries.Goals as goal
 
 pub returns-then-not-eq_try : goal.returns-then-not-eq_try

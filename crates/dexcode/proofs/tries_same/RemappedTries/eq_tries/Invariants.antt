@@ -1,5 +1,4 @@
-use Rattle.dexcode.proofs.Common.{◌≡◌, ℕ, ◌<◌, ◌≤◌, length, map, take, get_or}
-use Rattle.dexcode.specs.{no_handler, remapped_try, renumbered_handler}
+use Rattle.dexcode.proofs.Common.{◌≡◌, ℕ, ◌<◌, ◌≤◌, length, map, take, get_or, no_handler, remapped_try, renumbered_handler}
 use Rattle.dexcode.proofs.tries_same.RemappedTries.eq_tries.Given as goal
 
 abbrev pub invariant-loop-i : goal.invariant-loop-i

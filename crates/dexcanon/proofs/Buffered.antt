@@ -9,7 +9,11 @@ module _ {T : Type 0} {gives gives_prefix : List ℕ → T → T → Type 0} {ha
       → Adds gives gives_prefix has_failed x a (record { buffer = w; failed = a.failed; target = a.target })
   buffered more a w x room push = record {
     written = λ r start m h. let p = push (room r) in record {
-      made = λ e. let k = h.made e in record { gone = k.gone; given = k.given; joined = ap (λ z. k.gone ++ z) p.items ∙ sym (append_assoc k.gone a.buffer.items x) ∙ ap (λ z. z ++ x) k.joined };
+      made = λ e. let k = h.made e in record {
+        gone = k.gone;
+        given = k.given;
+        joined = ap (λ z. k.gone ++ z) p.items ∙ sym (append_assoc k.gone a.buffer.items x) ∙ ap (λ z. z ++ x) k.joined;
+      };
       prefix = λ f. more m x start a.target (h.prefix f);
     };
     reports = λ t. t;

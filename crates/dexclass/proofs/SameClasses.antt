@@ -97,7 +97,15 @@ module _ (m n whole : Mentions) (r s : Maps) (c d : NumberedClass) (rising : Are
       let interfaces = one_list whole.types rising.types_rise x.interfaces y.interfaces (all_back P (option_to_list x.superclass) x.interfaces parents_mine) (all_back P (option_to_list y.superclass) y.interfaces parents_theirs) (ap (λ (z : Definition). z.1.interfaces) there) in
       let source = one_optional whole.texts rising.texts_rise x.source y.source mine.known.texts_in theirs.known.texts_in (ap (λ (z : Definition). z.1.source) there) in
       let declared = members (type_at m c.name) f.known.members_own (subst (λ t. AreOfClass n t d.members) (sym (ap (λ (z : Definition). z.0) e)) g.known.members_own) (ap (λ (z : Definition). members_of z.1) e) in
-      λ i. record { name = name i; flags = (there i).1.flags; superclass = superclass i; interfaces = interfaces i; source = source i; members = declared i; weight = (mine.known.weighed ∙ ap (λ (z : Definition). min (2 ^ 64 - 1) (body_weight z.1)) there ∙ sym theirs.known.weighed) i }
+      λ i. record {
+        name = name i;
+        flags = (there i).1.flags;
+        superclass = superclass i;
+        interfaces = interfaces i;
+        source = source i;
+        members = declared i;
+        weight = (mine.known.weighed ∙ ap (λ (z : Definition). min (2 ^ 64 - 1) (body_weight z.1)) there ∙ sym theirs.known.weighed) i;
+      }
 
   -- mapped into one numbering, they are the same if and only if their definitions are
   pub same_classes : (renumbered r c ≡ renumbered s d) ↔ (definition_of m c ≡ definition_of n d)

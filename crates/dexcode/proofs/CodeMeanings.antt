@@ -37,7 +37,11 @@ module _ (m n : Mentions) (r : Maps) (l : AllMapTo m n r) where
   tries_remapped (t ∷ ts) (x ∷ xs) all h =
       let handlers = map (λ (u : NumberedTry). u.handler) ts in
       let is = h.0.handler_is in (
-        record { start_is = h.0.start_is; count_is = h.0.count_is; handler_is = record { catches_are = catches_remapped t.handler.catches x.handler.catches (All-head (HaveTypeImages r) t.handler handlers all) is.catches_are; catch_all_is = is.catch_all_is } },
+        record {
+          start_is = h.0.start_is;
+          count_is = h.0.count_is;
+          handler_is = record { catches_are = catches_remapped t.handler.catches x.handler.catches (All-head (HaveTypeImages r) t.handler handlers all) is.catches_are; catch_all_is = is.catch_all_is };
+        },
         tries_remapped ts xs (All-tail (HaveTypeImages r) t.handler handlers all) h.1,
       )
 

@@ -15,7 +15,11 @@ use Rattle.dexcode.proofs.TryRows.{IsInRange}
 
 -- the numbers of the code have images if its symbols have
 pub images_of_uses : (r : Maps) (c : NumberedItem) → All (IsMappedUse r) (item_uses c) → HasImages r c
-images_of_uses r c all = record { pieces_have = insn_proofs.images_of_uses r c.body.pieces (pieces_part (IsMappedUse r) c all); catches_have = tries_part (IsMappedUse r) c all; debug_has = debugs_part (IsMappedUse r) c all }
+images_of_uses r c all = record {
+  pieces_have = insn_proofs.images_of_uses r c.body.pieces (pieces_part (IsMappedUse r) c all);
+  catches_have = tries_part (IsMappedUse r) c all;
+  debug_has = debugs_part (IsMappedUse r) c all;
+}
 
 -- ---- all numbers have images
 

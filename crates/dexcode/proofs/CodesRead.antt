@@ -66,13 +66,23 @@ pub no_debug : (b : List ℕ) (off : ℕ) (m : Mentions) → uint_at b (off + 8)
 no_debug b off m zero = record { program = None; at = inl (zero, refl); encodes = tt }
 
 pub some_debug : (b : List ℕ) (off debug_off : ℕ) (m : Mentions) (d : NumberedDebug) → debug_off ≡ uint_at b (off + 8) → (debug_off ≡ 0 → ⊥) → IsDebugAt b debug_off m d → IsDebugOf b off m (Some d)
-some_debug b off debug_off m d is some h = record { program = Some h.program; at = inr ((λ e. some (is ∙ e)), subst (λ (o : ℕ). DebugAt b o h.program) is h.at); encodes = h.encodes }
+some_debug b off debug_off m d is some h = record {
+  program = Some h.program;
+  at = inr ((λ e. some (is ∙ e)), subst (λ (o : ℕ). DebugAt b o h.program) is h.at);
+  encodes = h.encodes;
+}
 
 pub code_found : (b : List ℕ) (off : ℕ) (m : Mentions) → ArePools b m → AreRising m → (starts : List Bool) → AreStartsAt b off starts → (body : NumberedCode) → RegistersAt b off body.registers body.ins body.outs → ArePiecesAt b off m body.pieces
     → (ts : List NumberedTry) → TriesAt starts (length m.types) b off ts → (d : Option NumberedDebug) → IsDebugOf b off m d → IsCodeAt b off m (record { body = body; tries = ts; debug = d })
 code_found b off m pools rising starts starts_are body registers pieces ts tries d debug = record {
   symbolic = record { registers = body.registers; ins = body.ins; outs = body.outs; pieces = pieces.symbolic; tries = map (try_meant m) ts; debug = debug.program };
-  at = record { registers = registers; cuts = pieces.cuts; pieces = pieces.at; tries = tries_found b off m pools rising starts starts_are pieces.cuts pieces.symbolic pieces.at ts tries; debug = debug.at };
+  at = record {
+    registers = registers;
+    cuts = pieces.cuts;
+    pieces = pieces.at;
+    tries = tries_found b off m pools rising starts starts_are pieces.cuts pieces.symbolic pieces.at ts tries;
+    debug = debug.at;
+  };
   encodes = record {
     registers_are = refl;
     ins_are = refl;
@@ -115,7 +125,13 @@ code_weighed law b off m pools rising starts starts_are s pieces tries program t
     } in
     record {
       code = record { registers = s.registers; ins = s.ins; outs = s.outs; pieces = pieces.at.symbolic; tries = map (try_meant m) ts.tries; debug = d.program };
-      at = record { registers = pieces.registers; cuts = pieces.at.cuts; pieces = pieces.at.at; tries = tries_found b off m pools rising starts starts_are pieces.at.cuts pieces.at.symbolic pieces.at.at ts.tries ts.at; debug = d.at };
+      at = record {
+        registers = pieces.registers;
+        cuts = pieces.at.cuts;
+        pieces = pieces.at.at;
+        tries = tries_found b off m pools rising starts starts_are pieces.at.cuts pieces.at.symbolic pieces.at.at ts.tries ts.at;
+        debug = d.at;
+      };
       weighs = omega (arith, law m item unindexed rising encodes, units_length pieces.pieces, pieces.units, ts.weighs, d.weighs);
     }
 
@@ -126,7 +142,12 @@ program_fault pieces Memory h = tt
 
 -- the debug program at the offset is that of the code_item
 pub program_found : (b : List ℕ) (off debug_off weight : ℕ) → debug_off ≡ uint_at b (off + 8) → (debug_off ≡ 0 → ⊥) → HasDebugAt b debug_off weight → HasProgramOf b off weight
-program_found b off debug_off weight is some h = record { program = Some h.program; at = inr ((λ e. some (is ∙ e)), subst (λ (o : ℕ). DebugAt b o h.program) is h.at); weighs = omega (arith, sum_by-cons debug_weight h.program [], h.weighs); light = h.light }
+program_found b off debug_off weight is some h = record {
+  program = Some h.program;
+  at = inr ((λ e. some (is ∙ e)), subst (λ (o : ℕ). DebugAt b o h.program) is h.at);
+  weighs = omega (arith, sum_by-cons debug_weight h.program [], h.weighs);
+  light = h.light;
+}
 
 -- if there is none at the offset, the code_item has none
 pub no_program : (b : List ℕ) (off debug_off : ℕ) → debug_off ≡ uint_at b (off + 8) → (debug_off ≡ 0 → ⊥) → (fault : ItemFault) → IsDebugFault b debug_off fault → IsProgramFault b off fault

@@ -77,5 +77,9 @@ module _ (starts : List Bool) (types : ℕ) (b : List ℕ) (o typ index_size : �
 pub one_catch_more : (starts : List Bool) (types : ℕ) (b : List ℕ) (o count size n : ℕ) (c : Catch) → HaveCatches starts types b o count size → CatchAt starts types b (o + size) c n → o + size + n ≤ length b → HaveCatches starts types b o (count + 1) (size + n)
 one_catch_more starts types b o count size n c h at within = record {
   catches = h.catches ++ c ∷ [];
-  read = record { are_encoded = one_after (CatchAt starts types) b o h.catches c size n h.read.are_encoded at; many = omega (arith, length-append h.catches (c ∷ []), h.read.many); within = omega (arith, within) };
+  read = record {
+    are_encoded = one_after (CatchAt starts types) b o h.catches c size n h.read.are_encoded at;
+    many = omega (arith, length-append h.catches (c ∷ []), h.read.many);
+    within = omega (arith, within);
+  };
 }

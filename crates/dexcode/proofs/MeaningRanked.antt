@@ -29,7 +29,11 @@ module _ (m : Mentions) where
   ranked_try t = record { start_addr = t.start; insn_count = t.count; handler = record { catches = map ranked_catch t.handler.catches; catch_all_addr = t.handler.catch_all } }
 
   abbrev ranked_code : symbolic.Code → NumberedItem
-  ranked_code x = record { body = record { registers = x.registers; ins = x.ins; outs = x.outs; pieces = map ranked_piece x.pieces }; tries = map ranked_try x.tries; debug = option_map (ranked_debug m) x.debug }
+  ranked_code x = record {
+    body = record { registers = x.registers; ins = x.ins; outs = x.outs; pieces = map ranked_piece x.pieces };
+    tries = map ranked_try x.tries;
+    debug = option_map (ranked_debug m) x.debug;
+  }
 
 -- ---- the ranks are the numbers
 
@@ -50,12 +54,21 @@ module _ (m : Mentions) (ranks : RanksAreNumbers m) where
 
   try_back : (t : NumberedTry) → IsKnownTry m t → ranked_try m (try_meant m t) ≡ t
   try_back t h =
-      λ i. record { start_addr = t.start_addr; insn_count = t.insn_count; handler = record { catches = (all_back (catch_meant m) (ranked_catch m) (λ (c : Catch). c.typ < length m.types) catch_back t.handler.catches h) i; catch_all_addr = t.handler.catch_all_addr } }
+      λ i. record {
+        start_addr = t.start_addr;
+        insn_count = t.insn_count;
+        handler = record { catches = (all_back (catch_meant m) (ranked_catch m) (λ (c : Catch). c.typ < length m.types) catch_back t.handler.catches h) i; catch_all_addr = t.handler.catch_all_addr };
+      }
 
   code_back : (c : NumberedItem) → IsKnownCode m c → ranked_code m (code_in m c) ≡ c
   code_back c h =
       λ i. record {
-        body = record { registers = c.body.registers; ins = c.body.ins; outs = c.body.outs; pieces = (all_back (piece_in m) (ranked_piece m) (IsKnownPiece m) piece_back c.body.pieces h.pieces_known) i };
+        body = record {
+          registers = c.body.registers;
+          ins = c.body.ins;
+          outs = c.body.outs;
+          pieces = (all_back (piece_in m) (ranked_piece m) (IsKnownPiece m) piece_back c.body.pieces h.pieces_known) i;
+        };
         tries = (all_back (try_meant m) (ranked_try m) (IsKnownTry m) try_back c.tries h.tries_known) i;
         debug = (one_back (debug_in m) (ranked_debug m) (IsKnownDebug m) (debug_back m ranks) c.debug h.debug_known) i;
       }

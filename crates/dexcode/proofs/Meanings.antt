@@ -64,7 +64,11 @@ module _ (m : Mentions) where
 
   try_means : (t : NumberedTry) (x : symbolic.Try) → DenotesTry m t x → x ≡ try_meant m t
   try_means t x h =
-      λ i. record { start = (sym h.start_is) i; count = (sym h.count_is) i; handler = record { catches = (all_mean (DenotesCatch m) (λ (c : Catch). c.typ < length m.types) (catch_meant m) catch_means t.handler.catches x.handler.catches h.handler_is.catches_are) i; catch_all = (sym h.handler_is.catch_all_is) i } }
+      λ i. record {
+        start = (sym h.start_is) i;
+        count = (sym h.count_is) i;
+        handler = record { catches = (all_mean (DenotesCatch m) (λ (c : Catch). c.typ < length m.types) (catch_meant m) catch_means t.handler.catches x.handler.catches h.handler_is.catches_are) i; catch_all = (sym h.handler_is.catch_all_is) i };
+      }
 
   try_encoded : (t : NumberedTry) → IsKnownTry m t → DenotesTry m t (try_meant m t)
   try_encoded t h = record {
@@ -94,7 +98,14 @@ module _ (m : Mentions) where
   pub code_means : (c : NumberedItem) (x : symbolic.Code) → DenotesCode m c x → x ≡ code_in m c
   code_means c x h =
       let debug = one_means (DenotesDebug m) (IsKnownDebug m) (debug_in m) (debug_means m) c.debug x.debug h.debug_is in
-      λ i. record { registers = (sym h.registers_are) i; ins = (sym h.ins_are) i; outs = (sym h.outs_are) i; pieces = (all_mean (Denotes m) (IsKnownPiece m) (piece_in m) piece_means c.body.pieces x.pieces h.pieces_are) i; tries = (tries_mean c.tries x.tries h.tries_are) i; debug = debug i }
+      λ i. record {
+        registers = (sym h.registers_are) i;
+        ins = (sym h.ins_are) i;
+        outs = (sym h.outs_are) i;
+        pieces = (all_mean (Denotes m) (IsKnownPiece m) (piece_in m) piece_means c.body.pieces x.pieces h.pieces_are) i;
+        tries = (tries_mean c.tries x.tries h.tries_are) i;
+        debug = debug i;
+      }
 
   pub code_encoded : (c : NumberedItem) → IsKnownCode m c → DenotesCode m c (code_in m c)
   code_encoded c h = record {

@@ -10,8 +10,14 @@ use Rattle.dexcode.proofs.Prefixes.{same_prefix}
 
 -- one try
 pub one_listed_try : (units : ℕ) (numbers : List (Option ℕ)) → (b : List ℕ) (o : ℕ) (t u : Try) (n k : ℕ) → ListedTryAt units numbers b o t n → ListedTryAt units numbers b o u k → (t ≡ u) × (n ≡ k)
-one_listed_try units numbers b o t u n k h g =
-    ((λ i. record { start_addr = (sym h.start_is ∙ g.start_is) i; insn_count = (sym h.count_is ∙ g.count_is) i; handler = (ap (λ (x : Option ℕ). unwrap_or x 0) (sym h.named ∙ g.named)) i }), h.size ∙ sym g.size)
+one_listed_try units numbers b o t u n k h g = (
+  (λ i. record {
+    start_addr = (sym h.start_is ∙ g.start_is) i;
+    insn_count = (sym h.count_is ∙ g.count_is) i;
+    handler = (ap (λ (x : Option ℕ). unwrap_or x 0) (sym h.named ∙ g.named)) i;
+  }),
+  h.size ∙ sym g.size,
+)
 
 -- one more after them
 pub apart_more : (from to : ℕ) (ts : List Try) (t : Try) → AreApartFrom from ts to → to ≤ t.start_addr → AreApartFrom from (ts ++ t ∷ []) (t.start_addr + t.insn_count)
@@ -80,7 +86,13 @@ module _ (starts : List Bool) (types units : ℕ) (b : List ℕ) (list : ℕ) (h
         count_is = h.count_is;
         some = h.some;
         within = h.within;
-        handler_is = record { index = t.handler; before = begins.0; begins = begins.1; place = omega (arith, begins.2); is = λ d. get_or_default hs t.handler d no_handler begins.1.within };
+        handler_is = record {
+          index = t.handler;
+          before = begins.0;
+          begins = begins.1;
+          place = omega (arith, begins.2);
+          is = λ d. get_or_default hs t.handler d no_handler begins.1.within;
+        };
         size = h.size;
       }
 

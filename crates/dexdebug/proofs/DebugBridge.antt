@@ -70,7 +70,14 @@ module _ (b : List ℕ) (m : Mentions) (pools : ArePools b m) where
       let s = text_indexed (o + 1 + h.1) name h.2 h.5 in
       let t = type_indexed (o + 1 + h.1 + h.2) type h.3 h.6 in (
         StartLocal register s.0 t.0,
-        record { opcode = 0x03; operands_size = h.1 + h.2 + h.3; at_opcode = h.0; byte = omega arith; operands = (refl, record { register_size = h.1; name_size = h.2; type_size = h.3; at_register = h.4; at_name = s.1; at_type = t.1; size = refl }); size = omega (arith, h.7) },
+        record {
+          opcode = 0x03;
+          operands_size = h.1 + h.2 + h.3;
+          at_opcode = h.0;
+          byte = omega arith;
+          operands = (refl, record { register_size = h.1; name_size = h.2; type_size = h.3; at_register = h.4; at_name = s.1; at_type = t.1; size = refl });
+          size = omega (arith, h.7);
+        },
       )
   operation_numbered o (symbolic.StartLocalExtended register name type signature) n h =
       let s = text_indexed (o + 1 + h.1) name h.2 h.6 in

@@ -11,7 +11,11 @@ debug_decides operation operations_decided d e =
     let names_decided = pointwise_decides option_decides d.parameter_names e.parameter_names in
     let decided = pointwise_decides operations_decided d.operations e.operations in (
       λ t. let front = first_so (start && names) operations t in
-          λ i. record { line_start = ((unsigned_Decides d.line_start e.line_start).0 (first_so start names front)) i; parameter_names = (names_decided.0 (second_so start names front)) i; operations = (decided.0 (second_so (start && names) operations t)) i },
+          λ i. record {
+            line_start = ((unsigned_Decides d.line_start e.line_start).0 (first_so start names front)) i;
+            parameter_names = (names_decided.0 (second_so start names front)) i;
+            operations = (decided.0 (second_so (start && names) operations t)) i;
+          },
       λ p. both (start && names) operations
           (both start names ((unsigned_Decides d.line_start e.line_start).1 (ap (λ x. x.line_start) p)) (names_decided.1 (ap (λ x. x.parameter_names) p)))
           (decided.1 (ap (λ x. x.operations) p)),

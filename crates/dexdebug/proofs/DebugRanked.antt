@@ -58,7 +58,11 @@ module _ (m : Mentions) (ranks : RanksAreNumbers m) where
   pub debug_back : (d : NumberedDebug) → IsKnownDebug m d → ranked_debug m (debug_in m d) ≡ d
   debug_back d h =
       let operations = all_back (operation_in m) (ranked_operation m) (IsKnownOperation m) operation_back d.operations h.operations_known in
-      λ i. record { line_start = d.line_start; parameter_names = (all_back (option_map (text_at m)) (option_map (text_rank m)) (IsKnownText m) text_back d.parameter_names h.names_known) i; operations = operations i }
+      λ i. record {
+        line_start = d.line_start;
+        parameter_names = (all_back (option_map (text_at m)) (option_map (text_rank m)) (IsKnownText m) text_back d.parameter_names h.names_known) i;
+        operations = operations i;
+      }
 
 -- ---- other numbers
 

@@ -21,7 +21,12 @@ index_formed count b o i n h = h.0.spelled.in_range
 -- numbers that are read have a spelling
 pub operands_formed : (m : Counts) (c : ℕ) (b : List ℕ) (o : ℕ) (op : Operation) (n : ℕ) → OperandsAt m c b o op n → IsFormedOperation op
 operands_formed m c b o (StartLocal register name typ) n h =
-    record { name_fits = index_formed m.texts b (o + h.1.register_size) name h.1.name_size h.1.at_name; type_fits = index_formed m.types b (o + h.1.register_size + h.1.name_size) typ h.1.type_size h.1.at_type; signature_fits = omega arith; is_special = tt }
+    record {
+      name_fits = index_formed m.texts b (o + h.1.register_size) name h.1.name_size h.1.at_name;
+      type_fits = index_formed m.types b (o + h.1.register_size + h.1.name_size) typ h.1.type_size h.1.at_type;
+      signature_fits = omega arith;
+      is_special = tt;
+    }
 operands_formed m c b o (StartLocalExtended register name typ signature) n h =
     let l = h.1.at_local in record {
       name_fits = index_formed m.texts b (o + l.register_size) name l.name_size l.at_name;
@@ -51,7 +56,11 @@ goes_on m b o c r here some only (op ∷ ops) p =
       p.operations.2.operands_size,
       ops,
       only op p.operations.2.operands_size (subst (λ (k : ℕ). OperandsAt m k b (o + 1) op p.operations.2.operands_size) (same_first p.operations.2.opcode c [] [] p.operations.2.at_opcode here) p.operations.2.operands),
-      record { size = p.operations.1; operations = subst (λ (k : ℕ). Sequence (NumberedAt m) b k ops p.operations.1) following p.operations.3; end = is_at (omega (arith, p.operations.4, following)) p.end },
+      record {
+        size = p.operations.1;
+        operations = subst (λ (k : ℕ). Sequence (NumberedAt m) b k ops p.operations.1) following p.operations.3;
+        end = is_at (omega (arith, p.operations.4, following)) p.end;
+      },
     )
 
 -- the opcode of an operation is not that of the end
@@ -271,7 +280,11 @@ next_operation m b from t counter at ops r h lt only = by_rest h.rest h.left h.a
               let following : at + p.operations.0 ≡ at + (1 + x.1) = omega (arith, p.operations.2.size, same.1) in record {
                 rest = rest;
                 left = omega (arith, left);
-                ahead = record { size = p.operations.1; operations = subst (λ (k : ℕ). Sequence (NumberedAt m) b k rest p.operations.1) following p.operations.3; end = is_at (omega (arith, p.operations.4, following)) p.end };
+                ahead = record {
+                  size = p.operations.1;
+                  operations = subst (λ (k : ℕ). Sequence (NumberedAt m) b k rest p.operations.1) following p.operations.3;
+                  end = is_at (omega (arith, p.operations.4, following)) p.end;
+                };
                 whole = subst (AreTheOperations m b from t) (sym (append_assoc ops (op ∷ []) rest) ∙ ap (λ y. ops ++ y ∷ [] ++ rest) same.0 ∙ ap (λ ys. ys ++ rest) (sym f)) whole;
               };
         }
@@ -355,4 +368,9 @@ built_at m b o s names ops q n h =
 
 pub built_formed : (m : Counts) (b : List ℕ) (o : ℕ) (s : DebugShape) (names : List (Option ℕ)) (ops : List Operation) → IsShape m b o s → AreTheNames m.texts b s.names_at s.names names → AreTheOperations m b s.operations_at s.tally ops
     → IsFormedDebug (record { line_start = s.line_start; parameter_names = names; operations = ops })
-built_formed m b o s names ops q n h = record { names_count = omega (arith, n.names_at.many, q.few); names_fit = n.fit; operations_count = omega (arith, h.many, q.operations.few, q.operations.count); operations_fit = h.formed }
+built_formed m b o s names ops q n h = record {
+  names_count = omega (arith, n.names_at.many, q.few);
+  names_fit = n.fit;
+  operations_count = omega (arith, h.many, q.operations.few, q.operations.count);
+  operations_fit = h.formed;
+}

@@ -5,7 +5,12 @@ use Rattle.dexdebug.proofs.DebugMeanings.{weights_are}
 -- the debug program that was checked is at the offset
 pub debug_found : (b : List ℕ) (off : ℕ) (m : Mentions) (s : DebugShape) → IsShapeAt b off m s → HasDebugOf b off m s.weight → HasDebugAt b off s.weight
 debug_found b off m s is h =
-    record { program = h.at.program; at = h.at.at; weighs = omega (arith, weights_are m h.debug h.at.program h.at.encodes, h.weighs); light = omega (arith, is.shape.weight, is.shape.few, is.shape.operations.light, is.shape.operations.count, is.shape.operations.few) }
+    record {
+      program = h.at.program;
+      at = h.at.at;
+      weighs = omega (arith, weights_are m h.debug h.at.program h.at.encodes, h.weighs);
+      light = omega (arith, is.shape.weight, is.shape.few, is.shape.operations.light, is.shape.operations.count, is.shape.operations.few);
+    }
 
 same_some : (v w : ℕ) → Some v ≡ Some w → v ≡ w
 same_some v w e = cc

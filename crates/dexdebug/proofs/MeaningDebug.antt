@@ -104,7 +104,11 @@ module _ (m : Mentions) where
   pub debug_means : (d : NumberedDebug) (x : symbolic.Debug) → DenotesDebug m d x → x ≡ debug_in m d
   debug_means d x h =
       let operations = all_mean (DenotesOperation m) (IsKnownOperation m) (operation_in m) operation_means d.operations x.operations h.operations_are in
-      λ i. record { line_start = (sym h.start_is) i; parameter_names = (all_mean (DenotesText m) (IsKnownText m) (option_map (text_at m)) text_means d.parameter_names x.parameter_names h.names_are) i; operations = operations i }
+      λ i. record {
+        line_start = (sym h.start_is) i;
+        parameter_names = (all_mean (DenotesText m) (IsKnownText m) (option_map (text_at m)) text_means d.parameter_names x.parameter_names h.names_are) i;
+        operations = operations i;
+      }
 
   pub debug_encoded : (d : NumberedDebug) → IsKnownDebug m d → DenotesDebug m d (debug_in m d)
   debug_encoded d h = record {

@@ -214,7 +214,13 @@ any_operands : (m : Counts) (c : ℕ) (b : List ℕ) (o : ℕ) (op : Operation) 
 any_operands m c b o (StartLocal register name typ) n h = (h.0, any_local m b o register name typ n h.1)
 any_operands m c b o (StartLocalExtended register name typ signature) n h = (
   h.0,
-  record { local_size = h.1.local_size; signature_size = h.1.signature_size; at_local = any_local m b o register name typ h.1.local_size h.1.at_local; at_signature = any_index m.texts b (o + h.1.local_size) signature h.1.signature_size h.1.at_signature; size = h.1.size },
+  record {
+    local_size = h.1.local_size;
+    signature_size = h.1.signature_size;
+    at_local = any_local m b o register name typ h.1.local_size h.1.at_local;
+    at_signature = any_index m.texts b (o + h.1.local_size) signature h.1.signature_size h.1.at_signature;
+    size = h.1.size;
+  },
 )
 any_operands m c b o (SetFile name) n h = (h.0, any_index m.texts b o name n h.1)
 any_operands m c b o _ n h = h
@@ -225,7 +231,18 @@ read_stored m b o (op ∷ ops) n h =
     let at = h.2 in (
       h.0,
       h.1,
-      record { encoded = op; at = record { opcode = at.opcode; operands_size = at.operands_size; at_opcode = at.at_opcode; byte = at.byte; operands = any_operands m at.opcode b (o + 1) op at.operands_size at.operands; size = at.size }; same = refl },
+      record {
+        encoded = op;
+        at = record {
+          opcode = at.opcode;
+          operands_size = at.operands_size;
+          at_opcode = at.at_opcode;
+          byte = at.byte;
+          operands = any_operands m at.opcode b (o + 1) op at.operands_size at.operands;
+          size = at.size;
+        };
+        same = refl;
+      },
       read_stored m b (o + h.0) ops h.1 h.3,
       h.4,
     )
@@ -260,7 +277,17 @@ module _ (r : Maps) where
 
   remapped_each : (b : List ℕ) (o : ℕ) (ops : List Operation) (n : ℕ) → Sequence IsStoredAt b o ops n → Sequence IsStoredAt b o (map (renumbered_operation r) ops) n
   remapped_each b o [] n h = h
-  remapped_each b o (op ∷ ops) n h = let s = h.2 in (h.0, h.1, record { encoded = s.encoded; at = s.at; same = s.same ∙ remapped_unindexed op }, remapped_each b (o + h.0) ops h.1 h.3, h.4)
+  remapped_each b o (op ∷ ops) n h = let s = h.2 in (
+    h.0,
+    h.1,
+    record {
+      encoded = s.encoded;
+      at = s.at;
+      same = s.same ∙ remapped_unindexed op;
+    },
+    remapped_each b (o + h.0) ops h.1 h.3,
+    h.4,
+  )
 
   -- once renumbered, the numbers are stored as those of the renumbered operations
   remapped_stored : (count : ℕ) (b : List ℕ) (o : ℕ) (is js : List Index) → AreStored count b o is → js ≡ map (renumbered_index r) is → AreStored count b o js
@@ -301,7 +328,11 @@ module _ (names count : ℕ) (b : List ℕ) (o : ℕ) (is : List Index) (s : IsS
   -- what is stored is this debug program
   pub debug_is : (line_start : ℕ) → stored_debug line_start names count b o is ≡ record { line_start = line_start; parameter_names = s.named; operations = s.stored.operations }
   debug_is line_start =
-      λ i. record { line_start = line_start; parameter_names = (ap numbers_in first_names ∙ names_are s.named) i; operations = (ap (operations_in count b o) then_symbols ∙ view_is count b o s.symbols s.stored) i }
+      λ i. record {
+        line_start = line_start;
+        parameter_names = (ap numbers_in first_names ∙ names_are s.named) i;
+        operations = (ap (operations_in count b o) then_symbols ∙ view_is count b o s.symbols s.stored) i;
+      }
 
   pub names_many : length (numbers_in (take names is)) ≡ names
   names_many = ap length (ap numbers_in first_names ∙ names_are s.named) ∙ s.many

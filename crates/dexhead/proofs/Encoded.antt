@@ -50,5 +50,9 @@ pub encoded_put : {T E : Type 0} (item : List ℕ) (n : ℕ) (a b c : Vec ℕ) (
 encoded_put item n a b c t is items len room more push =
     let pushes = push (omega (arith, is, room, b.small)) in
     record {
-      ok = pushes.items ∙ ap (λ bs. bs ++ item) items; len = omega (arith, pushes.len, len); err = tt; room = λ _. refl; capacity = omega (arith, pushes.capacity, more);
+      ok = pushes.items ∙ ap (λ bs. bs ++ item) items;
+      len = omega (arith, pushes.len, len);
+      err = tt;
+      room = λ _. refl;
+      capacity = omega (arith, pushes.capacity, more);
     }

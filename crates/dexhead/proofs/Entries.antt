@@ -183,14 +183,25 @@ has_table h ClassDefs = h.classes.there
 
 have_tables : {b : List ℕ} {es : List MapEntry} → ((t : header.Table) → HasTable b es t) → HaveTables b es
 have_tables h = record {
-  strings = record { there = h StringIds }; types = record { there = h TypeIds }; protos = record { there = h ProtoIds }; fields = record { there = h FieldIds };
-  methods = record { there = h MethodIds }; classes = record { there = h ClassDefs };
+  strings = record { there = h StringIds };
+  types = record { there = h TypeIds };
+  protos = record { there = h ProtoIds };
+  fields = record { there = h FieldIds };
+  methods = record { there = h MethodIds };
+  classes = record { there = h ClassDefs };
 }
 
 pub has_map : {b : List ℕ} → IsInPlace b → AreRight b (map_entries b) → HasMap b
 has_map place right = record {
-  in_data = place.in_data; aligned = place.aligned; known = right.order.known; once = right.order.once; rise = right.order.rise; header = right.header.begins; tables = has_table right.tables;
-  itself = right.itself.itself; others = right.order.others;
+  in_data = place.in_data;
+  aligned = place.aligned;
+  known = right.order.known;
+  once = right.order.once;
+  rise = right.order.rise;
+  header = right.header.begins;
+  tables = has_table right.tables;
+  itself = right.itself.itself;
+  others = right.order.others;
 }
 
 pub are_right : {b : List ℕ} → HasMap b → AreRight b (map_entries b)

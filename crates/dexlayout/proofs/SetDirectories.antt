@@ -133,8 +133,11 @@ all_fields (c ∷ cs) offs le =
     let n = length (sets_of_class c) in
     let count = length-append (sets_of_class c) (flat_map sets_of_class cs) in
     omega (
-      arith, length-append (parts_of_class c offs).fields (flat_map (λ s. s.fields) (parts_of_classes cs (drop n offs))), length-append (fields_of c.members) (flat_map (λ c. fields_of c.members) cs),
-      part_fields c offs (omega (arith, le, count)), all_fields cs (drop n offs) (omega (arith, le, count, length-drop n offs)),
+      arith,
+      length-append (parts_of_class c offs).fields (flat_map (λ s. s.fields) (parts_of_classes cs (drop n offs))),
+      length-append (fields_of c.members) (flat_map (λ c. fields_of c.members) cs),
+      part_fields c offs (omega (arith, le, count)),
+      all_fields cs (drop n offs) (omega (arith, le, count, length-drop n offs)),
     )
 
 pub all_firsts : (cs : List NumberedClass) (offs : List ℕ) → length (flat_map firsts (parts_of_classes cs offs)) ≡ length (flat_map (λ c. methods_of c.members) cs)

@@ -29,11 +29,21 @@ set_offsets_are K = refl
 
 -- of methods
 pub collected_methods : (p : SetPlaces) (oss : List (List ℕ)) → collect_methods p oss ≡ record {
-  own = p.own; fields = p.fields; methods = p.methods ++ map (λ os. slice_index os 0) oss; parameters = p.parameters ++ flat_map (drop 1) oss; written = p.written;
+  own = p.own;
+  fields = p.fields;
+  methods = p.methods ++ map (λ os. slice_index os 0) oss;
+  parameters = p.parameters ++ flat_map (drop 1) oss;
+  written = p.written;
 }
 collected_methods p [] = λ i. record { own = p.own; fields = p.fields; methods = sym (append-nil p.methods) i; parameters = sym (append-nil p.parameters) i; written = p.written }
 collected_methods p (os ∷ oss) =
-    collected_methods (collect_method p os) oss ∙ (λ i. record { own = p.own; fields = p.fields; methods = append_assoc p.methods (slice_index os 0 ∷ []) (map (λ os. slice_index os 0) oss) i; parameters = append_assoc p.parameters (drop 1 os) (flat_map (drop 1) oss) i; written = p.written })
+    collected_methods (collect_method p os) oss ∙ (λ i. record {
+      own = p.own;
+      fields = p.fields;
+      methods = append_assoc p.methods (slice_index os 0 ∷ []) (map (λ os. slice_index os 0) oss) i;
+      parameters = append_assoc p.parameters (drop 1 os) (flat_map (drop 1) oss) i;
+      written = p.written;
+    })
 
 -- of classes
 pub collected_classes : (p : SetPlaces) (ss : List SetOffsets) → collect_classes p ss ≡ record {
@@ -43,7 +53,13 @@ pub collected_classes : (p : SetPlaces) (ss : List SetOffsets) → collect_class
   parameters = p.parameters ++ flat_map (λ (s : SetOffsets). flat_map (drop 1) s.methods) ss;
   written = p.written;
 }
-collected_classes p [] = λ i. record { own = sym (append-nil p.own) i; fields = sym (append-nil p.fields) i; methods = sym (append-nil p.methods) i; parameters = sym (append-nil p.parameters) i; written = p.written }
+collected_classes p [] = λ i. record {
+  own = sym (append-nil p.own) i;
+  fields = sym (append-nil p.fields) i;
+  methods = sym (append-nil p.methods) i;
+  parameters = sym (append-nil p.parameters) i;
+  written = p.written;
+}
 collected_classes p (s ∷ ss) =
     let q = collect_own p s.own s.fields in
     let a = append_assoc p.own (s.own ∷ []) (map (λ (s : SetOffsets). s.own) ss) in
@@ -51,7 +67,13 @@ collected_classes p (s ∷ ss) =
     let c = append_assoc p.methods (map (λ os. slice_index os 0) s.methods) (flat_map (λ (s : SetOffsets). map (λ os. slice_index os 0) s.methods) ss) in
     ap (λ r. collect_classes r ss) (collected_methods q s.methods)
     ∙ collected_classes (record { own = q.own; fields = q.fields; methods = q.methods ++ map (λ os. slice_index os 0) s.methods; parameters = q.parameters ++ flat_map (drop 1) s.methods; written = q.written }) ss
-    ∙ (λ i. record { own = a i; fields = b i; methods = c i; parameters = append_assoc p.parameters (flat_map (drop 1) s.methods) (flat_map (λ (s : SetOffsets). flat_map (drop 1) s.methods) ss) i; written = p.written })
+    ∙ (λ i. record {
+      own = a i;
+      fields = b i;
+      methods = c i;
+      parameters = append_assoc p.parameters (flat_map (drop 1) s.methods) (flat_map (λ (s : SetOffsets). flat_map (drop 1) s.methods) ss) i;
+      written = p.written;
+    })
 
 -- ---- the offsets that are left
 

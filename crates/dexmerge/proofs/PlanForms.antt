@@ -8,8 +8,8 @@ use Rattle.dexmerge.specs.declared.plan.Plan.TheFolds.{fold-roll-Plan}
 use Rattle.dexmerge.specs.{plans_of, plan_step, plan_of}
 
 -- a node is the node of its parts
-pub node_is : (plan : Plan) (parts : Vec Plan Global) (items : List Plan) → plan ≡ variants.Node parts → items ≡ parts.items → plan_of plan ≡ merging.Node (plans_of (map plan_of items))
-node_is plan parts items e same = ap plan_of (e ∙ sym (variants.rolls-Node parts)) ∙ fold-roll-Plan merging.Plan plan_step (layers.Node parts) ∙ ap (λ (l : List Plan). merging.Node (plans_of (map plan_of l))) (sym same)
+pub node_is : (plan : Plan) (parts : Vec Plan Global) → plan ≡ variants.Node parts → plan_of plan ≡ merging.Node (plans_of (map plan_of parts.items))
+node_is plan parts e = ap plan_of (e ∙ sym (variants.rolls-Node parts)) ∙ fold-roll-Plan merging.Plan plan_step (layers.Node parts)
 
 pub node_with : (plan : Plan) (parts : Vec Plan Global) (items : List Plan) → plan ≡ variants.Node parts → items ≡ parts.items → plan_of plan ≡ merging.Node (plans_of (map plan_of items))
 node_with plan parts items e same = node_is plan parts e ∙ ap (λ (l : List Plan). merging.Node (plans_of (map plan_of l))) (sym same)

@@ -97,7 +97,12 @@ module _ (classes : List (List ℕ)) (within : AreWithin classes) where
   pub depth_less : (i d : ℕ) → i < length classes → IsDepth classes i d → d < length classes
   depth_less i d lt h =
       let r = lesser d i lt h in
-      omega (arith, r.1, length-range_with_len 0 (length classes), length-among (i ∷ r.0) (range_with_len 0 (length classes)) (AreDistinct-cons i r.0 (λ c. both_ways (is_under classes d i) h.not_under (r.3 i c).1) r.2) (λ x c. elim (Contains-cons_cases i x r.0 c) [
-        | inl e ↦ Contains-range 0 (length classes) x (omega arith) (omega (arith, e))
-        | inr l ↦ Contains-range 0 (length classes) x (omega arith) (omega (arith, (r.3 x l).0))
-      ]))
+      omega (
+        arith,
+        r.1,
+        length-range_with_len 0 (length classes),
+        length-among (i ∷ r.0) (range_with_len 0 (length classes)) (AreDistinct-cons i r.0 (λ c. both_ways (is_under classes d i) h.not_under (r.3 i c).1) r.2) (λ x c. elim (Contains-cons_cases i x r.0 c) [
+          | inl e ↦ Contains-range 0 (length classes) x (omega arith) (omega (arith, e))
+          | inr l ↦ Contains-range 0 (length classes) x (omega arith) (omega (arith, (r.3 x l).0))
+        ]),
+      )

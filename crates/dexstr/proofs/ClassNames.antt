@@ -24,7 +24,11 @@ join_cons u p (q ∷ qs) = refl
 
 ends_semicolon : (begun : Bool) (s : List ℕ) → (begun ≡ true) × (is_end s ≡ true) → Ends begun (0x3b ∷ s)
 ends_semicolon begun s e = record {
-  part = []; parts = []; units = λ k d lt. absurd (omega arith); some = λ no. absurd (true≢false (sym e.0 ∙ no)); names = λ k d lt. absurd (omega arith);
+  part = [];
+  parts = [];
+  units = λ k d lt. absurd (omega arith);
+  some = λ no. absurd (true≢false (sym e.0 ∙ no));
+  names = λ k d lt. absurd (omega arith);
   is = ap (λ (x : List ℕ). 0x3b ∷ x) (end_is s e.1);
 }
 
@@ -40,7 +44,12 @@ ends_slash begun s is ends = record {
 
 ends_name : (begun : Bool) (u : ℕ) (s : List ℕ) → IsNameUnit u → Ends true s → Ends begun (u ∷ s)
 ends_name begun u s is ends = record {
-  part = u ∷ ends.part; parts = ends.parts; units = All-cons IsNameUnit u ends.part is ends.units; some = λ no. omega arith; names = ends.names; is = rw join_cons (ap (λ (x : List ℕ). u ∷ x) ends.is);
+  part = u ∷ ends.part;
+  parts = ends.parts;
+  units = All-cons IsNameUnit u ends.part is ends.units;
+  some = λ no. omega arith;
+  names = ends.names;
+  is = rw join_cons (ap (λ (x : List ℕ). u ∷ x) ends.is);
 }
 
 ends_from : (begun : Bool) (s : List ℕ) → ends_class begun s ≡ true → Ends begun s

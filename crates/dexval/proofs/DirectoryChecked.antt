@@ -56,4 +56,8 @@ pub directory_checked : (b : List ℕ) (o : ℕ) (m : Mentions) → HasPools b m
     → weight ≡ min (2 ^ 64 - 1) (min (2 ^ 64 - 1) (min (2 ^ 64 - 1) (w1 + w2) + w3) + w4) → HasDirectoryOf b o m weight
 directory_checked b o m file w1 w2 w3 w4 weight has h1 h2 h3 h4 sum =
     let whole : NumberedDirectory = record { own = h1.item; fields = h2.item; methods = h3.item; parameters = h4.item } in
-    record { item = whole; is_read = directory_read b o m file h1.item h2.item h3.item h4.item has h1.is_read h2.is_read h3.is_read h4.is_read; weight_is = omega (arith, parts_weigh m whole, h1.weight_is, h2.weight_is, h3.weight_is, h4.weight_is, sum) }
+    record {
+      item = whole;
+      is_read = directory_read b o m file h1.item h2.item h3.item h4.item has h1.is_read h2.is_read h3.is_read h4.is_read;
+      weight_is = omega (arith, parts_weigh m whole, h1.weight_is, h2.weight_is, h3.weight_is, h4.weight_is, sum);
+    }

@@ -214,7 +214,11 @@ pub item_part : {X Y : Type 0} (Known : X → Type 0) (inside : X → Y) (At : L
 item_part {X} {Y} Known inside At weighs one b p n limit i least kept lt h entries g =
     let x = pair_of At weighs b p n limit i entries lt g in
     let entry : ℕ × X → ℕ × Y = λ e. (e.0, inside e.1) in
-    record { part = x.member.1; is = x.encodes.2; lighter = omega (arith, x.lighter, ap (sum_by (λ (e : ℕ × Y). weighs e.1)) (one_pairs At one b limit (pairs_at b p i) x.before (map entry kept) x.are_before h.pairs_read.pairs_encoded.pairs), sum_by-map (λ (e : ℕ × Y). weighs e.1) entry kept) }
+    record {
+      part = x.member.1;
+      is = x.encodes.2;
+      lighter = omega (arith, x.lighter, ap (sum_by (λ (e : ℕ × Y). weighs e.1)) (one_pairs At one b limit (pairs_at b p i) x.before (map entry kept) x.are_before h.pairs_read.pairs_encoded.pairs), sum_by-map (λ (e : ℕ × Y). weighs e.1) entry kept);
+    }
 
 -- all were read
 pub pairs_end : {X Y : Type 0} (Known : X → Type 0) (inside : X → Y) (At : List ℕ → ℕ → Y → Type 0) (b : List ℕ) (p n limit i least : ℕ) (xs : List (ℕ × X)) → i ≡ n → HaveReadPairs Known inside At b p limit i least xs → ArePairsAt Known inside At b p n limit xs

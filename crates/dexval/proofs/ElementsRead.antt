@@ -239,7 +239,11 @@ module _ (b : List ℕ) (o depth : ℕ) (m : Mentions) (p : ArePools b m) where
 
   -- an annotation after its first byte
   pub annotation_encoded : (t : ℕ) (es : NumberedElements) (n : ℕ) → o < length b → slice_index b o ≡ 29 → depth ≢ 0 → IsAnnotationReadAt b (o + 1) m (depth - 1) t es n → IsReadAt b o m depth (Annotated t es) (1 + n)
-  annotation_encoded t es n lt is some r = record { known = (r.type_known, r.known); encodes = (is_at_byte b o 29 lt is, n, r.encodes, refl); shallow = omega (arith, r.shallow, some) }
+  annotation_encoded t es n lt is some r = record {
+    known = (r.type_known, r.known);
+    encodes = (is_at_byte b o 29 lt is, n, r.encodes, refl);
+    shallow = omega (arith, r.shallow, some);
+  }
 
   pub no_annotation : slice_index b o ≡ 29 → NoAnnotationAt b (o + 1) (depth - 1) → NoValueAt b o depth
   no_annotation is none v n h d =

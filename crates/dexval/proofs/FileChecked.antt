@@ -3,7 +3,11 @@ use Rattle.dexval.proofs.Common.{◌≡◌, ◌≢◌, ℕ, zero, suc, ◌+◌, 
 use Rattle.dexval.proofs.Weights.{weight_is, values_weight_is}
 
 pub value_checked : (b : List ℕ) (off : ℕ) (m : Mentions) (n weight : ℕ) → data_off b ≤ off → HasValue b off m most_depth n weight → HasValueOf b off m n weight
-value_checked b off m n weight in_data h = record { value = h.value; at = record { known = h.read.known; at = record { in_data = in_data; encodes = h.read.encodes; shallow = h.read.shallow } }; weighs = sym (weight_is m h.value) ∙ h.weighs }
+value_checked b off m n weight in_data h = record {
+  value = h.value;
+  at = record { known = h.read.known; at = record { in_data = in_data; encodes = h.read.encodes; shallow = h.read.shallow } };
+  weighs = sym (weight_is m h.value) ∙ h.weighs;
+}
 
 counted_in : (m : Mentions) (xs : NumberedValues) → count_values (values_in m xs) ≡ values_count xs
 counted_in m NoValue = refl

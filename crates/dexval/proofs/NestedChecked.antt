@@ -39,7 +39,11 @@ module _ (b : List ℕ) (m : Mentions) (o depth count : ℕ) where
   no_value_yet = record { values = []; so_far = none_read b m o depth count; weighed = refl }
 
   pub one_value_checked : (i k weight n heavy : ℕ) → i < count → ValuesChecked b o m depth count i k weight → HasValue b (o + k) m depth n heavy → ValuesChecked b o m depth count (i + 1) (k + n) (weight + heavy)
-  one_value_checked i k weight n heavy lt h r = record { values = h.values ++ r.value ∷ []; so_far = one_more b m o depth count i h.values k r.value n lt h.so_far r.read; weighed = omega (arith, values_weight_then h.values r.value, h.weighed, r.weighs) }
+  one_value_checked i k weight n heavy lt h r = record {
+    values = h.values ++ r.value ∷ [];
+    so_far = one_more b m o depth count i h.values k r.value n lt h.so_far r.read;
+    weighed = omega (arith, values_weight_then h.values r.value, h.weighed, r.weighs);
+  }
 
 -- if the next is no value, there is no array
 pub no_value_next : (b : List ℕ) (m : Mentions) (o depth count head i k weight : ℕ) → Uleb128At b o count head → i < count → ValuesChecked b (o + head) m depth count i k weight → NoValueAt b (o + head + k) depth → NoArrayAt b o depth
@@ -74,13 +78,21 @@ module _ (b : List ℕ) (m : Mentions) (file : HasPools b m) (o depth count : �
   pub one_element_checked : (i least k weight name n heavy : ℕ) → i < count → ElementsChecked b o m depth count i least k weight → HasElement b (o + k) m depth least name n heavy → ElementsChecked b o m depth count (i + 1) (name + 1) (k + n) (weight + heavy)
   one_element_checked i least k weight name n heavy lt h r =
       let e : ℕ × NumberedValue = (name, r.value) in
-      record { elements = h.elements ++ e ∷ []; so_far = one_element_more b m file o depth count i least h.elements k e n lt h.so_far r.read; weighed = omega (arith, elements_weight_then h.elements e, h.weighed, r.weighs) }
+      record {
+        elements = h.elements ++ e ∷ [];
+        so_far = one_element_more b m file o depth count i least h.elements k e n lt h.so_far r.read;
+        weighed = omega (arith, elements_weight_then h.elements e, h.weighed, r.weighs);
+      }
 
   pub no_element_next : (i least k weight : ℕ) → i < count → ElementsChecked b o m depth count i least k weight → NoElementAt b (o + k) depth least → NoElementsAt b o depth count
   no_element_next i least k weight lt h none = no_next_element b m file o depth count i least h.elements k lt h.so_far none
 
   pub elements_checked : (i least k weight : ℕ) → i ≡ count → ElementsChecked b o m depth count i least k weight → HasElements b o m depth count k weight
-  elements_checked i least k weight all h = record { elements = elements_of_list h.elements; read = all_elements_read b m file o depth count i least h.elements k all h.so_far; weighs = h.weighed }
+  elements_checked i least k weight all h = record {
+    elements = elements_of_list h.elements;
+    read = all_elements_read b m file o depth count i least h.elements k all h.so_far;
+    weighs = h.weighed;
+  }
 
 -- an annotation of a type and elements
 pub annotation_of_elements : (b : List ℕ) (m : Mentions) (file : HasPools b m) (o depth index head count second k weight : ℕ) → Uleb128At b o index head → index < length m.types → Uleb128At b (o + head) count second

@@ -33,7 +33,13 @@ distinct_more x xs other rest (suc i) (suc j) d lt le = rest i j d (omega (arith
 
 -- no item is recorded yet
 pub none_placed : (f : ℕ → Option ℕ) → HaveOffsets f 0
-none_placed f = record { offsets = []; counted = refl; distinct = λ i j d lt le. absurd (omega (arith, le)); small = λ off c. absurd (Contains-nil off c); recorded = λ off c. absurd (Contains-nil off c) }
+none_placed f = record {
+  offsets = [];
+  counted = refl;
+  distinct = λ i j d lt le. absurd (omega (arith, le));
+  small = λ off c. absurd (Contains-nil off c);
+  recorded = λ off c. absurd (Contains-nil off c);
+}
 
 -- an offset at which none is recorded
 module _ (f : ℕ → Option ℕ) (count off : ℕ) (placed : HaveOffsets f count) (fresh : f off ≡ None) (lt : off < 2 ^ 32) where

@@ -55,9 +55,19 @@ module _ (b : List ℕ) (m : Mentions) (file : HasPools b m) where
   pub some_set_checked : (o i least weight count : ℕ) → HasOffsets b o → i ≡ uint_at b o → i ≡ count → 0 < i → SetChecked b (o + 4) m (uint_at b o) i least weight → HasSetOf b o m count weight
   some_set_checked o i least weight count has all is some h =
       let many = how_many o i least weight h in
-      record { set = h.annotations; at = all_read b m file o i least h.annotations has all h.so_far; counted = omega (arith, many, is); weighs = sym (set_weight_is m h.annotations) ∙ some_weight h.annotations (omega (arith, many, some)) ∙ h.weighed }
+      record {
+        set = h.annotations;
+        at = all_read b m file o i least h.annotations has all h.so_far;
+        counted = omega (arith, many, is);
+        weighs = sym (set_weight_is m h.annotations) ∙ some_weight h.annotations (omega (arith, many, some)) ∙ h.weighed;
+      }
 
   pub empty_set_checked : (o i least weight count : ℕ) → HasOffsets b o → i ≡ uint_at b o → i ≡ count → count ≡ 0 → SetChecked b (o + 4) m (uint_at b o) i least weight → HasSetOf b o m count 0
   empty_set_checked o i least weight count has all is none h =
       let many = how_many o i least weight h in
-      record { set = h.annotations; at = all_read b m file o i least h.annotations has all h.so_far; counted = omega (arith, many, is); weighs = sym (set_weight_is m h.annotations) ∙ no_weight h.annotations (omega (arith, many, is, none)) }
+      record {
+        set = h.annotations;
+        at = all_read b m file o i least h.annotations has all h.so_far;
+        counted = omega (arith, many, is);
+        weighs = sym (set_weight_is m h.annotations) ∙ no_weight h.annotations (omega (arith, many, is, none));
+      }

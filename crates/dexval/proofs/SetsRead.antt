@@ -89,7 +89,12 @@ module _ (b : List ℕ) (m : Mentions) (file : HasPools b m) where
         encodes = h.0;
         row = h.0.annotation.1.5;
         above = a h.0.annotation.1.3 h.0.annotation.1.5;
-        following = record { set = s; are_encoded = subst (λ (n : ℕ). AllZip (AnnotationAt b) (uints_at b (p + 4) n) s) one h.1; rise = rise_next x.type s r; above = above_next h.0.annotation.1.3 x.type s h.0.annotation.1.5 r };
+        following = record {
+          set = s;
+          are_encoded = subst (λ (n : ℕ). AllZip (AnnotationAt b) (uints_at b (p + 4) n) s) one h.1;
+          rise = rise_next x.type s r;
+          above = above_next h.0.annotation.1.3 x.type s h.0.annotation.1.5 r;
+        };
       }
 
   next : (p left least : ℕ) → 0 < left → RestOf b p left least → Next p left least
@@ -150,7 +155,12 @@ module _ (b : List ℕ) (m : Mentions) (file : HasPools b m) where
   pub all_read : (o i least : ℕ) (xs : List NumberedAnnotation) → HasOffsets b o → i ≡ uint_at b o → HaveReadSet b (o + 4) m (uint_at b o) i least xs → IsSetAt b o m xs
   all_read o i least xs has e h = record {
     known = h.known;
-    at = record { in_data = has.in_data; aligned = has.aligned; annotations = subst (λ (n : ℕ). AllZip (AnnotationAt b) (uints_at b (o + 4) n) (set_in m xs)) e h.are_encoded; rise = ap (rises text_cmp) (types_of xs) ∙ h.rise };
+    at = record {
+      in_data = has.in_data;
+      aligned = has.aligned;
+      annotations = subst (λ (n : ℕ). AllZip (AnnotationAt b) (uints_at b (o + 4) n) (set_in m xs)) e h.are_encoded;
+      rise = ap (rises text_cmp) (types_of xs) ∙ h.rise;
+    };
   }
     where
       types_of : (ys : List NumberedAnnotation) → map (λ a. a.type) (set_in m ys) ≡ map (λ y. type_at m y.type) ys

@@ -46,7 +46,13 @@ module _ (b : List ℕ) (m : Mentions) where
 
   next_of : (o depth left n : ℕ) (vs : Values) → 0 < left → ValuesAt b o vs n → count_values vs ≡ left → values_depth vs ≤ depth → Next o depth left
   next_of o depth left n NoValues lt h e d = absurd (omega (arith, e, lt))
-  next_of o depth left n (ThenValue v vs) lt h e d = record { value = v; size = h.0; encodes = h.2; shallow = omega (arith, d); following = record { values = vs; size = h.1; are_encoded = h.3; number = omega (arith, e); shallow = omega (arith, d) } }
+  next_of o depth left n (ThenValue v vs) lt h e d = record {
+    value = v;
+    size = h.0;
+    encodes = h.2;
+    shallow = omega (arith, d);
+    following = record { values = vs; size = h.1; are_encoded = h.3; number = omega (arith, e); shallow = omega (arith, d) };
+  }
 
   next : (o depth left : ℕ) → 0 < left → Rest b o depth left → Next o depth left
   next o depth left lt r = next_of o depth left r.size r.values lt r.are_encoded r.number r.shallow

@@ -16,8 +16,11 @@ module _ (f g : ℕ → ℕ) where
   equivalent_at xs ys k e lt = sym (get_or-map f xs k 0 0 lt) ∙ ap (λ (l : List ℕ). get_or l k 0) e ∙ get_or-map g ys k 0 0 (omega (arith, lt, length-map xs f, ap length e, length-map ys g))
 
 pub returns-then-type_number : goal.returns-then-type_number
-returns-then-type_number c = (λ e. absurd (false≢true e), λ e. absurd (c.if-type_number.true (c.type_number.ensures
-    ∙ equivalent_at (remapped c.args.mine.now.types) (remapped c.args.theirs.now.types) c.args.numbers.now c.args.others.now c.loop-k.k e c.loop-k-test.true ∙ sym c.type_number-in-loop-k.ensures)))
+returns-then-type_number c = (
+  λ e. absurd (false≢true e),
+  λ e. absurd (c.if-type_number.true (c.type_number.ensures
+      ∙ equivalent_at (remapped c.args.mine.now.types) (remapped c.args.theirs.now.types) c.args.numbers.now c.args.others.now c.loop-k.k e c.loop-k-test.true ∙ sym c.type_number-in-loop-k.ensures)),
+)
 
 pub returns : goal.returns
 returns c = (λ e. equivalent (remapped c.args.mine.now.types) (remapped c.args.theirs.now.types) c.args.numbers.now c.args.others.now c.if-numbers-others.false (λ k lt. c.loop-k.invariant k (omega (arith, lt, c.loop-k-test.false))), λ e. refl)

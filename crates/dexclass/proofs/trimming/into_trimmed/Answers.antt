@@ -34,5 +34,9 @@ returns c =
           trimmed m n r cs _ (λ class. c.renumbering_law.ensures.same m n r class maps) (mapped k r (subst (λ (o : Option Maps). IfSome o (MapsMarked c.in_ok-marks.marks)) w.in-Some.is c.in_ok-trimmed.ensures.marked)) c.requires (ap (λ v. v.items) w.classes-is ∙ w.cut_all.ensures) is
       | in_default w ↦
           let whole : n ≡ m = subst (λ (o : Option Maps). IfNone o (n ≡ m)) w.in_default.is c.in_ok-trimmed.ensures.whole in
-          rw w.classes-is (record { mentions_are = is; same = ap (λ (t : Mentions). map (definition_of t) cs) whole; known = subst (λ (t : Mentions). All (IsKnownClass t) cs) (sym whole) c.requires })
+          rw w.classes-is (record {
+            mentions_are = is;
+            same = ap (λ (t : Mentions). map (definition_of t) cs) whole;
+            known = subst (λ (t : Mentions). All (IsKnownClass t) cs) (sym whole) c.requires;
+          })
     ]

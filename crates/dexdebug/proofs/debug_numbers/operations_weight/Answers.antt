@@ -6,7 +6,11 @@ loop-operation-preserved c =
     let had = c.loop-operation.invariant in
     let steps = c.in-Some.ensures.steps in
     let more = length-append c.loop-operation.yielded (c.in-Some.operation ∷ []) in
-    record { sum = omega (arith, had.sum, ap (sum_by operation_weight) steps, sum_by-cons operation_weight c.in-Some.operation c.next.new.self, c.operands.ensures.count); bound = omega (arith, had.bound, more, c.operands.ensures.few); count = omega (arith, had.count, more, ap length steps) }
+    record {
+      sum = omega (arith, had.sum, ap (sum_by operation_weight) steps, sum_by-cons operation_weight c.in-Some.operation c.next.new.self, c.operands.ensures.count);
+      bound = omega (arith, had.bound, more, c.operands.ensures.few);
+      count = omega (arith, had.count, more, ap length steps);
+    }
 
 pub returns : goal.returns
 returns c =

@@ -20,4 +20,8 @@ loop-preserved c =
 
 pub returns : goal.returns
 returns c =
-    record { names = c.loop.invariant.names; are = all_names_built c.args.texts c.args.bytes.now c.args.from c.args.count c.loop.counter c.loop.at c.loop.invariant.names c.loop.invariant.built (omega (arith, c.loop-test.false)); kept = c.loop.invariant.kept }
+    record {
+      names = c.loop.invariant.names;
+      are = all_names_built c.args.texts c.args.bytes.now c.args.from c.args.count c.loop.counter c.loop.at c.loop.invariant.names c.loop.invariant.built (omega (arith, c.loop-test.false));
+      kept = c.loop.invariant.kept;
+    }

@@ -5,7 +5,11 @@ use Rattle.dexdebug.proofs.debug_reading.keep_symbols.Goals as goal
 pub returns-then-tally-eq0 : goal.returns-then-tally-eq0
 returns-then-tally-eq0 c =
     let t = c.requires.tallied in
-    record { operations = t.operations; are = are_tallied c.args.counts c.args.bytes.now c.args.from c.args.tally t; kept = sym (append-nil c.args.indices.now.items) ∙ ap (λ is. c.args.indices.now.items ++ is) (sym (nil_from_length (flat_map indices_of t.operations) (omega (arith, t.indices)))) }
+    record {
+      operations = t.operations;
+      are = are_tallied c.args.counts c.args.bytes.now c.args.from c.args.tally t;
+      kept = sym (append-nil c.args.indices.now.items) ∙ ap (λ is. c.args.indices.now.items ++ is) (sym (nil_from_length (flat_map indices_of t.operations) (omega (arith, t.indices))));
+    }
 
 pub loop-init : goal.loop-init
 loop-init c = record { operations = []; built = no_operations_built c.args.counts c.args.bytes.now c.args.from c.args.tally [] c.requires.tallied refl; kept = sym (append-nil c.args.indices.now.items) }
@@ -25,4 +29,8 @@ loop-preserved c =
 
 pub returns : goal.returns
 returns c =
-    record { operations = c.loop.invariant.operations; are = all_operations_built c.args.counts c.args.bytes.now c.args.from c.args.tally c.loop.counter c.loop.at c.loop.invariant.operations c.loop.invariant.built (omega (arith, c.loop-test.false)); kept = c.loop.invariant.kept }
+    record {
+      operations = c.loop.invariant.operations;
+      are = all_operations_built c.args.counts c.args.bytes.now c.args.from c.args.tally c.loop.counter c.loop.at c.loop.invariant.operations c.loop.invariant.built (omega (arith, c.loop-test.false));
+      kept = c.loop.invariant.kept;
+    }

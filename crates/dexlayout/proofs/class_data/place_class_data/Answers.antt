@@ -28,8 +28,10 @@ pub put_item-requires-clause-fits : goal.put_item-requires-clause-fits
 put_item-requires-clause-fits c =
     let cs = c.args.classes.now in
     omega (
-      arith, use_fits 1 c.loop-class.items (next (goal.at.put_item-requires-clause-fits c).After-split_at) c.loop-class.invariant.encoded,
-      (data_laid c.requires.0 cs c.requires.1 c.args.codes.now.offsets c.requires.2.offsets_are c.args.codes.now.end c.requires.2.end_is).places_are.end_is, (end_in_file (ordered_of c.requires.0 cs) c.requires.1.fits).class_data,
+      arith,
+      use_fits 1 c.loop-class.items (next (goal.at.put_item-requires-clause-fits c).After-split_at) c.loop-class.invariant.encoded,
+      (data_laid c.requires.0 cs c.requires.1 c.args.codes.now.offsets c.requires.2.offsets_are c.args.codes.now.end c.requires.2.end_is).places_are.end_is,
+      (end_in_file (ordered_of c.requires.0 cs) c.requires.1.fits).class_data,
     )
 
 pub loop-class-preserved : goal.loop-class-preserved

@@ -42,8 +42,10 @@ pub put_method-requires-clause-fits : goal.put_method-requires-clause-fits
 put_method-requires-clause-fits c =
     let here = (goal.at.put_method-requires-clause-fits c).After-method_at in
     omega (
-      arith, one_fits (methods here) c.loop-class.rest.now c.loop-i.i c.method_at.result (within here) (is here) c.loop-i.invariant,
-      (codes_laid c.requires.0 c.args.classes.now c.requires.1 c.code_bytes_law.ensures.bytes c.args.debugs.now c.requires.2).places_are.end_is, (end_in_file (ordered_of c.requires.0 c.args.classes.now) c.requires.1.fits).codes,
+      arith,
+      one_fits (methods here) c.loop-class.rest.now c.loop-i.i c.method_at.result (within here) (is here) c.loop-i.invariant,
+      (codes_laid c.requires.0 c.args.classes.now c.requires.1 c.code_bytes_law.ensures.bytes c.args.debugs.now c.requires.2).places_are.end_is,
+      (end_in_file (ordered_of c.requires.0 c.args.classes.now) c.requires.1.fits).codes,
     )
 
 pub loop-i-preserved : goal.loop-i-preserved

@@ -16,4 +16,8 @@ pub returns : goal.returns
 returns c m w from =
     let d = c.in_ok-debugs.ensures m w from in
     let k = c.in_ok-codes.ensures m w (subst (AreLaidIn (debug_section (ordered_of m c.args.classes.now))) (sym c.places.ensures) d.places_are) in
-    record { debugs_are = d; codes_are = k; class_data_are = c.in_ok-class_data.ensures m w (subst (AreLaidIn (code_section (ordered_of m c.args.classes.now))) (sym c.places-2.ensures) k.places_are) }
+    record {
+      debugs_are = d;
+      codes_are = k;
+      class_data_are = c.in_ok-class_data.ensures m w (subst (AreLaidIn (code_section (ordered_of m c.args.classes.now))) (sym c.places-2.ensures) k.places_are);
+    }

@@ -15,8 +15,10 @@ put_array-requires-clause-fits c =
     let m = c.args.numbering.now in
     let cs = c.args.classes.now in
     omega (
-      arith, use_fits 1 c.loop-class.items (ap (map (static_item m)) (drop_next cs c.loop-class.class-index c.class-item.result c.loop-class-test.true (sym c.class-item.is))) c.loop-class.invariant,
-      (arrays_laid m cs c.args.from c.requires.from).places_are.end_is, (end_in_file (ordered_of m cs) c.requires.classes.fits).arrays,
+      arith,
+      use_fits 1 c.loop-class.items (ap (map (static_item m)) (drop_next cs c.loop-class.class-index c.class-item.result c.loop-class-test.true (sym c.class-item.is))) c.loop-class.invariant,
+      (arrays_laid m cs c.args.from c.requires.from).places_are.end_is,
+      (end_in_file (ordered_of m cs) c.requires.classes.fits).arrays,
     )
 
 pub loop-class-preserved : goal.loop-class-preserved

@@ -1,4 +1,4 @@
-use Rattle.dexmerge.proofs.Common.{◌≡◌, ◌∙◌, ◌+◌, ◌++◌, ◌∷◌, List, [], map, take, sym, ap, subst, arith, rules, Result, Err, IfErr, flat_map, Contains, take_all, err_from_is_err_and, IfErr-weaker, Definition, Collection, definitions, AreSame, IsFirstCause, refl}
+use Rattle.dexmerge.proofs.Common.{◌≡◌, ◌∙◌, ◌+◌, ◌++◌, ◌∷◌, List, [], map, take, sym, ap, subst, arith, rules, Result, Err, IfErr, flat_map, Contains, take_all, err_from_is_err_and, IfErr-weaker, Definition, Collection, definitions, AreSame, IsFirstCause}
 use Rattle.dexspec.specs.Merging as merging
 use Rattle.dexspec.proofs.merge.Collections.{definitions-same}
 use Rattle.dexmerge.specs.declared.plan.Plan.TheViews.{the_lemmas}

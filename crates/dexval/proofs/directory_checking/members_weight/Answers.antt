@@ -25,7 +25,11 @@ loop-i-init g c = record {
   least_fits = omega arith;
   checked = c.requires.checked;
   weighed = λ p.
-      record { item = []; is_read = no_pair_yet (g.T.OfMember.is_known c.args.pools.now) (g.T.OfMember.inside c.args.pools.now) g.T.OfMember.encodes c.args.frame.now c.args.pairs.now.at c.args.pairs.now.limit; weight_is = omega arith };
+      record {
+        item = [];
+        is_read = no_pair_yet (g.T.OfMember.is_known c.args.pools.now) (g.T.OfMember.inside c.args.pools.now) g.T.OfMember.encodes c.args.frame.now c.args.pairs.now.at c.args.pairs.now.limit;
+        weight_is = omega arith;
+      };
 }
 
 pub loop-i-preserved : goal.loop-i-preserved

@@ -37,7 +37,11 @@ array_measure-returns-in_err-value-clause-checked t c = rw c.from_residual-in_er
     no_value_next c.args.bytes.now c.args.pools.now c.args.at c.args.depth c.in_ok-count.count c.in_ok-count.head c.loop-i._i c.loop-i.size c.loop-i.weight c.in_ok-count.ensures.found c.loop-i-test.true (c.loop-i.invariant.checked p) (c.in_err-value.ensures.checked p))
 
 pub array_measure-loop-i-init : goal.array_measure-loop-i-init
-array_measure-loop-i-init t c = record { within = omega (arith, c.in_ok-count.ensures.within); light = omega arith; checked = λ p. no_value_yet c.args.bytes.now c.args.pools.now (c.args.at + c.in_ok-count.head) c.args.depth c.in_ok-count.count }
+array_measure-loop-i-init t c = record {
+  within = omega (arith, c.in_ok-count.ensures.within);
+  light = omega arith;
+  checked = λ p. no_value_yet c.args.bytes.now c.args.pools.now (c.args.at + c.in_ok-count.head) c.args.depth c.in_ok-count.count;
+}
 
 pub array_measure-loop-i-preserved : goal.array_measure-loop-i-preserved
 array_measure-loop-i-preserved t c =
@@ -85,7 +89,12 @@ element_measure-returns-clause-checked t c = λ p.
     }
 
 pub elements_measure-loop-i-init : goal.elements_measure-loop-i-init
-elements_measure-loop-i-init t c = record { within = omega arith; light = omega arith; least_fits = omega arith; checked = λ p. no_element_yet c.args.bytes.now c.args.pools.now p c.args.at c.args.depth c.args.count }
+elements_measure-loop-i-init t c = record {
+  within = omega arith;
+  light = omega arith;
+  least_fits = omega arith;
+  checked = λ p. no_element_yet c.args.bytes.now c.args.pools.now p c.args.at c.args.depth c.args.count;
+}
 
 pub elements_measure-returns-in_err-name-clause-checked : goal.elements_measure-returns-in_err-name-clause-checked
 elements_measure-returns-in_err-name-clause-checked t c = rw c.from_residual.ensures (λ p.

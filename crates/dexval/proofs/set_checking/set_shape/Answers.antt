@@ -7,7 +7,11 @@ pub returns-in_err-count : goal.returns-in_err-count
 returns-in_err-count c = rw c.from_residual.ensures (λ p. no_room c.args.frame.now c.args.off c.in_err-count.ensures)
 
 pub loop-i-init : goal.loop-i-init
-loop-i-init c = record { least_fits = omega arith; light = omega arith; checked = λ p. none_checked c.args.frame.now c.args.pools.now p (c.args.off + 4) (uint_at c.args.frame.now c.args.off) }
+loop-i-init c = record {
+  least_fits = omega arith;
+  light = omega arith;
+  checked = λ p. none_checked c.args.frame.now c.args.pools.now p (c.args.off + 4) (uint_at c.args.frame.now c.args.off);
+}
 
 pub returns-in_err-typ : goal.returns-in_err-typ
 returns-in_err-typ c = rw c.from_residual-in_err-typ.ensures (λ p.

@@ -4,9 +4,12 @@ use Rattle.dexclass.proofs.Interfaces.{index_is, all_indices, index_of_all, inte
 use Rattle.dexclass.proofs.class_checks.KnownFile.are_interfaces.Goals as goal
 
 pub returns-then-not-is_interface : goal.returns-then-not-is_interface
-returns-then-not-is_interface c = λ r marks. (λ e. absurd (false≢true e), λ all.
-    let b = c.args.self.now.frame.now in
-    (c.if-not-is_interface.ensures r marks).1 (subst (IsInterfaceIndex b r) (sym (index_is b c.rest-list.result.now c.args.off c.loop-k.k _ _ c.from-index.ensures c.u16_at.ensures c.rest-list.ensures)) (index_of_all b c.args.off c.args.count c.requires.room (IsInterfaceIndex b r) c.loop-k.k c.loop-k-test.true all)))
+returns-then-not-is_interface c = λ r marks. (
+  λ e. absurd (false≢true e),
+  λ all.
+      let b = c.args.self.now.frame.now in
+      (c.if-not-is_interface.ensures r marks).1 (subst (IsInterfaceIndex b r) (sym (index_is b c.rest-list.result.now c.args.off c.loop-k.k _ _ c.from-index.ensures c.u16_at.ensures c.rest-list.ensures)) (index_of_all b c.args.off c.args.count c.requires.room (IsInterfaceIndex b r) c.loop-k.k c.loop-k-test.true all)),
+)
 
 pub loop-k-preserved : goal.loop-k-preserved
 loop-k-preserved c = λ r marks.

@@ -12,4 +12,12 @@ pub returns-in_err-addr-clause-none : goal.returns-in_err-addr-clause-none
 returns-in_err-addr-clause-none c = rw c.from_residual.ensures (no_address c.args.self.now.starts.now c.args.self.now.types c.args.self.now.bytes.now c.args.at c.in-Ok.read.0 c.in-Ok.read.1 c.in-Ok.ensures.found c.in_err-addr.ensures.none)
 
 pub returns-clause-some : goal.returns-clause-some
-returns-clause-some c = record { index_size = c.in-Ok.read.1; address_size = c.in_ok-addr.addr_size; index_is = c.in-Ok.ensures.found; in_range = omega arith; address_is = c.in_ok-addr.ensures.address; start = c.in_ok-addr.ensures.start; size = refl }
+returns-clause-some c = record {
+  index_size = c.in-Ok.read.1;
+  address_size = c.in_ok-addr.addr_size;
+  index_is = c.in-Ok.ensures.found;
+  in_range = omega arith;
+  address_is = c.in_ok-addr.ensures.address;
+  start = c.in_ok-addr.ensures.start;
+  size = refl;
+}

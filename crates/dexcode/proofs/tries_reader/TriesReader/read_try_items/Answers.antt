@@ -33,5 +33,9 @@ loop-preserved c =
     let apart = apart_more 0 c.loop.end c.loop.tries.items c.in-Some.item c.loop.invariant.2.apart (omega arith) in (
       omega (arith, c.loop.invariant.0),
       omega (arith, next, c.in-Some.ensures.some.within),
-      record { are_encoded = rw pushed are_encoded; many = rw pushed (omega (arith, length-append c.loop.tries.items (c.in-Some.item ∷ []), c.loop.invariant.2.many)); apart = rw pushed (rw next apart) },
+      record {
+        are_encoded = rw pushed are_encoded;
+        many = rw pushed (omega (arith, length-append c.loop.tries.items (c.in-Some.item ∷ []), c.loop.invariant.2.many));
+        apart = rw pushed (rw next apart);
+      },
     )

@@ -15,7 +15,11 @@ pub returns-then-opcode-ge-DBG_FIRST_SPECIAL-clause-steps : goal.returns-then-op
 returns-then-opcode-ge-DBG_FIRST_SPECIAL-clause-steps c = sym c.self.view_is ∙ (special_follows c.self.inside.count c.self.inside.bytes.now c.self.inside.at c.self.inside.indices.now c.self.invariant (omega arith) (omega arith)).view
 
 pub returns-then-opcode-ge-DBG_FIRST_SPECIAL-clause-goes : goal.returns-then-opcode-ge-DBG_FIRST_SPECIAL-clause-goes
-returns-then-opcode-ge-DBG_FIRST_SPECIAL-clause-goes c = record { on = λ _. (tt, tt, omega (arith, ap length (returns-then-opcode-ge-DBG_FIRST_SPECIAL-clause-steps c))); keeps = tt; rests = λ _. tt }
+returns-then-opcode-ge-DBG_FIRST_SPECIAL-clause-goes c = record {
+  on = λ _. (tt, tt, omega (arith, ap length (returns-then-opcode-ge-DBG_FIRST_SPECIAL-clause-steps c)));
+  keeps = tt;
+  rests = λ _. tt;
+}
 
 pub operation_at-requires-clause-within : goal.operation_at-requires-clause-within
 operation_at-requires-clause-within c = let within = stored_within c.self.inside.count c.self.inside.bytes.now c.self.inside.at c.self.inside.indices.now c.self.invariant (omega arith) in omega (arith, within)

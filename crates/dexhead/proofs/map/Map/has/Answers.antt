@@ -11,6 +11,8 @@ loop-i-preserved c =
     (λ same. never (c.if-is.ensures.1 (c.entry.ensures ∙ same)))
 
 pub returns : goal.returns
-returns c =
-    (λ x. absurd (never x), λ h. absurd (All-contains (λ (x : MapEntry). x ≢ read c.args.entry) (entries c.args.self.now) (read c.args.entry)
-    (subst (λ xs. All (λ (x : MapEntry). x ≢ read c.args.entry) xs) (take_all c.loop-i.i (entries c.args.self.now) (omega (arith, length-entries c.args.self.now))) c.loop-i.invariant) h refl))
+returns c = (
+  λ x. absurd (never x),
+  λ h. absurd (All-contains (λ (x : MapEntry). x ≢ read c.args.entry) (entries c.args.self.now) (read c.args.entry)
+      (subst (λ xs. All (λ (x : MapEntry). x ≢ read c.args.entry) xs) (take_all c.loop-i.i (entries c.args.self.now) (omega (arith, length-entries c.args.self.now))) c.loop-i.invariant) h refl),
+)

@@ -27,7 +27,7 @@ pub weight_is : (m : Mentions) (cs : List NumberedClass) → m ≡ mentions (map
 unfolding weight
 weight_is m cs own = omega (arith, sum_by-map (λ (d : Definition). body_weight d.1) (definition_of m) cs, ap (λ (n : Mentions). mentions_weight n) own)
 
--- caps are told apart by their numbers, which are not 0
+-- no two caps have one number, and none has 0
 some_number : (cap : Cap) → 0 < cap_number cap
 some_number TypeCap = omega arith
 some_number _ = omega arith

@@ -1,4 +1,4 @@
--- The names from below that the proofs cite, passed on from one place. Declares nothing.
+-- The names from below that the proofs cite, re-exported from one place. Declares nothing.
 pub use Rattle.std.proofs.Common.{Equal, Greater, Less, List, Ordering, [], ap, arith, drop, false, get_or, inl, inr, length, map, min, refl, set, slice_index, subst, suc, sym, take, true, zero, ℕ, ◌*◌, ◌++◌, ◌+◌, ◌-◌, ◌/◌, ◌<◌, ◌∙◌, ◌∷◌, ◌≡◌, ◌≤◌}
 pub use Rattle.std.proofs.lemmas.Bool.{cases_lt, cases_order}
 pub use Rattle.std.proofs.lemmas.List.{drop-set-lt, drop_more, get_or-drop, get_or-map, get_or_append_left, get_or_default, get_or_push, length-map, length_push, map-append, take_more, take_more_set, with_items_is}

@@ -1,5 +1,5 @@
 -- Methods as they are stored, with their code beside them.
-use Rattle.dexmembers.proofs.Common.{◌≡◌, ◌⊎◌, ℕ, zero, suc, ◌<◌, List, [], ◌∷◌, ◌++◌, get_or, length, map, refl, sym, ap, ◌∙◌, subst, arith, inl, inr, Option, Some, None, All, IfSome, option_map, cases_lt, length-map, length-append, get_or-map, map-append, All-push, All-head, All-tail, Contains, Contains-first, Contains-append_left, Contains-append_right, Maps, NumberedItem, HasPlaces, renumbered_item, IsPlaceIn, map_both, Bor, MatchOption}
+use Rattle.dexmembers.proofs.Common.{◌≡◌, ◌⊎◌, ℕ, zero, suc, ◌<◌, List, [], ◌∷◌, ◌++◌, get_or, length, map, refl, sym, ap, ◌∙◌, subst, arith, inl, inr, Option, Some, None, All, IfSome, option_map, cases_lt, length-map, length-append, get_or-map, map-append, All-push, All-head, All-tail, Contains, Contains-first, Contains-append_left, Contains-append_right, Maps, NumberedItem, HasPlaces, renumbered_item, IsPlaceIn, map_both}
 use Rattle.std.proofs.lemmas.Option.{slice_get-get_or}
 use Rattle.dexmembers.specs.{StoredMethod, ArePlacesOf, code_places, code_at, held_in, held_with, remapped_method, remapped_stored, IsHeldMethodMapped, IsStoredMethodMapped, stripped_code, stripped_held}
 use Rattle.dexmembers.specs.internal.MethodCodes.{IsKept}
@@ -106,8 +106,3 @@ codes_replaced f codes places h =
 -- and so they do for methods with other numbers
 pub methods_replaced : (r : Maps) (codes : List NumberedItem) (xs : List StoredMethod) → ArePlacesOf codes (code_places xs) → ArePlacesOf codes (code_places (map (remapped_stored r) xs))
 methods_replaced r codes xs h = subst (ArePlacesOf codes) (sym (map_both (remapped_stored r) (λ (y : StoredMethod). y.code) (λ (y : StoredMethod). y.code) xs (λ k d lt. refl))) h
-
--- what is borrowed, if something is
-pub borrowed_code : {X : Type 0} (code : Option (Bor X)) (is : Option X) → MatchOption code (is ≡ None) (λ c. is ≡ Some c.now) → option_map (λ c. c.now) code ≡ is
-borrowed_code None is h = sym h
-borrowed_code (Some c) is h = sym h

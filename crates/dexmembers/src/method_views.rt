@@ -46,23 +46,22 @@ impl<'m, 'a> Model for Methods<'m, 'a> {
 pub struct Method<'m, 'a> {
     table: &'m SetTable,
     method: &'m DeclaredMethod,
-    code: Option<&'m Code<'a>>,
+    code_items: &'m [Code<'a>],
 }
 
 impl<'m, 'a> Model for Method<'m, 'a> {
     ghost use Rattle.std.specs.Coded.{codes};
     ghost use Rattle.dexval.specs.Stored.{elements_code};
-    ghost use Rattle.std.specs.Option.{option_map};
     ghost use Rattle.dexmembers.specs.Numbered.{NumberedMethod};
-    ghost use Rattle.dexmembers.specs.Held.{held_with, method_of, IsHeldMethod};
+    ghost use Rattle.dexmembers.specs.Held.{held_in, method_of, IsHeldMethod};
 
     ghost Value = { NumberedMethod };
 
     ghost coded = { Prim.hlevel (codes, elements_code) };
 
-    ghost view = { λ x. method_of x.table.now (held_with x.method.now (option_map (λ code. code.now) x.code)) };
+    ghost view = { λ x. method_of x.table.now (held_in x.code_items.now x.method.now) };
 
-    ghost invariant = { λ x. IsHeldMethod x.table.now (held_with x.method.now (option_map (λ code. code.now) x.code)) };
+    ghost invariant = { λ x. IsHeldMethod x.table.now (held_in x.code_items.now x.method.now) };
 }
 
 /// The sets of annotations of a method's parameters, from left to right. They are borrowed.
@@ -125,11 +124,10 @@ impl<'m, 'a> Methods<'m, 'a> {
         ensures { result ≡ slice_index_or self.now place result }
     {
         let list = self.methods;
-        let method = &list.methods[place];
         Method {
             table: self.table,
-            method,
-            code: code_at(&list.code_items, method.code.get()),
+            method: &list.methods[place],
+            code_items: &list.code_items,
         }
     }
 }
@@ -162,7 +160,8 @@ impl<'m, 'a> Method<'m, 'a> {
         ensures { MatchOption result (self.now.code ≡ None) (λ code.
             self.now.code ≡ Some code.now) }
     {
-        self.code
+        let method = self.method;
+        code_at(self.code_items, method.code.get())
     }
 
     /// The annotations; `None` says that the method has none.

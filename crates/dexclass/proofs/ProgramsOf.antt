@@ -1,5 +1,5 @@
 -- Classes in the order of a canonical file are a program, which weighs what they weigh with the numbering.
-use Rattle.dexclass.proofs.Common.{◌≡◌, ℕ, suc, ◌^◌, ◌+◌, ◌≤◌, List, map, get_or, sym, ap, ◌∙◌, subst, arith, sum_by, All, Contains, Contains-get_or, AreDistinct, Definition, Collection, definitions, AreSame, IsCollectionOf, Mentions, mentions, in_class_order, mentions_weight, body_weight, weight, IsConsistent, greatest_caps, AreDistinct-map_source, mentions-same, IsGood-within, weight-same, in_class_order-only, in_class_order-has, definitions-distinct, definitions-different, collection-is, definitions-same, IsNumbering, [], ◌∷◌, refl, same_text, place_cmp, is_defined, IsAcyclic, Contains-first, Contains-later, list_any-member, Rises, Rises-same, depth-same, class_place, class_places-rise, same_from_equal, true}
+use Rattle.dexclass.proofs.Common.{◌≡◌, ℕ, suc, ◌^◌, ◌+◌, ◌<◌, ◌≤◌, List, length, length-map, map, get_or, sym, ap, ◌∙◌, subst, arith, sum_by, All, Contains, Contains-get_or, AreDistinct, Definition, Collection, definitions, AreSame, IsCollectionOf, Mentions, mentions, in_class_order, mentions_weight, body_weight, weight, IsConsistent, greatest_caps, AreDistinct-map_source, mentions-same, IsGood-within, weight-same, in_class_order-only, in_class_order-has, definitions-distinct, definitions-different, collection-is, definitions-same, IsNumbering, [], ◌∷◌, refl, same_text, place_cmp, is_defined, IsAcyclic, Contains-first, Contains-later, Contains-nil, list_any-member, Rises, Rises-same, depth-same, class_place, class_places-rise, same_from_equal, true}
 use Rattle.dexspec.proofs.size.SizeSums.{sum_by-map}
 use Rattle.dexclass.specs.{NumberedClass, definition_of, IsKnownClass, no_class, AreNamed, collection_of, AreMergeable, IsProgram}
 use Rattle.dexclass.proofs.Ordered.{names_apart}
@@ -25,6 +25,15 @@ module _ (D E : List Definition) (same : AreSame D E) (acyclic : IsAcyclic D) wh
       Rises-same (definition_cmp D) (definition_total D) (in_class_order D) (in_class_order E) (Rises-mapped place_cmp (class_place D) (in_class_order D) (class_places-rise D)) (Rises-mapped place_cmp (class_place D) (in_class_order E) (subst (Rises place_cmp) places (class_places-rise E)))
       (λ d c. in_class_order-has E d other ((same d).0 (in_class_order-only D d c)))
       (λ d c. in_class_order-has D d apart ((same d).1 (in_class_order-only E d c)))
+
+-- a definition alone is in order
+few_in_order : (D : List Definition) → length D < 2 → AreDistinct (map (λ d. d.0) D) → D ≡ in_class_order D
+few_in_order D few apart = Rises-same (definition_cmp D) (definition_total D) D (in_class_order D) (alone D few) (Rises-mapped place_cmp (class_place D) (in_class_order D) (class_places-rise D)) (λ d c. in_class_order-has D d apart c) (λ d c. in_class_order-only D d c)
+  where
+    alone : (E : List Definition) → length E < 2 → Rises (definition_cmp D) E
+    alone [] lt = tt
+    alone (d ∷ []) lt = ((λ x c. absurd (Contains-nil x c)), tt)
+    alone (d ∷ e ∷ more) lt = absurd (omega (arith, lt))
 
 -- what classes weigh is what their bodies weigh with what they mention
 pub weight_parts : (m : Mentions) (cs : List NumberedClass) → m ≡ mentions (map (definition_of m) cs) → weight (map (definition_of m) cs) ≡ 1024 + mentions_weight m + sum_by (λ (c : NumberedClass). body_weight (definition_of m c).1) cs
@@ -103,3 +112,13 @@ module _ (m : Mentions) (cs : List NumberedClass) (h : AreMergeable m cs) (numbe
       formed = λ d c. h.formed d (within d c);
       weight_is = e ∙ weight-same D (definitions K) distinct (definitions-different K) back within;
     }
+
+  module _ (few : length cs < 2) where
+    alone : map (definition_of m) cs ≡ in_class_order D
+    alone = few_in_order D (omega (arith, few, length-map cs (definition_of m))) apart
+
+    pub one_collection_is : IsCollectionOf D (collection_of m cs)
+    one_collection_is = collection_is cs (λ c member. member) alone
+
+    pub one_program_is : (heavy : ℕ) → heavy ≡ weight D → IsProgram m cs heavy
+    one_program_is = program_is cs (λ c member. member) alone

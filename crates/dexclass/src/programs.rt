@@ -194,6 +194,13 @@ impl<'a> Program<'a> {
             (IsCollectionOf (map (definition_of numbering.entry) classes.entry.items)) }
     {
         numbering.is_numbering();
+        if classes.len() < 2 {
+            return Ok(Program {
+                numbering,
+                classes,
+                weight: total,
+            });
+        }
         let types = numbering.count(SymbolKind::Typ);
         let depths = depths_of(alloc, &classes, types)?;
         Program::arranged(alloc, numbering, classes, &depths, total)

@@ -1,13 +1,15 @@
 -- Indices of classes and texts, and what tests and marks say of them.
-use Rattle.dexclass.proofs.Common.{◌≡◌, ◌≢◌, ℕ, ◌<◌, Bool, false, List, [], ◌∷◌, length, get_or, refl, sym, subst, arith, ◌↔◌, IsTrue, All, nat_lt, Some, None, ltb-true, lt-ltb, ne_eqb, All-nil, All-cons, IsClass, TypeIds, table_size, no_index, Mentions, IsDefinedBefore, one_type, ArePools, true, ◌∙◌, false≢true, All-append, superclass_idx, interfaces_off, ClassTypeRow, HasClass, IsClassDef, ClassDef, all_prefix, all_back}
-use Rattle.dexclass.specs.internal.Rows.{AreClassTests, IsClassIndex, IsParentIndex, IsSourceIndex, IsInterfaceIndex, superclass_indices, interface_indices, HasInterfaces, AreDefinedMarks}
+use Rattle.dexclass.proofs.Common.{◌≡◌, ◌≢◌, ℕ, ◌+◌, ◌<◌, Bool, false, List, [], ◌∷◌, length, get_or, refl, sym, subst, arith, ◌↔◌, IsTrue, All, nat_lt, Some, None, ltb-true, lt-ltb, ne_eqb, All-nil, All-cons, IsClass, TypeIds, table_size, no_index, Mentions, IsDefinedBefore, one_type, ArePools, true, ◌∙◌, false≢true, All-append, superclass_idx, interfaces_off, ClassTypeRow, HasClass, IsClassDef, ClassDef, all_prefix, all_back}
+use Rattle.dexspec.specs.Texts.{Text}
+use Rattle.dexspec.specs.Rows.{TypeRow}
+use Rattle.dexpool.specs.Numberings.{IsAt}
+use Rattle.dexclass.specs.internal.Rows.{IsClassIndex, IsParentIndex, IsSourceIndex, IsInterfaceIndex, superclass_indices, interface_indices, HasInterfaces, AreDefinedMarks}
 
--- a test in range says whether the index is that of a class
-pub tested : (b : List ℕ) (m : Mentions) (tests : List Bool) (i : ℕ) → ArePools b m → AreClassTests m.types tests → i < length tests → IsTrue (get_or tests i false) ↔ IsClassIndex b i
-tested b m tests i pools h lt =
-    let row = pools.types_are.each i [] (omega (arith, lt, h.count, pools.types_are.count)) in
-    let each = h.each i (omega (arith, lt, h.count)) in
-    (λ e. (get_or m.types i [], record { row = row; class = each.0 e }), λ x. each.1 (subst IsClass (one_type b i x.0 (get_or m.types i []) x.1.row row) x.1.class))
+-- the descriptor of a row says whether its index is that of a class
+pub tested : (b : List ℕ) (m : Mentions) (i : ℕ) (t : Text) → ArePools b m → IsAt m.types i t → IsClass t ↔ IsClassIndex b i
+tested b m i t pools at =
+    let row = subst (TypeRow b i) (at.is []) (pools.types_are.each i [] (omega (arith, at.within, pools.types_are.count))) in
+    (λ class. (t, record { row = row; class = class }), λ x. subst IsClass (one_type b i x.0 t x.1.row row) x.1.class)
 
 -- the index of a parent that is not none
 pub parent_is : (b : List ℕ) (i : ℕ) → IsClassIndex b i → IsParentIndex b i
@@ -31,6 +33,13 @@ source_is b m i n pools e some = (
 -- one interface
 pub interface_is : (b : List ℕ) (r i : ℕ) (t : Bool) → IsClassIndex b i → (IsTrue t ↔ IsDefinedBefore b r i) → IsTrue t ↔ IsInterfaceIndex b r i
 interface_is b r i t class before = (λ e. record { class_is = class; before = before.0 e }, λ h. before.1 h.before)
+
+-- what is defined before a row is so before the next
+pub interface_later : (b : List ℕ) (r i : ℕ) → IsInterfaceIndex b r i → IsInterfaceIndex b (r + 1) i
+interface_later b r i h = record {
+  class_is = h.class_is;
+  before = λ k lt is. let x = h.before k lt is in (x.0, omega (arith, x.1), x.2);
+}
 
 -- the superclass alone
 pub superclass_before : (b : List ℕ) (r i : ℕ) (t : Bool) → i ≢ no_index → (IsTrue t ↔ IsDefinedBefore b r i) → IsTrue t ↔ All (IsDefinedBefore b r) (superclass_indices i)

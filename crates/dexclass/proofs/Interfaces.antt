@@ -1,7 +1,9 @@
 -- Lists of interfaces.
-use Rattle.dexclass.proofs.Common.{◌≡◌, ◌≢◌, ℕ, ◌+◌, ◌*◌, ◌<◌, ◌≤◌, List, [], ◌∷◌, length, drop, refl, sym, ap, ◌∙◌, subst, arith, inl, inr, All, AllZip, below_more, ne_eqb, All-cons, All-tail, uint_at, ushort_at, ushorts_at, Text, IsClass, TypeRow, type_indices, OrNone, ClassListAt, interfaces_off, IsDefinedBefore, ushort_at_rest, IsClassDef, ClassDef, length-ushorts_at}
+use Rattle.std.specs.Prelude.{◌/◌}
+use Rattle.dexclass.proofs.Common.{◌≡◌, ◌≢◌, ℕ, ◌+◌, ◌-◌, ◌*◌, ◌<◌, ◌≤◌, ◌↔◌, List, [], ◌∷◌, length, drop, refl, sym, ap, ◌∙◌, subst, arith, inl, inr, All, AllZip, ne_eqb, All-cons, All-tail, uint_at, ushort_at, ushorts_at, Text, IsClass, TypeRow, type_indices, OrNone, ClassListAt, interfaces_off, IsDefinedBefore, ushort_at_rest, IsClassDef, ClassDef, length-ushorts_at}
 use Rattle.dexrows.proofs.Shorts.{short_of}
 use Rattle.dexpool.specs.Reading.{HasRoom}
+use Rattle.dexclass.specs.internal.Checked.{AreInterfacesIn}
 use Rattle.dexclass.specs.internal.Rows.{IsClassIndex, IsInterfaceIndex, interface_indices, HasInterfaceList, HasInterfaces}
 
 -- an index that is read from the rest of the file
@@ -21,9 +23,21 @@ module _ (b : List ℕ) (off count : ℕ) (room : HasRoom b off count) where
       let small : k < uint_at b off = omega (arith, lt, room.count) in
       subst P (short_of b (off + 4) (uint_at b off) k 0 small) (all k 0 (omega (arith, small, length-ushorts_at b (off + 4) (uint_at b off))))
 
--- one index more
-pub interface_more : (b : List ℕ) (r o k n : ℕ) → ((j : ℕ) → j < k → IsInterfaceIndex b r (ushort_at b (o + 2 * j))) → n ≡ ushort_at b (o + 2 * k) → IsInterfaceIndex b r n → (j : ℕ) → j < k + 1 → IsInterfaceIndex b r (ushort_at b (o + 2 * j))
-interface_more b r o k n before e is = below_more (λ j. IsInterfaceIndex b r (ushort_at b (o + 2 * j))) k before (subst (IsInterfaceIndex b r) e is)
+  module _ (r start end : ℕ) (at : start ≡ off / 2 + 2) (up_to : end ≡ start + count) where
+    -- as numbers of two bytes each, the list is a part of the file
+    pub list_fits : 2 * end ≤ length b
+    list_fits = omega (arith, at, up_to, room.count, room.aligned, room.in_data.within)
+
+    place_of : (k : ℕ) → 2 * (start + k) ≡ off + 4 + 2 * k
+    place_of k = omega (arith, at, room.aligned)
+
+    pub listed_in : AreInterfacesIn b r start end ↔ All (IsInterfaceIndex b r) (type_indices b off)
+    listed_in = (
+      λ h. all_indices (IsInterfaceIndex b r) (λ k lt. subst (λ (p : ℕ). IsInterfaceIndex b r (ushort_at b p)) (place_of k) (h (start + k) (omega arith) (omega (arith, lt, up_to)))),
+      λ all i le lt.
+          let e : 2 * i ≡ off + 4 + 2 * (i - start) = omega (arith, le, at, room.aligned) in
+          subst (λ (p : ℕ). IsInterfaceIndex b r (ushort_at b p)) (sym e) (index_of_all (IsInterfaceIndex b r) (i - start) (omega (arith, le, lt, up_to)) all),
+    )
 
 -- ---- the classes of a list
 

@@ -1,5 +1,6 @@
 pub mod Common
 pub mod Indices
+pub mod CheckedParts
 pub mod ClassStarts
 pub mod Interfaces
 pub mod RowClasses

@@ -1,28 +1,29 @@
 //! Checks of class rows: condition 16.
 
-ghost use Rattle.std.specs.Prelude.{◌≡◌, ◌≢◌, ◌↔◌, ◌+◌, ◌<◌, IsTrue, IfErr, OnOk, List, ℕ};
+ghost use Rattle.std.specs.Prelude.{◌≡◌, ◌≢◌, ◌↔◌, ◌+◌, ◌*◌, ◌<◌, ◌≤◌, IsTrue, IfOk, IfErr, OnOk, length, List, ℕ};
 ghost use Rattle.dexspec.specs.Header.{ClassDefs, TypeIds, table_size};
 ghost use Rattle.dexspec.specs.Accepted.{HasClass, HoldBelow, IsDefinedBefore};
 ghost use Rattle.dexpool.specs.Pools.{ArePools};
-ghost use Rattle.dexpool.specs.Reading.{HasRoom};
 ghost use Rattle.dexmembers.specs.ClassDefs.{IsClassDef};
 ghost use Rattle.dexclass.specs.internal.Rows.{IsKnown, IsClassFault, AreDefinedMarks, IsClassIndex, IsParentIndex, IsSourceIndex, HasInterfaces};
-ghost use Rattle.dexclass.specs.internal.Checked.{AreSeen, IsInterface, AreListedInterfaces, IsParentBefore};
+ghost use Rattle.dexclass.specs.internal.Checked.{AreSeen, IsInterface, AreInterfacesIn, AreCheckedLists, IsParentBefore};
 
-use crate::class_types::{class_types, defined, mark, no_marks};
+use crate::checked_lists::{CheckedLists, Range16};
+use crate::class_types::{defined, is_class, mark, no_marks};
 use crate::classes::NO_INDEX;
 use dexhead::{Condition, Frame, Refusal, Table, u16_at};
 use dexmembers::ClassDef;
 use dexpool::{Pools, ReadFault, SymbolKind, type_list_len};
-use std::alloc::Global;
+use std::alloc::{AllocError, Global};
+
+// A list of at least this many numbers is remembered once it is checked. Pieces of this length are checked at a time.
+const LONG_LIST: usize = 1024;
 
 /// What is known of a file before its class rows are checked.
 #[derive(Clone, Copy)]
 pub(crate) struct KnownFile<'j, 'a> {
     pub(crate) frame: &'j Frame<'a>,
     pub(crate) pools: &'j Pools<'a>,
-    /// For each type whether it is a class.
-    pub(crate) class_types: &'j [bool],
     /// For each type whether a class row is of it.
     pub(crate) defined: &'j [bool],
 }
@@ -30,17 +31,16 @@ pub(crate) struct KnownFile<'j, 'a> {
 impl<'j, 'a> KnownFile<'j, 'a> {
     // Whether the index is that of a class.
     fn is_class(&self, index: u32) -> bool
-        requires { IsKnown self.now.frame.now self.now.pools.now self.now.class_types.now
-            self.now.defined.now }
+        requires { IsKnown self.now.frame.now self.now.pools.now self.now.defined.now }
         ensures { IsTrue result ↔ IsClassIndex self.now.frame.now index }
     {
-        (index as usize) < self.class_types.len() && self.class_types[index as usize]
+        self.pools.numbering().is_numbering();
+        (index as usize) < self.pools.len(SymbolKind::Typ) && is_class(self.pools.typ(index))
     }
 
     // Whether the index of a superclass is none or that of a class.
     fn is_parent(&self, index: u32) -> bool
-        requires { IsKnown self.now.frame.now self.now.pools.now self.now.class_types.now
-            self.now.defined.now }
+        requires { IsKnown self.now.frame.now self.now.pools.now self.now.defined.now }
         ensures { IsTrue result ↔ IsParentIndex self.now.frame.now index }
     {
         index == NO_INDEX || self.is_class(index)
@@ -48,8 +48,7 @@ impl<'j, 'a> KnownFile<'j, 'a> {
 
     // Whether the index of a source name is none or that of a text.
     fn is_source(&self, index: u32) -> bool
-        requires { IsKnown self.now.frame.now self.now.pools.now self.now.class_types.now
-            self.now.defined.now }
+        requires { IsKnown self.now.frame.now self.now.pools.now self.now.defined.now }
         ensures { IsTrue result ↔ IsSourceIndex self.now.frame.now index }
     {
         index == NO_INDEX || (index as usize) < self.pools.len(SymbolKind::Text)
@@ -57,8 +56,7 @@ impl<'j, 'a> KnownFile<'j, 'a> {
 
     // Whether a type that the file defines is defined before row `r`.
     fn is_before(&self, seen: &[bool], index: u32) -> bool
-        requires known { IsKnown self.now.frame.now self.now.pools.now self.now.class_types.now
-            self.now.defined.now }
+        requires known { IsKnown self.now.frame.now self.now.pools.now self.now.defined.now }
         requires index { index < table_size self.now.frame.now TypeIds }
         requires seen { (r : ℕ) × AreDefinedMarks self.now.frame.now r seen.now }
         ensures { (r : ℕ) → AreSeen self.now r seen.now
@@ -71,8 +69,7 @@ impl<'j, 'a> KnownFile<'j, 'a> {
 impl<'j, 'a> KnownFile<'j, 'a> {
     // Whether the index is that of a class, which is defined before row `r` if the file defines it.
     fn is_interface(&self, seen: &[bool], index: u32) -> bool
-        requires known { IsKnown self.now.frame.now self.now.pools.now self.now.class_types.now
-            self.now.defined.now }
+        requires known { IsKnown self.now.frame.now self.now.pools.now self.now.defined.now }
         requires seen { (r : ℕ) × AreDefinedMarks self.now.frame.now r seen.now }
         ensures { (r : ℕ) → AreSeen self.now r seen.now
             → IsTrue result ↔ IsInterface self.now r index }
@@ -80,18 +77,18 @@ impl<'j, 'a> KnownFile<'j, 'a> {
         self.is_class(index) && self.is_before(seen, index)
     }
 
-    // Whether each index of the list is that of a class, which is defined before row `r` if the file defines it.
-    fn are_interfaces(&self, seen: &[bool], off: u32, count: u32) -> bool
-        requires known { IsKnown self.now.frame.now self.now.pools.now self.now.class_types.now
-            self.now.defined.now }
+    // Whether each number of two bytes in a range of the file is the index of a class, which is defined before row `r` if
+    // the file defines it.
+    fn are_interfaces(&self, seen: &[bool], range: Range16) -> bool
+        requires known { IsKnown self.now.frame.now self.now.pools.now self.now.defined.now }
         requires seen { (r : ℕ) × AreDefinedMarks self.now.frame.now r seen.now }
-        requires room { HasRoom self.now.frame.now off count }
+        requires within { 2 * range.end ≤ length self.now.frame.now }
         ensures { (r : ℕ) → AreSeen self.now r seen.now
-            → IsTrue result ↔ AreListedInterfaces self.now r off }
+            → IsTrue result ↔ AreInterfacesIn self.now.frame.now r range.start range.end }
     {
-        let list = self.frame.rest(off);
-        for k in 0..count {
-            let index = u32::from(u16_at(list, 4 + 2 * k as usize));
+        let bytes = self.frame.bytes();
+        for i in range.start..range.end {
+            let index = u32::from(u16_at(bytes, 2 * i));
             if !self.is_interface(seen, index) {
                 return false;
             }
@@ -99,27 +96,69 @@ impl<'j, 'a> KnownFile<'j, 'a> {
         true
     }
 
-    // Whether the offset is 0 or that of a list of interfaces.
-    fn has_interfaces(&self, seen: &[bool], off: u32) -> bool
-        requires known { IsKnown self.now.frame.now self.now.pools.now self.now.class_types.now
-            self.now.defined.now }
+    // Whether each number of a list is so. Where class rows share long lists, or these overlap, what was checked of them
+    // for one row is not read again for the next: a class that is defined before a row is so before the rows after it.
+    fn is_interface_list(
+        &self,
+        seen: &[bool],
+        checked: &mut CheckedLists,
+        list: Range16,
+    ) -> Result<bool, AllocError>
+        requires known { IsKnown self.now.frame.now self.now.pools.now self.now.defined.now }
         requires seen { (r : ℕ) × AreDefinedMarks self.now.frame.now r seen.now }
-        ensures { (r : ℕ) → AreSeen self.now r seen.now
-            → IsTrue result ↔ HasInterfaces self.now.frame.now r off }
+        requires within { 2 * list.end ≤ length self.now.frame.now }
+        ensures list { IfOk result (λ are. (r : ℕ) → AreSeen self.now r seen.now
+            → AreCheckedLists self.now.frame.now r checked.old
+            → IsTrue are ↔ AreInterfacesIn self.now.frame.now r list.start list.end) }
+        ensures checked { OnOk result ((r : ℕ) → AreSeen self.now r seen.now
+            → AreCheckedLists self.now.frame.now r checked.old
+            → AreCheckedLists self.now.frame.now r checked.new) }
+    {
+        if list.end.saturating_sub(list.start) < LONG_LIST {
+            return Ok(self.are_interfaces(seen, list));
+        }
+        let mut start = checked.end_from(list.start);
+        while start < list.end {
+            let end = list.end.min(start + LONG_LIST);
+            if !self.are_interfaces(seen, Range16 { start, end }) {
+                return Ok(false);
+            }
+            start = checked.end_from(end);
+        }
+        checked.add(list)?;
+        Ok(true)
+    }
+
+    // Whether the offset is 0 or that of a list of interfaces.
+    fn has_interfaces(
+        &self,
+        seen: &[bool],
+        checked: &mut CheckedLists,
+        off: u32,
+    ) -> Result<bool, AllocError>
+        requires known { IsKnown self.now.frame.now self.now.pools.now self.now.defined.now }
+        requires seen { (r : ℕ) × AreDefinedMarks self.now.frame.now r seen.now }
+        ensures list { IfOk result (λ has. (r : ℕ) → AreSeen self.now r seen.now
+            → AreCheckedLists self.now.frame.now r checked.old
+            → IsTrue has ↔ HasInterfaces self.now.frame.now r off) }
+        ensures checked { OnOk result ((r : ℕ) → AreSeen self.now r seen.now
+            → AreCheckedLists self.now.frame.now r checked.old
+            → AreCheckedLists self.now.frame.now r checked.new) }
     {
         if off == 0 {
-            return true;
+            return Ok(true);
         }
-        match type_list_len(self.frame, off) {
-            Some(count) => self.are_interfaces(seen, off, count),
-            None => false,
-        }
+        let Some(count) = type_list_len(self.frame, off) else {
+            return Ok(false);
+        };
+        let start = off as usize / 2 + 2;
+        let end = start + count as usize;
+        self.is_interface_list(seen, checked, Range16 { start, end })
     }
 
     // Whether the superclass, if there is one and the file defines it, is defined before row `r`.
     fn has_parent_before(&self, seen: &[bool], index: u32) -> bool
-        requires known { IsKnown self.now.frame.now self.now.pools.now self.now.class_types.now
-            self.now.defined.now }
+        requires known { IsKnown self.now.frame.now self.now.pools.now self.now.defined.now }
         requires seen { (r : ℕ) × AreDefinedMarks self.now.frame.now r seen.now }
         requires index { IsParentIndex self.now.frame.now index }
         ensures { (r : ℕ) → AreSeen self.now r seen.now
@@ -129,29 +168,38 @@ impl<'j, 'a> KnownFile<'j, 'a> {
     }
 
     // Whether the class row meets condition 16, where the types of the rows before it are seen.
-    fn holds(&self, seen: &[bool], row: &ClassDef) -> bool
-        requires known { IsKnown self.now.frame.now self.now.pools.now self.now.class_types.now
-            self.now.defined.now }
+    fn holds(
+        &self,
+        seen: &[bool],
+        checked: &mut CheckedLists,
+        row: &ClassDef,
+    ) -> Result<bool, AllocError>
+        requires known { IsKnown self.now.frame.now self.now.pools.now self.now.defined.now }
         requires seen { (r : ℕ) × AreDefinedMarks self.now.frame.now r seen.now }
-        ensures { (r : ℕ) → AreSeen self.now r seen.now → IsClassDef self.now.frame.now r row.now
-            → IsTrue result ↔ HasClass self.now.frame.now r }
+        ensures holds { IfOk result (λ holds. (r : ℕ) → AreSeen self.now r seen.now
+            → AreCheckedLists self.now.frame.now r checked.old
+            → IsClassDef self.now.frame.now r row.now
+            → IsTrue holds ↔ HasClass self.now.frame.now r) }
+        ensures checked { OnOk result ((r : ℕ) → AreSeen self.now r seen.now
+            → AreCheckedLists self.now.frame.now r checked.old
+            → AreCheckedLists self.now.frame.now r checked.new) }
     {
         if !self.is_class(row.class_idx) {
-            return false;
+            return Ok(false);
         }
         if seen[row.class_idx as usize] {
-            return false;
+            return Ok(false);
         }
         if !self.is_parent(row.superclass_idx) {
-            return false;
+            return Ok(false);
         }
         if !self.is_source(row.source_file_idx) {
-            return false;
+            return Ok(false);
         }
         if !self.has_parent_before(seen, row.superclass_idx) {
-            return false;
+            return Ok(false);
         }
-        self.has_interfaces(seen, row.interfaces_off)
+        self.has_interfaces(seen, checked, row.interfaces_off)
     }
 }
 
@@ -170,19 +218,18 @@ pub(crate) fn check_classes(
     ensures accepted { OnOk result (HoldBelow 17 frame.now) }
     ensures refused { IfErr result (IsClassFault frame.now) }
 {
-    let class_types = class_types(alloc, pools)?;
     let defined = defined(alloc, frame)?;
     let known_file = KnownFile {
         frame,
         pools,
-        class_types: &class_types,
         defined: &defined,
     };
     let mut seen = no_marks(alloc, frame)?;
+    let mut checked = CheckedLists::none(alloc);
     let count = frame.size(Table::ClassDefs);
     for r in 0..count {
         let row = ClassDef::at(frame, r);
-        if !known_file.holds(&seen, &row) {
+        if !known_file.holds(&seen, &mut checked, &row)? {
             return Err(ReadFault::Refused(Refusal {
                 number: Condition::Classes as u8,
                 place: r,

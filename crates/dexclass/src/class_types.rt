@@ -4,20 +4,18 @@ ghost use Rattle.std.specs.Prelude.{◌≡◌, ◌↔◌, ◌<◌, IsTrue, IfOk}
 ghost use Rattle.dexspec.specs.Names.{IsClass, IsDescriptor};
 ghost use Rattle.dexspec.specs.Classes.{class_idx};
 ghost use Rattle.dexspec.specs.Header.{ClassDefs, TypeIds, table_size};
-ghost use Rattle.dexpool.specs.Pools.{ArePools};
-ghost use Rattle.dexclass.specs.internal.Rows.{AreClassTests, AreDefinedMarks};
+ghost use Rattle.dexclass.specs.internal.Rows.{AreDefinedMarks};
 ghost use Rattle.dexclass.specs.internal.Checked.{MarksClass};
 
 use dexhead::{Frame, Table, u32_at};
-use dexpool::{Pools, SymbolKind};
 use dexstr::Text;
 use std::alloc::{AllocError, Global};
 
 // What the descriptor of a class starts with, and no other descriptor.
 const CLASS_START: u16 = b'L' as u16;
 
-// Whether the descriptor is that of a class.
-fn is_class(descriptor: &Text<'_>) -> bool
+/// Whether the descriptor is that of a class.
+pub(crate) fn is_class(descriptor: &Text<'_>) -> bool
     requires { IsDescriptor descriptor.now }
     ensures { IsTrue result ↔ IsClass descriptor.now }
 {
@@ -25,20 +23,6 @@ fn is_class(descriptor: &Text<'_>) -> bool
         return false;
     };
     first == CLASS_START
-}
-
-/// For each type of a file whether it is a class.
-pub(crate) fn class_types(alloc: Global, pools: &Pools<'_>) -> Result<Vec<bool>, AllocError>
-    ensures { IfOk result (λ tests. AreClassTests pools.now.types tests.items) }
-{
-    let numbering = pools.numbering();
-    numbering.is_numbering();
-    let count = pools.len(SymbolKind::Typ);
-    let mut tests = Vec::with_capacity(alloc, count)?;
-    for i in 0..count {
-        tests.push(is_class(numbering.typ(i)))?;
-    }
-    Ok(tests)
 }
 
 /// A mark for each type of a file, none of them set: no class row is checked yet.

@@ -7,6 +7,7 @@
 #![tactic(auto)]
 
 mod arranging;
+mod checked_lists;
 mod checking;
 mod class_calls;
 mod class_checks;

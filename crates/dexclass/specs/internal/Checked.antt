@@ -1,6 +1,6 @@
 -- What is checked of a class row, after the rows before it.
-use Rattle.std.specs.Prelude.{◌≡◌, ℕ, ◌+◌, Bool, List, All}
-use Rattle.dexspec.specs.Rows.{type_indices}
+use Rattle.std.specs.Prelude.{◌≡◌, ℕ, ◌+◌, ◌*◌, ◌<◌, ◌≤◌, Bool, List, All}
+use Rattle.dexspec.specs.Bytes.{ushort_at}
 use Rattle.dexspec.specs.Classes.{class_idx}
 use Rattle.dexspec.specs.Accepted.{IsDefinedBefore}
 use Rattle.dexspec.specs.Mentions.{Mentions}
@@ -10,6 +10,7 @@ use Rattle.dexpool.specs.declared.faults.ReadFault.{ReadFault}
 use Rattle.dexpool.specs.declared.faults.ReadFault.TheVariants.{Refused, Memory}
 use Rattle.dexmembers.specs.Checking.{AreChecks}
 use Rattle.dexclass.specs.Checking.{HaveBodiesOf}
+use Rattle.dexclass.specs.declared.checked_lists.CheckedLists.{CheckedLists}
 use Rattle.dexclass.specs.declared.checking.CheckedRows.{CheckedRows}
 use Rattle.dexclass.specs.declared.class_checks.KnownFile.{KnownFile}
 use Rattle.dexclass.specs.internal.Rows.{AreDefinedMarks, IsInterfaceIndex, superclass_indices}
@@ -22,9 +23,13 @@ AreSeen file r marks = AreDefinedMarks file.frame.now r marks
 abbrev pub IsInterface : KnownFile → ℕ → ℕ → Type 0
 IsInterface file r index = IsInterfaceIndex file.frame.now r index
 
--- so it is for each index that is listed at the offset
-abbrev pub AreListedInterfaces : KnownFile → ℕ → ℕ → Type 0
-AreListedInterfaces file r off = All (IsInterface file r) (type_indices file.frame.now off)
+-- so it is for each number of two bytes from `start` to `end`
+abbrev pub AreInterfacesIn : List ℕ → ℕ → ℕ → ℕ → Type 0
+AreInterfacesIn b r start end = (i : ℕ) → start ≤ i → i < end → IsInterfaceIndex b r (ushort_at b (2 * i))
+
+-- so it is for each number of each part
+abbrev pub AreCheckedLists : List ℕ → ℕ → CheckedLists → Type 0
+AreCheckedLists b r lists = All (λ range. AreInterfacesIn b r range.start range.end) lists.ranges.items
 
 -- a superclass that the file defines is defined before row r
 abbrev pub IsParentBefore : KnownFile → ℕ → ℕ → Type 0

@@ -2,7 +2,6 @@
 use Rattle.std.specs.Prelude.{◌≡◌, ◌↔◌, ℕ, ◌<◌, ◌==◌, Bool, false, IsTrue, List, [], ◌∷◌, length, if◌then◌else◌, Option, All, slice_index_or}
 use Rattle.dexspec.specs.Lists.{OrNone}
 use Rattle.dexspec.specs.Texts.{Text}
-use Rattle.dexspec.specs.Names.{IsClass}
 use Rattle.dexspec.specs.Header.{ClassDefs, TypeIds, table_size}
 use Rattle.dexspec.specs.Rows.{type_indices, StringRow}
 use Rattle.dexspec.specs.Classes.{class_idx, ClassTypeRow, ClassListAt, IndexOrNone, no_index}
@@ -12,11 +11,6 @@ use Rattle.dexspec.specs.Mentions.{Mentions}
 use Rattle.dexpool.specs.Pools.{ArePools}
 use Rattle.dexpool.specs.declared.faults.ReadFault.{ReadFault}
 use Rattle.dexpool.specs.declared.faults.ReadFault.TheVariants.{Refused, Memory}
-
--- the tests say for each type whether it is a class
-pub record AreClassTests (types : List Text) (tests : List Bool) : Type 0 where
-  pub count : length tests ≡ length types
-  pub each : (i : ℕ) → i < length types → IsTrue (slice_index_or tests i false) ↔ IsClass (slice_index_or types i [])
 
 -- row i of the types is a class
 abbrev pub IsClassIndex : List ℕ → ℕ → Type 0
@@ -32,10 +26,9 @@ pub record AreDefinedMarks (b : List ℕ) (n : ℕ) (marks : List Bool) : Type 0
   pub each : (i : ℕ) → i < table_size b TypeIds → IsTrue (slice_index_or marks i false) ↔ IsDefinedBelow b n i
 
 -- what is known of a file before its class rows are checked
-pub record IsKnown (b : List ℕ) (m : Mentions) (class_types defined : List Bool) : Type 0 where
+pub record IsKnown (b : List ℕ) (m : Mentions) (defined : List Bool) : Type 0 where
   pub frame : IsFrame b
   pub pools : ArePools b m
-  pub classes : AreClassTests m.types class_types
   pub marks : AreDefinedMarks b (table_size b ClassDefs) defined
 
 -- the index is none, or that of a class

@@ -1,5 +1,5 @@
 -- The first unit of a descriptor determines its kind.
-use Rattle.dexpool.proofs.Common.{◌≡◌, ◌≢◌, ◌⊎◌, ℕ, zero, suc, ◌<◌, ◌≤◌, Bool, true, false, List, [], ◌∷◌, ◌++◌, map, get_or, refl, sym, ap, ◌∙◌, subst, arith, inl, inr, ne_eqb, All, All-nil, All-cons, All-head, All-tail, replicate, ◌==◌, if◌then◌else◌, eqb-true, Text, IsDescriptor, VoidType, PrimitiveType, ClassType, ArrayType, IsVoid, IsPrimitive, IsClass, IsArray, IsValueType, IsReferenceType, primitive_letters, shorty_letter, IsAscii}
+use Rattle.dexpool.proofs.Common.{◌≡◌, ◌≢◌, ℕ, zero, suc, ◌<◌, ◌≤◌, Bool, true, false, List, [], ◌∷◌, ◌++◌, map, get_or, refl, sym, ap, ◌∙◌, subst, arith, inl, inr, ne_eqb, All, All-nil, All-cons, All-head, All-tail, replicate, ◌==◌, if◌then◌else◌, Text, IsDescriptor, VoidType, PrimitiveType, ClassType, ArrayType, IsVoid, IsPrimitive, IsClass, IsArray, IsValueType, IsReferenceType, primitive_letters, shorty_letter, IsAscii}
 use Rattle.dexpool.specs.internal.Kinds.{first_of}
 
 -- none of the letters of void, class and array

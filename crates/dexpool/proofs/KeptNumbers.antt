@@ -1,6 +1,6 @@
 -- The images of the numbers of marked symbols: each has one, which is not greater, and is a number of the other
 -- numbering.
-use Rattle.dexpool.proofs.Common.{◌≡◌, ℕ, zero, suc, ◌+◌, ◌≤◌, ◌&&◌, ◌==◌, Bool, true, false, List, [], ◌∷◌, get_or, map, refl, sym, ◌∙◌, subst, arith, eq-eqb, Option, Some, None, IsSome, All, Contains, flat_map, or_left, or_right, All-weaker, Contains-get_or, list_any-member, Mentions, FieldRow, MethodRow, kept, places, Maps, AllMapTo, image, MapsDown, MapsWithin, Use, AreMarkedToo, IsMarkedUse, IsMappedUse, MapsMarked, marks_of, same_kind, occurs, ProtoEntry, Tables, Marks, SymbolKind, IsMarked, AreClosure, kept_places, mark_all, field_types, entry_types}
+use Rattle.dexpool.proofs.Common.{◌≡◌, ℕ, zero, suc, ◌+◌, ◌≤◌, ◌&&◌, ◌==◌, Bool, true, false, List, [], ◌∷◌, get_or, map, refl, sym, ◌∙◌, subst, arith, eq-eqb, Some, None, IsSome, All, flat_map, or_left, or_right, All-weaker, Contains-get_or, list_any-member, Mentions, FieldRow, MethodRow, kept, places, Maps, AllMapTo, image, MapsDown, MapsWithin, Use, AreMarkedToo, IsMarkedUse, IsMappedUse, MapsMarked, marks_of, same_kind, occurs, ProtoEntry, Tables, Marks, SymbolKind, IsMarked, AreClosure, kept_places, mark_all, field_types, entry_types}
 use Rattle.dexpool.proofs.KeptPlaces.{marked_has}
 use Rattle.dexpool.specs.declared.symbols.SymbolKind.TheVariants as kinds
 use Rattle.dexpool.proofs.KeptRows.{mark_within, mark_stays}

@@ -1,5 +1,5 @@
 -- What a cut leaves: each kept row is a row, and has its place.
-use Rattle.dexpool.proofs.Common.{◌≡◌, ℕ, zero, suc, ◌+◌, ◌<◌, ◌≤◌, Bool, true, false, List, [], ◌∷◌, length, get_or, refl, ap, arith, inl, inr, Option, Some, None, AreAmong, Contains-nil, Contains-later, Contains-cons_cases, kept, places}
+use Rattle.dexpool.proofs.Common.{◌≡◌, ℕ, zero, suc, ◌+◌, ◌<◌, ◌≤◌, Bool, true, false, List, [], ◌∷◌, length, get_or, refl, ap, arith, inl, inr, Option, Some, AreAmong, Contains-nil, Contains-later, Contains-cons_cases, kept, places}
 
 -- a kept row is a row
 pub kept_among : {R : Type 0} (marks : List Bool) (rows : List R) → AreAmong (kept marks rows) rows

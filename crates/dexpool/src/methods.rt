@@ -2,19 +2,19 @@
 
 ghost use Rattle.std.specs.Prelude.{◌↔◌, ◌<◌, MatchOption, IsTrue};
 ghost use Rattle.dexspec.specs.Header.{MethodIds, table_size};
-ghost use Rattle.dexspec.specs.Names.{IsDescriptor};
+ghost use Rattle.dexspec.specs.Names.{IsDescriptor, IsMemberName};
 ghost use Rattle.dexspec.specs.Rows.{HasMethod};
 ghost use Rattle.dexpool.specs.Tables.{method_cmp};
 ghost use Rattle.dexpool.specs.Reading.{AreNames, AreMethodNames, HasMethodNumbers, MethodRowAt, file_numbers};
-ghost use Rattle.dexpool.specs.internal.FileRows.{AreFileProtos, IsFileMethod};
+ghost use Rattle.dexpool.specs.internal.FileRows.{AreFileProtos, AreMemberNames, IsFileMethod};
 
 use crate::kinds::is_reference;
-use crate::names::Names;
+use crate::names::{Names, is_known_name};
 use crate::reading::TableReader;
 use crate::rows::ProtoEntry;
 use dexhead::{Condition, Frame, Table, u16_at, u32_at};
 use dexrows::{MethodRow, Row};
-use dexstr::{Text, is_member_name};
+use dexstr::Text;
 use std::alloc::AllocError;
 use std::cmp::Ordering;
 
@@ -32,19 +32,29 @@ fn method_numbers(frame: &Frame<'_>, i: u32) -> MethodRow
 }
 
 // Returns whether a method may belong to the type and have the name.
-fn is_method(class: &Text<'_>, name: &Text<'_>) -> bool
-    requires { IsDescriptor class.now }
-    ensures { IsTrue result ↔ AreMethodNames class.now name.now }
+fn is_method(class: &Text<'_>, name: &Text<'_>, is_known: &mut bool) -> bool
+    requires class { IsDescriptor class.now }
+    requires known { IsTrue is_known.old → IsMemberName name.now }
+    ensures known { IsTrue is_known.new → IsMemberName name.now }
+    ensures method { IsTrue result ↔ AreMethodNames class.now name.now }
 {
-    is_reference(class) && is_member_name(name)
+    is_reference(class) && is_known_name(name, is_known)
 }
 
-// The numbers of a row, if it is a method.
-fn method_at(names: &Names<'_, '_>, protos: &[ProtoEntry], i: u32) -> Option<MethodRow>
+// The numbers of a row, if it is a method. `known` has the texts that were found to be names of members.
+fn method_at(
+    names: &Names<'_, '_>,
+    protos: &[ProtoEntry],
+    known: &mut [bool],
+    i: u32,
+) -> Option<MethodRow>
     requires names { AreNames names.now.frame.now names.now.strings.now names.now.types.now }
     requires protos { AreFileProtos names.now protos.now }
+    requires known { AreMemberNames names.now.strings.now known.old }
     requires row { i < table_size names.now.frame.now MethodIds }
-    ensures { MatchOption result (HasMethod names.now.frame.now i → ⊥) (IsFileMethod names.now protos.now i) }
+    ensures known { AreMemberNames names.now.strings.now known.new }
+    ensures method { MatchOption result (HasMethod names.now.frame.now i → ⊥)
+        (IsFileMethod names.now protos.now i) }
 {
     let method = method_numbers(names.frame, i);
     let class = names.typ(method.class as usize)?;
@@ -52,7 +62,7 @@ fn method_at(names: &Names<'_, '_>, protos: &[ProtoEntry], i: u32) -> Option<Met
     if protos.len() <= method.proto as usize {
         return None;
     }
-    if !is_method(class, name) {
+    if !is_method(class, name, &mut known[method.name as usize]) {
         return None;
     }
     Some(method)
@@ -74,7 +84,7 @@ impl TableReader for MethodReader<'_, '_, '_> {
 
     type Row = MethodRow;
 
-    type Memory = ();
+    type Memory = Vec<bool>;
 
     ghost condition = { conditions.Methods };
 
@@ -82,7 +92,7 @@ impl TableReader for MethodReader<'_, '_, '_> {
 
     ghost can_read = { λ reader. AreNames reader.names.now.frame.now reader.names.now.strings.now reader.names.now.types.now × AreFileProtos reader.names.now reader.protos.now };
 
-    ghost remembers = { λ reader memory. Unit {0} };
+    ghost remembers = { λ reader known. AreMemberNames reader.names.now.strings.now known.items };
 
     ghost is_row = { λ reader. MethodRowAt reader.names.now.strings.now reader.names.now.types.now (file_numbers reader.names.now.frame.now) reader.protos.now };
 
@@ -92,8 +102,8 @@ impl TableReader for MethodReader<'_, '_, '_> {
         (Condition::Methods, self.names.frame.size(Table::MethodIds))
     }
 
-    fn row_at(&self, _memory: &mut (), i: u32) -> Result<Option<MethodRow>, AllocError> {
-        Ok(method_at(self.names, self.protos, i))
+    fn row_at(&self, known: &mut Vec<bool>, i: u32) -> Result<Option<MethodRow>, AllocError> {
+        Ok(method_at(self.names, self.protos, known, i))
     }
 
     fn compare(&self, left: &MethodRow, right: &MethodRow) -> Ordering {

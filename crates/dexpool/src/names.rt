@@ -1,11 +1,12 @@
 //! What the rows of protos, fields and methods name.
 
-ghost use Rattle.std.specs.Prelude.{MatchOption};
+ghost use Rattle.std.specs.Prelude.{◌↔◌, IsTrue, MatchOption};
+ghost use Rattle.dexspec.specs.Names.{IsMemberName};
 ghost use Rattle.dexpool.specs.Reading.{AreNames};
 ghost use Rattle.dexpool.specs.internal.FileRows.{NoFileText, IsFileText, NoFileType, IsFileType};
 
 use dexhead::Frame;
-use dexstr::Text;
+use dexstr::{Text, is_member_name};
 
 /// A file whose texts and types are read.
 #[derive(Clone, Copy)]
@@ -39,4 +40,17 @@ impl<'p, 'a> Names<'p, 'a> {
         }
         Some(&self.strings[self.types[index]])
     }
+}
+
+/// Whether the text is the name of a member. `is_known` says of it whether it was found to be one before, and then it is
+/// not gone over again, however many rows have that name.
+pub(crate) fn is_known_name(name: &Text<'_>, is_known: &mut bool) -> bool
+    requires { IsTrue is_known.old → IsMemberName name.now }
+    ensures known { IsTrue is_known.new → IsMemberName name.now }
+    ensures name { IsTrue result ↔ IsMemberName name.now }
+{
+    if !*is_known {
+        *is_known = is_member_name(name);
+    }
+    *is_known
 }

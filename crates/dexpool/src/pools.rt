@@ -207,12 +207,13 @@ fn read_rows<'a>(
     ensures err { IfErr result (IsFault names.now.frame.now) }
 {
     let protos = read_protos(alloc, names, parameters)?;
-    let fields = read_table(alloc, names, &mut ())?;
+    let mut known_names = vec![in alloc; false; names.strings.len()]?;
+    let fields = read_table(alloc, names, &mut known_names)?;
     let reader = MethodReader {
         names,
         protos: &protos,
     };
-    let methods = read_table(alloc, &reader, &mut ())?;
+    let methods = read_table(alloc, &reader, &mut known_names)?;
     Ok(Rows {
         protos,
         fields,

@@ -121,6 +121,7 @@ pub(crate) fn read_table<R: TableReader>(
     requires before { HoldBelow (number R.condition) (R.file reader.now) }
     ensures ok { IfOk result (λ rows. AreAllRows R.condition (R.is_row reader.now) (R.file reader.now) rows.items) }
     ensures below { OnOk result (HoldBelow (number R.condition + 1) (R.file reader.now)) }
+    ensures memory { OnOk result (R.remembers reader.now memory.new) }
     ensures err { IfErr result (IsFault (R.file reader.now)) }
 {
     reader.law();

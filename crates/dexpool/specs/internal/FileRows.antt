@@ -1,5 +1,6 @@
 -- Rows of a file whose texts and types are read.
-use Rattle.std.specs.Prelude.{◌≡◌, ℕ, List, IfSome}
+use Rattle.std.specs.Prelude.{◌≡◌, ◌<◌, ℕ, Bool, false, List, [], length, slice_index_or, IsTrue, IfSome}
+use Rattle.dexspec.specs.Names.{IsMemberName}
 use Rattle.dexspec.specs.Texts.{Text}
 use Rattle.dexspec.specs.Rows as rows
 use Rattle.dexpool.specs.declared.names.Names.{Names}
@@ -56,6 +57,11 @@ pub record AreFileLists (reader : ProtoReader) (lists : CheckedLists) : Type 0 w
   pub letters_are : IfSome lists.letters (λ letters. letters.items ≡ letters_in reader.letters.now (file_numbers reader.names.now.frame.now))
 
 -- ---- fields and methods
+
+-- the texts that are marked are names of members
+pub record AreMemberNames (texts : List Text) (known : List Bool) : Type 0 where
+  pub count : length known ≡ length texts
+  pub each : (i : ℕ) → i < length texts → IsTrue (slice_index_or known i false) → IsMemberName (slice_index_or texts i [])
 
 -- row i is the field of these numbers
 abbrev pub IsFileField : Names → ℕ → FieldRow → Type 0

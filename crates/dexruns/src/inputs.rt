@@ -142,6 +142,7 @@ pub fn read_whole<R: Source>(alloc: Global, input: &mut R) -> Result<Vec<u8>, In
         filled += taken;
     }
     bytes.truncate(filled);
+    bytes.shrink_to_fit();
     Ok(bytes)
 }
 

@@ -5,13 +5,13 @@ use Rattle.std.specs.declared.cmp.Ordering.TheVariants.{Less, Equal, Greater}
 
 -- ---- numbers
 
-nat_cmp-less : (a b : ℕ) → a < b → nat_cmp a b ≡ Less
+pub nat_cmp-less : (a b : ℕ) → a < b → nat_cmp a b ≡ Less
 nat_cmp-less a b lt = rw (lt-ltb a b lt) refl
 
-nat_cmp-same : (a : ℕ) → nat_cmp a a ≡ Equal
+pub nat_cmp-same : (a : ℕ) → nat_cmp a a ≡ Equal
 nat_cmp-same a = rw (le-ltb a a (omega arith), eq-eqb a a refl) refl
 
-nat_cmp-greater : (a b : ℕ) → b < a → nat_cmp a b ≡ Greater
+pub nat_cmp-greater : (a b : ℕ) → b < a → nat_cmp a b ≡ Greater
 nat_cmp-greater a b lt = rw (le-ltb a b (omega arith), ne_eqb a b (omega arith)) refl
 
 nat_cmp-suc : (a b : ℕ) → nat_cmp (suc a) (suc b) ≡ nat_cmp a b
@@ -47,10 +47,10 @@ cmp_same_prefix (a ∷ p) x y = rw (nat_cmp-same (place_of a)) (cmp_same_prefix 
 
 -- ---- units
 
-place_below : (a b : ℕ) → a < b → b ≢ 0xc0 → place_of a < place_of b
+pub place_below : (a b : ℕ) → a < b → b ≢ 0xc0 → place_of a < place_of b
 place_below a b lt other = grind (arith, nat_tests)
 
-zero_below : (b : ℕ) → b ≢ 0xc0 → place_of 0xc0 < place_of b
+pub zero_below : (b : ℕ) → b ≢ 0xc0 → place_of 0xc0 < place_of b
 zero_below b other = rw (place_other b other) (omega arith)
 
 -- a lesser unit's spelling comes first

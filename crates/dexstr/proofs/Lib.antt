@@ -6,3 +6,4 @@ pub mod Ascii
 pub mod ClassNames
 pub mod Descriptions
 pub mod Outcomes
+pub mod Keys

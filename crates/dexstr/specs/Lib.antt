@@ -8,3 +8,4 @@ unfoldable pub use Escapes.*
 unfoldable pub use Faults.*
 unfoldable pub use Kinds.*
 unfoldable pub use internal.Order.*
+unfoldable pub use internal.Keys.*

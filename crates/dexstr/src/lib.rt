@@ -10,6 +10,7 @@
 
 pub use descriptors::{Kind, descriptor_kind, is_member_name, shorty_letter};
 pub use escapes::{escaped, hexadecimal_digit};
+pub use keyed::KeyedText;
 pub use names::Name;
 pub use reading::TextFault;
 pub use texts::Text;
@@ -18,6 +19,7 @@ pub use writing::put_text;
 
 mod descriptors;
 mod escapes;
+mod keyed;
 mod names;
 mod order;
 mod reading;

@@ -20,7 +20,7 @@ use crate::renumbering::{
 };
 use crate::tables::Tables;
 use dexrows::{FieldRow, Joined, LowerPlaces, MethodRow, ProtoRow, Row, TypeRow, join};
-use dexstr::Text;
+use dexstr::{KeyedText, Text};
 use std::alloc::{AllocError, Global};
 
 /// The types of all parts, as the numbers of their texts.
@@ -101,9 +101,35 @@ fn join_strings<'a>(alloc: Global, parts: &[&Numbering<'a>]) -> Result<Joined<Te
 {
     let mut rows = Vec::with_capacity(alloc, parts.len())?;
     for part in parts {
-        rows.push(part.tables().strings.as_slice())?;
+        rows.push(keyed_texts(alloc, &part.tables().strings)?)?;
     }
-    join(alloc, &rows)
+    let joined = join_rows(alloc, &rows)?;
+    Ok(Joined {
+        rows: plain_texts(alloc, &joined.rows)?,
+        images: joined.images,
+    })
+}
+
+// The texts with their keys.
+fn keyed_texts<'a>(alloc: Global, texts: &[Text<'a>]) -> Result<Vec<KeyedText<'a>>, AllocError>
+    ensures { IfOk result (λ keyed. keyed.items ≡ texts.now) }
+{
+    let mut keyed = Vec::with_capacity(alloc, texts.len())?;
+    for text in texts {
+        keyed.push(KeyedText::of(text))?;
+    }
+    Ok(keyed)
+}
+
+// The texts without their keys.
+fn plain_texts<'a>(alloc: Global, keyed: &[KeyedText<'a>]) -> Result<Vec<Text<'a>>, AllocError>
+    ensures { IfOk result (λ texts. texts.items ≡ keyed.now) }
+{
+    let mut texts = Vec::with_capacity(alloc, keyed.len())?;
+    for text in keyed {
+        texts.push(text.text())?;
+    }
+    Ok(texts)
 }
 
 // The types of all parts, by the joined texts.

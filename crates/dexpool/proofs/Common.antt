@@ -46,7 +46,7 @@ pub use Rattle.dexpool.specs.declared.symbols.SymbolKind.{SymbolKind}
 pub use Rattle.dexpool.specs.declared.tables.Tables.{Tables}
 pub use Rattle.dexpool.specs.internal.CheckedLists.{AreLetters, IsChecked, IsLetter, IsNotVoid, IsShorty, IsSpelled, NoVoid, NotListedAs, SpellNumbers, letter_in, letters_in}
 pub use Rattle.dexpool.specs.internal.Closing.{AreClosed, AreClosure, HasMarkedEntry, HasMarkedField, HasMarkedMethod, IsCut, IsMarked, entry_types, field_types, kept_places, kept_symbols, mark_all, new_numbers, number_or_none}
-pub use Rattle.dexpool.specs.internal.Joining.{AreJoinedFields, AreJoinedMethods, AreJoinedProtos, AreJoinedTexts, AreJoinedTypes, AreMapsOf, Denote, HasShorty, IsRowOf, IsUnion, Moves, lists_in, numberings_of, proto_of_row}
+pub use Rattle.dexpool.specs.internal.Joining.{AreJoinedFields, AreJoinedMethods, AreJoinedProtos, AreJoinedTexts, AreJoinedTypes, AreMapsOf, Denote, HasShorty, IsRowOf, IsUnion, Moves, lists_in, numberings_of, proto_of_row, HavePart, HaveSameParts, SameFrom, image_at, total_maps}
 pub use Rattle.dexpool.specs.internal.Marking.{HaveAllMarks}
 pub use Rattle.dexpool.specs.internal.Ranking.{ComeFirst, PassBelow}
 pub use Rattle.dexpool.specs.internal.ReadRows.{DecidesNext, IsOfPools}

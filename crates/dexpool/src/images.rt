@@ -44,6 +44,19 @@ impl Images {
         })
     }
 
+    /// These images, one for each number. They are not copied.
+    ///
+    /// Error: one of them is 2^32 - 1, for which there is no room.
+    #[tactic(auto, using(crate::proofs::StoredImages::all_present))]
+    pub(crate) fn of_all(numbers: Vec<u32>) -> Result<Images, AllocError>
+        ensures { IfOk result (λ images. images ≡ map Some numbers.items) }
+    {
+        if numbers.contains(&NO_IMAGE) {
+            return Err(AllocError);
+        }
+        Ok(Images { numbers })
+    }
+
     /// Appends the image of the next number.
     ///
     /// Error: the memory for it was refused, or it is 2^32 - 1, for which there is no room.

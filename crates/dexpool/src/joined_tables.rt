@@ -1,12 +1,12 @@
 //! Tables joined, one kind of symbol after the other: the rows of each part are renumbered by the images of the
 //! kinds below them, in which they rise still, and then joined.
 
-ghost use Rattle.std.specs.Prelude.{◌≡◌, length, map, All, IfOk, Some};
+ghost use Rattle.std.specs.Prelude.{◌≡◌, ℕ, ◌+◌, ◌<◌, length, map, All, IfOk, OnOk, Some};
 ghost use Rattle.dexrows.specs.Join.{AreSorted};
 ghost use Rattle.dexpool.specs.Numberings.{IsNumbering, union_of, PartsMapTo};
-ghost use Rattle.dexpool.specs.Orderly.{KeepsOrder};
+ghost use Rattle.dexpool.specs.Orderly.{KeepOrder};
 ghost use Rattle.dexpool.specs.internal.Renumbering.{numbers_in, HasSpans};
-ghost use Rattle.dexpool.specs.internal.Joining.{proto_key, JoinsRows, JoinsProtos, AreTextsOf, AreTypesOf, AreProtosOf, AreFieldsOf, AreMethodsOf, AreTablesOf, total_maps, AreRemapsOf};
+ghost use Rattle.dexpool.specs.internal.Joining.{proto_key, JoinsRows, JoinsProtos, AreTextsOf, AreTypesOf, AreProtosOf, AreFieldsOf, AreMethodsOf, AreTablesOf, total_maps, HaveSameParts, HavePart, SameFrom, AreRemapsOf};
 ghost use Rattle.dexpool.specs.Stored.{symbols_in, AreTables};
 
 use crate::images::Images;
@@ -22,6 +22,7 @@ use crate::tables::Tables;
 use dexrows::{FieldRow, Joined, LowerPlaces, MethodRow, ProtoRow, Row, TypeRow, join};
 use dexstr::{KeyedText, Text};
 use std::alloc::{AllocError, Global};
+use std::mem;
 
 /// The types of all parts, as the numbers of their texts.
 #[derive(Drop)]
@@ -37,24 +38,14 @@ struct JoinedProtos {
     images: Vec<Vec<u32>>,
 }
 
-/// For each part the images of its numbers, by kind, which are borrowed.
-#[derive(Clone, Copy)]
-struct JoinedImages<'j> {
-    strings: &'j [Vec<u32>],
-    types: &'j [Vec<u32>],
-    protos: &'j [Vec<u32>],
-    fields: &'j [Vec<u32>],
-    methods: &'j [Vec<u32>],
-}
-
-/// The images of the numbers of one part.
-#[derive(Clone, Copy)]
-struct PartImages<'j> {
-    strings: &'j [u32],
-    types: &'j [u32],
-    protos: &'j [u32],
-    fields: &'j [u32],
-    methods: &'j [u32],
+/// For each part the images of its numbers, by kind.
+#[derive(Drop)]
+struct JoinedImages {
+    strings: Vec<Vec<u32>>,
+    types: Vec<Vec<u32>>,
+    protos: Vec<Vec<u32>>,
+    fields: Vec<Vec<u32>>,
+    methods: Vec<Vec<u32>>,
 }
 
 /// The symbols of all parts in one numbering's tables, and for each part where its numbers lead.
@@ -76,11 +67,11 @@ pub(crate) fn join_tables<'a>(
     let fields = join_fields(alloc, parts, &strings, &types)?;
     let methods = join_methods(alloc, parts, &strings, &types, &protos)?;
     let images = JoinedImages {
-        strings: &strings.images,
-        types: &types.images,
-        protos: &protos.images,
-        fields: &fields.images,
-        methods: &methods.images,
+        strings: strings.images,
+        types: types.images,
+        protos: protos.images,
+        fields: fields.images,
+        methods: methods.images,
     };
     let remaps = images.remaps(alloc)?;
     let tables = Tables {
@@ -304,67 +295,41 @@ fn slices_of<R: Row>(alloc: Global, parts: &[Vec<R>]) -> Result<Vec<&[R]>, Alloc
     Ok(slices)
 }
 
-impl<'j> JoinedImages<'j> {
+impl JoinedImages {
     // For each part the map of its images.
-    fn remaps(&self, alloc: Global) -> Result<Vec<Remap>, AllocError>
-        requires types { length self.now.types.now ≡ length self.now.strings.now }
-        requires protos { length self.now.protos.now ≡ length self.now.strings.now }
-        requires fields { length self.now.fields.now ≡ length self.now.strings.now }
-        requires methods { length self.now.methods.now ≡ length self.now.strings.now }
-        requires strings_keep { All (λ image. KeepsOrder (map Some image.items))
-            self.now.strings.now }
-        requires types_keep { All (λ image. KeepsOrder (map Some image.items))
-            self.now.types.now }
-        requires protos_keep { All (λ image. KeepsOrder (map Some image.items))
-            self.now.protos.now }
-        requires fields_keep { All (λ image. KeepsOrder (map Some image.items))
-            self.now.fields.now }
-        requires methods_keep { All (λ image. KeepsOrder (map Some image.items))
-            self.now.methods.now }
-        ensures { IfOk result (AreRemapsOf self.now) }
+    fn remaps(mut self, alloc: Global) -> Result<Vec<Remap>, AllocError>
+        requires counts { HaveSameParts self }
+        requires keep { (part : ℕ) → part < length self.strings.items
+            → KeepOrder (total_maps part self) }
+        ensures { IfOk result (AreRemapsOf self) }
     {
         let mut remaps = Vec::with_capacity(alloc, self.strings.len())?;
-        for i in 0..self.strings.len() {
-            let part = PartImages {
-                strings: &self.strings[i],
-                types: &self.types[i],
-                protos: &self.protos[i],
-                fields: &self.fields[i],
-                methods: &self.methods[i],
-            };
-            remaps.push(part.remap(alloc)?)?;
+        for part in 0..self.strings.len() {
+            remaps.push(self.remap(alloc, part)?)?;
         }
         Ok(remaps)
     }
-}
 
-impl<'j> PartImages<'j> {
-    // The map of these images.
-    fn remap(&self, alloc: Global) -> Result<Remap, AllocError>
-        requires strings_keep { KeepsOrder (map Some self.now.strings.now) }
-        requires types_keep { KeepsOrder (map Some self.now.types.now) }
-        requires protos_keep { KeepsOrder (map Some self.now.protos.now) }
-        requires fields_keep { KeepsOrder (map Some self.now.fields.now) }
-        requires methods_keep { KeepsOrder (map Some self.now.methods.now) }
-        ensures { IfOk result (λ remap. remap ≡ total_maps self.now) }
+    // The map of a part's images, which are moved into it.
+    fn remap(&mut self, alloc: Global, part: usize) -> Result<Remap, AllocError>
+        requires within { HavePart part self.old }
+        requires keep { KeepOrder (total_maps part self.old) }
+        ensures maps { IfOk result (λ remap. remap ≡ total_maps part self.old) }
+        ensures others { OnOk result (SameFrom (part + 1) self.old self.new) }
     {
         Ok(Remap {
-            strings: total(alloc, self.strings)?,
-            types: total(alloc, self.types)?,
-            protos: total(alloc, self.protos)?,
-            fields: total(alloc, self.fields)?,
-            methods: total(alloc, self.methods)?,
+            strings: moved(alloc, &mut self.strings[part])?,
+            types: moved(alloc, &mut self.types[part])?,
+            protos: moved(alloc, &mut self.protos[part])?,
+            fields: moved(alloc, &mut self.fields[part])?,
+            methods: moved(alloc, &mut self.methods[part])?,
         })
     }
 }
 
-// The map that leads each number to its image.
-fn total(alloc: Global, image: &[u32]) -> Result<Images, AllocError>
-    ensures { IfOk result (λ images. images ≡ map Some image.now) }
+// The map to these images, one for each number, which are moved into it.
+fn moved(alloc: Global, images: &mut Vec<u32>) -> Result<Images, AllocError>
+    ensures { IfOk result (λ map_of. map_of ≡ map Some images.old.items) }
 {
-    let mut images = Images::with_capacity(alloc, image.len())?;
-    for place in image {
-        images.push_image(*place)?;
-    }
-    Ok(images)
+    Images::of_all(mem::replace(images, Vec::new(alloc)))
 }

@@ -1,5 +1,5 @@
 -- Tables joined, one kind of symbol after the other.
-use Rattle.std.specs.Prelude.{◌≡◌, ℕ, ◌<◌, List, ◌∷◌, map, length, slice_index, slice_index_or, All, Some}
+use Rattle.std.specs.Prelude.{◌≡◌, ℕ, ◌<◌, List, [], ◌∷◌, map, length, drop, slice_index, slice_index_or, All, Some}
 use Rattle.std.specs.Borrow.{Bor}
 use Rattle.std.specs.Global.{Vec}
 use Rattle.std.specs.List.{AllZip, flat_map}
@@ -19,7 +19,6 @@ use Rattle.dexpool.specs.declared.protos.Protos.{Protos}
 use Rattle.dexpool.specs.declared.joined_tables.JoinedTypes.{JoinedTypes}
 use Rattle.dexpool.specs.declared.joined_tables.JoinedProtos.{JoinedProtos}
 use Rattle.dexpool.specs.declared.joined_tables.JoinedImages.{JoinedImages}
-use Rattle.dexpool.specs.declared.joined_tables.PartImages.{PartImages}
 use Rattle.dexpool.specs.Tables.{text_of, type_of, span_of, proto_of, field_of, method_of}
 use Rattle.dexpool.specs.Numberings.{IsAt, Maps}
 use Rattle.dexpool.specs.internal.Renumbering.{IsEntryWithin, IsFieldWithin, IsMethodWithin, numbers_in}
@@ -135,10 +134,37 @@ AreTablesOf parts texts types tables = AllZip (λ part rows. Denote (proto_of_ro
 
 -- ---- the maps of all parts
 
--- the map by these images, one for each number
-abbrev pub total_maps : PartImages → Maps
-total_maps images = record { texts = map Some images.strings.now; types = map Some images.types.now; protos = map Some images.protos.now; fields = map Some images.fields.now; methods = map Some images.methods.now }
+-- the images of the numbers of a part
+abbrev pub image_at : ℕ → Vec (Vec ℕ) → List ℕ
+image_at part images = slice_index_or (lists_in images.items) part []
+
+-- the map by the images of a part, one for each number
+abbrev pub total_maps : ℕ → JoinedImages → Maps
+total_maps part images = record { texts = map Some (image_at part images.strings); types = map Some (image_at part images.types); protos = map Some (image_at part images.protos); fields = map Some (image_at part images.fields); methods = map Some (image_at part images.methods) }
+
+-- there are images of as many parts of each kind
+pub record HaveSameParts (images : JoinedImages) : Type 0 where
+  pub types_count : length images.types.items ≡ length images.strings.items
+  pub protos_count : length images.protos.items ≡ length images.strings.items
+  pub fields_count : length images.fields.items ≡ length images.strings.items
+  pub methods_count : length images.methods.items ≡ length images.strings.items
+
+-- there are images of the part, of each kind
+pub record HavePart (part : ℕ) (images : JoinedImages) : Type 0 where
+  pub strings_in : part < length images.strings.items
+  pub types_in : part < length images.types.items
+  pub protos_in : part < length images.protos.items
+  pub fields_in : part < length images.fields.items
+  pub methods_in : part < length images.methods.items
+
+-- from this part on the images are the same
+pub record SameFrom (part : ℕ) (old new : JoinedImages) : Type 0 where
+  pub strings_same : drop part new.strings.items ≡ drop part old.strings.items
+  pub types_same : drop part new.types.items ≡ drop part old.types.items
+  pub protos_same : drop part new.protos.items ≡ drop part old.protos.items
+  pub fields_same : drop part new.fields.items ≡ drop part old.fields.items
+  pub methods_same : drop part new.methods.items ≡ drop part old.methods.items
 
 -- the maps have the images of each part
 abbrev pub AreRemapsOf : JoinedImages → Vec Maps → Type 0
-AreRemapsOf images maps = AreMapsOf (lists_in images.strings.now) (lists_in images.types.now) (lists_in images.protos.now) (lists_in images.fields.now) (lists_in images.methods.now) maps.items
+AreRemapsOf images maps = AreMapsOf (lists_in images.strings.items) (lists_in images.types.items) (lists_in images.protos.items) (lists_in images.fields.items) (lists_in images.methods.items) maps.items

@@ -1,5 +1,7 @@
-use Rattle.dexpool.proofs.Common.{map, take, AreMapsOf}
+use Rattle.dexpool.proofs.Common.{SameFrom}
+use Rattle.dexpool.proofs.JoinedTables.{AreFirstMaps}
 use Rattle.dexpool.proofs.joined_tables.JoinedImages.remaps.Given as goal
 
-abbrev pub invariant-loop-i : goal.invariant-loop-i
-invariant-loop-i l = AreMapsOf (map (λ image. image.items) (take l.i l.self.strings.now)) (map (λ image. image.items) (take l.i l.self.types.now)) (map (λ image. image.items) (take l.i l.self.protos.now)) (map (λ image. image.items) (take l.i l.self.fields.now)) (map (λ image. image.items) (take l.i l.self.methods.now)) l.remaps.items
+-- the first parts have their maps, and the images of the others are there still
+abbrev pub invariant-loop-part : goal.invariant-loop-part
+invariant-loop-part l = record { maps : AreFirstMaps l.part l.fn.self l.remaps.items; others : SameFrom l.part l.fn.self l.self }

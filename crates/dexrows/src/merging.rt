@@ -2,7 +2,7 @@
 
 ghost use Rattle.std.specs.Prelude.{◌≡◌, ◌<◌, ◌+◌, ◌^◌, length, IfOk, OnOk};
 ghost use Rattle.dexrows.specs.Join.{AreSorted};
-ghost use Rattle.dexrows.specs.internal.Merged.{Merges, HasMerged, FindsNext, ComesNext, taken_count};
+ghost use Rattle.dexrows.specs.internal.Merged.{Merges, HasMerged, FindsNext, ComesNext, IsNextRow, taken_count};
 
 use crate::rows::Row;
 use std::alloc::{AllocError, Global};
@@ -73,20 +73,26 @@ fn take_next<R: Row>(
     ensures more { OnOk result (taken_count merged.old < taken_count merged.new) }
 {
     let place = merged.rows.len() as u32;
+    let row = next_row(merged, left, right, order);
+    merged.rows.push(row)?;
     match order {
-        Ordering::Less => {
-            merged.rows.push(left[merged.left_places.len()].copied())?;
-            merged.left_places.push(place)?;
-        }
+        Ordering::Less => merged.left_places.push(place)?,
         Ordering::Equal => {
-            merged.rows.push(left[merged.left_places.len()].copied())?;
             merged.left_places.push(place)?;
             merged.right_places.push(place)?;
         }
-        Ordering::Greater => {
-            merged.rows.push(right[merged.right_places.len()].copied())?;
-            merged.right_places.push(place)?;
-        }
+        Ordering::Greater => merged.right_places.push(place)?,
     }
     Ok(())
+}
+
+/// The next row: that of the left table, unless it is `Greater`.
+fn next_row<R: Row>(merged: &Merged<R>, left: &[R], right: &[R], order: Ordering) -> R
+    requires { ComesNext R.key_of left.now right.now merged.now order }
+    ensures { IsNextRow left.now right.now merged.now order result }
+{
+    match order {
+        Ordering::Less | Ordering::Equal => left[merged.left_places.len()].copied(),
+        Ordering::Greater => right[merged.right_places.len()].copied(),
+    }
 }

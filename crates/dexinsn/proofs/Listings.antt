@@ -1,5 +1,5 @@
 -- Pieces listed one by one.
-use Rattle.dexinsn.proofs.Common.{◌≡◌, ℕ, ◌+◌, ◌-◌, ◌*◌, ◌/◌, ◌<◌, ◌≤◌, ◌==◌, Bool, true, false, cond, List, [], ◌∷◌, length, drop, take, map, slice_index, Option, Some, None, inl, inr, refl, ap, sym, ◌∙◌, subst, arith, length-drop, option_map, option_map_or, drop-drop, drop_all, get_or-take, Pool, Cut, AreCut, piece_size, cut_units, index_pool, is_payload_ident, packed_switch_ident, sparse_switch_ident, array_data_ident, with_index, low_byte, piece_is, units_by, SymbolKind, Index, IsPieceAt, Instruction, kind_in, kind_of_pool, cuts_from, cuts_in, parts_in, first_number, piece_with, left_by, pieces_with, with_place, index_places, AreStored, units_of, payload_shown, listed, symbol_by, kind_from, listing, IsListing, ListsFirst, Payload}
+use Rattle.dexinsn.proofs.Common.{◌≡◌, ℕ, ◌+◌, ◌*◌, ◌/◌, ◌<◌, ◌≤◌, ◌==◌, Bool, true, false, cond, List, [], ◌∷◌, length, drop, take, map, slice_index, Option, Some, None, inl, inr, refl, ap, sym, ◌∙◌, subst, arith, length-drop, option_map, option_map_or, drop-drop, drop_all, get_or-take, Pool, Cut, AreCut, piece_size, cut_units, index_pool, is_payload_ident, packed_switch_ident, sparse_switch_ident, array_data_ident, with_index, low_byte, piece_is, units_by, SymbolKind, Index, IsPieceAt, Instruction, kind_in, kind_of_pool, cuts_from, cuts_in, parts_in, first_number, piece_with, left_by, pieces_with, with_place, index_places, AreStored, units_of, payload_shown, listed, symbol_by, kind_from, listing, IsListing, ListsFirst, Payload}
 use Rattle.dexpool.specs.declared.symbols.SymbolKind.TheVariants as symbols
 use Rattle.dexinsn.specs.declared.listing.PieceKind.{PieceKind}
 use Rattle.dexinsn.specs.declared.listing.PieceKind.TheVariants as kinds

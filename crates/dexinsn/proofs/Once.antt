@@ -1,5 +1,5 @@
 -- Units have one answer only: they are cut in one way, which ends at their end or breaks at one unit.
-use Rattle.dexinsn.proofs.Common.{◌≡◌, ◌≢◌, inl, inr, ℕ, ◌+◌, ◌-◌, Bool, not, cond, List, [], ◌∷◌, length, drop, Some, None, Result, Ok, Err, refl, ap, sym, ◌∙◌, subst, arith, add-zero, add_assoc, zero-add, length-drop, IsTrue, All, find, option_map, All-head, All-tail, same_Some, Cut, AreCut, IsCode, has_right_targets, piece_size, Vec, IfOk, Global, BreaksAt, cuts_of, units_of_all, first_bad_target, first_bad_target_of, HasBadTargetAt, IsFault, IsResult, IsReturned, IfErr, Empty, Target, HasNumbersOf, IsSplitFault, unit_of}
+use Rattle.dexinsn.proofs.Common.{◌≡◌, ◌≢◌, inl, inr, ℕ, ◌+◌, Bool, not, cond, List, [], ◌∷◌, length, drop, Some, None, Result, Ok, Err, refl, ap, sym, ◌∙◌, subst, arith, add-zero, add_assoc, zero-add, length-drop, IsTrue, All, find, option_map, All-head, All-tail, same_Some, Cut, AreCut, IsCode, has_right_targets, piece_size, Vec, IfOk, Global, BreaksAt, cuts_of, units_of_all, first_bad_target, first_bad_target_of, HasBadTargetAt, IsFault, IsResult, IsReturned, IfErr, Empty, Target, HasNumbersOf, IsSplitFault, unit_of}
 use Rattle.dexinsn.specs.declared.code.Cut.{Cut as CutOfCode}
 use Rattle.dexinsn.specs.declared.code.SplitFault.{SplitFault}
 use Rattle.dexinsn.specs.declared.code.SplitFault.TheVariants.{Piece, Memory}

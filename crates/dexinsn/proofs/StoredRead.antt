@@ -1,5 +1,5 @@
 -- What is read is stored so that it denotes the pieces of the code_item.
-use Rattle.dexinsn.proofs.Common.{◌≡◌, ℕ, zero, suc, ◌+◌, ◌-◌, ◌*◌, ◌/◌, ◌%◌, ◌^◌, ◌<◌, ◌≤◌, ◌==◌, Bool, true, false, cond, List, [], ◌∷◌, length, drop, map, get_or, slice_index, slice_set, Option, Some, None, refl, ap, sym, ◌∙◌, subst, arith, length-drop, get_or-set_other, All, AllZip, option_map_or, option_and_then, MatchOption, drop-drop, get_or-take, length-take-le, All-nil, All-cons, All-head, All-tail, uint_at, opcode_of, Pool, StringPool, TypePool, ProtoPool, FieldPool, MethodPool, Proto, Symbol, TextSymbol, TypeSymbol, ProtoSymbol, FieldSymbol, MethodSymbol, pool_of, Mentions, Cut, AreCut, IsCode, Piece, DenotesPiece, piece_size, cut_units, index_pool, index_in, is_wide_index, is_payload_ident, with_index, low_byte, two_units, PiecesAt, length-ushorts_at, ArePools, count_of, IsNumbered, Index, IsPieceAt, Instruction, kind_of_pool, Denotes, Denote, cuts_from, cuts_in, parts_in, piece_with, left_by, pieces_with, with_place, index_places, AreStored, ArePiecesAt, AreUnitsAt, with_index_at, indices_at, IsInRange, AreCodeIndices, Payload, IsPiecesFault, IsCodeFault, false_from_ne_true, pos, inl, inr, eqb-true, eq-eqb, zero-add, ◌↔◌, bit_at, cases_lt, get_or_past, is_instruction_start, bits_from, bits_in, has_bit, AreStartsAt, AreCodeStarts, HasBit}
+use Rattle.dexinsn.proofs.Common.{◌≡◌, ℕ, zero, suc, ◌+◌, ◌*◌, ◌/◌, ◌%◌, ◌^◌, ◌<◌, ◌≤◌, ◌==◌, Bool, true, false, cond, List, [], ◌∷◌, length, drop, map, get_or, slice_index, slice_set, Option, Some, None, refl, ap, sym, ◌∙◌, subst, arith, length-drop, get_or-set_other, All, AllZip, option_map_or, option_and_then, MatchOption, drop-drop, get_or-take, length-take-le, All-nil, All-cons, All-head, All-tail, uint_at, opcode_of, Pool, StringPool, TypePool, ProtoPool, FieldPool, MethodPool, Proto, Symbol, TextSymbol, TypeSymbol, ProtoSymbol, FieldSymbol, MethodSymbol, pool_of, Mentions, Cut, AreCut, IsCode, Piece, DenotesPiece, piece_size, cut_units, index_pool, index_in, is_wide_index, is_payload_ident, with_index, low_byte, two_units, PiecesAt, length-ushorts_at, ArePools, count_of, IsNumbered, Index, IsPieceAt, Instruction, kind_of_pool, Denotes, Denote, cuts_from, cuts_in, parts_in, piece_with, left_by, pieces_with, with_place, index_places, AreStored, ArePiecesAt, AreUnitsAt, with_index_at, indices_at, IsInRange, AreCodeIndices, Payload, IsPiecesFault, IsCodeFault, false_from_ne_true, pos, inl, inr, eqb-true, eq-eqb, zero-add, ◌↔◌, bit_at, cases_lt, get_or_past, is_instruction_start, bits_from, bits_in, has_bit, AreStartsAt, AreCodeStarts, HasBit}
 use Rattle.dexspec.specs.Rows.{SymbolRow}
 use Rattle.dexspec.specs.Pieces as symbolic
 use Rattle.dexinsn.specs.{units_in}

@@ -10,10 +10,10 @@ ghost use Rattle.dexinsn.specs.Opcode.{format_of};
 ghost use Rattle.dexinsn.specs.Payload.{ident_of};
 ghost use Rattle.dexinsn.specs.internal.LongSwitches.{ArePayloads, EndsEmpty};
 ghost use Rattle.dexinsn.specs.Split.{IsPieceAt};
-ghost use Rattle.dexinsn.specs.Checking.{AreBitsOf, AreNoted, HasNoCode, AreAllRight, HasPiecesOf, IndexCount, IsOutside, IsChecked, IsShapeAt, HasTargetsAt, begins_instruction, is_noted, has_targets};
+ghost use Rattle.dexinsn.specs.Checking.{AreBitsOf, AreNoted, HasNoCode, AreAllRight, HasPiecesOf, IndexCount, IsOutside, IsChecked, IsShapeAt, HasTargetsAt, begins_instruction, is_noted};
 ghost use Rattle.dexinsn.specs.internal.Checking.{AreCodeStartBits, ArePassedWhole, GainPiece, HasBranchAt, HasListedTargets, HasPayloadAt, IsFoundWith};
 
-use crate::code_units::Units;
+use crate::code_units::{Units, int_at, opcode_in};
 use crate::format::Format;
 use crate::instruction::branch_offset;
 use crate::instruction_index::{index_at, kind_at};
@@ -24,17 +24,16 @@ use crate::piece_step::{Limits, step_at};
 use crate::reading::units_at;
 use crate::scratch::{Scratch, wipe};
 use crate::shape::PiecesShape;
-use crate::start_bits::{groups_right, has_place, next_bit, put_bit, set_bit};
-use crate::units::{int_at, opcode_in};
+use crate::start_bits::{groups_right, has_place, next_bit, put_bit};
 use dexhead::{Condition, Frame, u16_at};
 use dexpool::{ItemFault, Pools};
 use std::alloc::{AllocError, Global};
 
-/// Returns whether an instruction that begins with this unit has a target.
-pub(crate) fn has_targets(first: u16) -> bool
-    ensures { result ≡ has_targets first }
+/// Returns whether a piece that begins with this unit is a payload, or an instruction that has a target.
+pub(crate) fn is_noted(first: u16) -> bool
+    ensures { result ≡ is_noted first }
 {
-    row_of(opcode_in(first)).branches
+    PayloadKind::of(first).is_some() || row_of(opcode_in(first)).branches
 }
 
 /// Returns the number of indices of the piece at a unit, one or none, if what it has is in range.
@@ -50,13 +49,7 @@ pub(crate) fn index_count(
         (IndexCount units.now pools.now at) }
 {
     match kind_at(units, at) {
-        Some(kind) => {
-            if pools.len(kind) <= index_at(units, at) as usize {
-                None
-            } else {
-                Some(1)
-            }
-        }
+        Some(kind) => ((index_at(units, at) as usize) < pools.len(kind)).then_some(1),
         None => Some(0),
     }
 }
@@ -70,14 +63,8 @@ pub(crate) fn note(units: &Units<'_>, at: usize, starts: &mut Vec<u64>, noted: &
     ensures noted { GainPiece is_noted units.now at noted.old.items noted.new.items }
 {
     let first = units.at(at);
-    if PayloadKind::of(first).is_some() {
-        set_bit(noted, at);
-        return;
-    }
-    set_bit(starts, at);
-    if has_targets(first) {
-        set_bit(noted, at);
-    }
+    put_bit(starts, at, PayloadKind::of(first).is_none());
+    put_bit(noted, at, is_noted(first));
 }
 
 // Cuts the units, checks the indices, and sets the bits of the pieces. Returns the number of indices.
@@ -218,11 +205,7 @@ impl TargetChecker<'_, '_> {
         ensures { AreAllRight self.now.units.now self.now.starts.now self.now.noted.now result }
     {
         let mut at = 0;
-        while at < self.units.len() {
-            let unit = match next_bit(self.noted, at) {
-                Some(unit) => unit,
-                None => return true,
-            };
+        while let Some(unit) = next_bit(self.noted, at) {
             if !self.piece_targets_right(unit) {
                 return false;
             }
@@ -248,9 +231,8 @@ fn check_with(
     if units.len() == 0 {
         return Ok(None);
     }
-    let indices = match pass(units, pools, starts, noted) {
-        Some(indices) => indices,
-        None => return Ok(None),
+    let Some(indices) = pass(units, pools, starts, noted) else {
+        return Ok(None);
     };
     let switches = LongSwitches::find(alloc, units, noted)?;
     let checker = TargetChecker {
@@ -259,11 +241,7 @@ fn check_with(
         noted,
         switches: &switches,
     };
-    if checker.all_targets_right() {
-        Ok(Some(indices))
-    } else {
-        Ok(None)
-    }
+    Ok(checker.all_targets_right().then_some(indices))
 }
 
 // Returns the number of indices in units that are code, each in range.
@@ -309,9 +287,8 @@ pub fn check_pieces(
     ensures starts { OnOk result (AreStartsAt frame.now off scratch.new) }
     ensures refused { ArePools frame.now pools.now → IfErr result (IsPiecesFault frame.now off) }
 {
-    let bytes = match units_at(frame, off) {
-        Some(bytes) => bytes,
-        None => return Err(ItemFault::Refused(Condition::Code as u8)),
+    let Some(bytes) = units_at(frame, off) else {
+        return Err(ItemFault::Refused(Condition::Code as u8));
     };
     let indices = check_units(bytes, pools, scratch)?;
     let code = frame.rest(off);

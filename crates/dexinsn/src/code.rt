@@ -5,13 +5,13 @@ ghost use Rattle.dexinsn.specs.internal.LongSwitches.{ArePayloads};
 ghost use Rattle.dexinsn.specs.Checking.{AreBitsOf, begins_instruction, is_noted};
 ghost use Rattle.dexinsn.specs.Split.{IsFault, cuts_of, first_bad_target, IsOnlyResult};
 ghost use Rattle.dexinsn.specs.internal.Checking.{AreCutWhole};
-ghost use Rattle.dexinsn.specs.internal.Splitting.{HasNumbersOf, IsCutFault, IsSplitFault, kind_of, unit_of};
+ghost use Rattle.dexinsn.specs.internal.Splitting.{HasNumbersOf, IsCutFault, IsSplitFault};
 
 use crate::checking::{TargetChecker, note};
 use crate::code_fault::CodeFault;
 use crate::code_units::Units;
 use crate::long_switches::LongSwitches;
-use crate::piece::piece_size;
+use crate::piece_step::piece_size;
 use crate::scratch::wipe;
 use std::alloc::{AllocError, Global};
 
@@ -35,32 +35,6 @@ enum SplitFault {
     Memory,
 }
 
-impl SplitFault {
-    // The fault's number.
-    fn kind(self) -> u8
-        ensures kind { result ≡ kind_of self }
-        ensures least { 1 ≤ result }
-        ensures most { result ≤ 4 }
-    {
-        match self {
-            SplitFault::Empty => 1,
-            SplitFault::Piece(_) => 2,
-            SplitFault::Target(_) => 3,
-            SplitFault::Memory => 4,
-        }
-    }
-
-    // The unit at which the fault is found; 0 where it is found at none.
-    fn unit(self) -> usize
-        ensures { result ≡ unit_of self }
-    {
-        match self {
-            SplitFault::Piece(unit) | SplitFault::Target(unit) => unit,
-            SplitFault::Empty | SplitFault::Memory => 0,
-        }
-    }
-}
-
 impl From<AllocError> for SplitFault {
     ghost from_gives = { λ _ fault. fault ≡ Memory };
 
@@ -73,9 +47,11 @@ impl From<SplitFault> for CodeFault {
     ghost from_gives = { HasNumbersOf };
 
     fn from(fault: SplitFault) -> CodeFault {
-        CodeFault {
-            kind: fault.kind(),
-            unit: fault.unit(),
+        match fault {
+            SplitFault::Empty => CodeFault { kind: 1, unit: 0 },
+            SplitFault::Piece(unit) => CodeFault { kind: 2, unit },
+            SplitFault::Target(unit) => CodeFault { kind: 3, unit },
+            SplitFault::Memory => CodeFault { kind: 4, unit: 0 },
         }
     }
 }
@@ -96,9 +72,8 @@ fn cut_units(
     let mut cuts = Vec::new(alloc);
     let mut at = 0;
     while at < units.len() {
-        let size = match piece_size(at, &units.rest(at)) {
-            Some(size) => size,
-            None => return Err(SplitFault::Piece(at)),
+        let Some(size) = piece_size(at, &units.rest(at)) else {
+            return Err(SplitFault::Piece(at));
         };
         let piece = Cut {
             unit: at,

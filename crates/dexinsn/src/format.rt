@@ -1,8 +1,3 @@
-ghost use Rattle.std.specs.Prelude.{◌≡◌};
-ghost use Rattle.dexspec.specs.Opcodes.{units_in};
-ghost use Rattle.dexspec.specs.Pieces.{has_zero_byte};
-ghost use Rattle.dexinsn.specs.Opcode.{format_of};
-
 /// How an instruction is laid out in its 16-bit units. A format is named as the Android page "Dalvik
 /// executable instruction formats" names it: the number of units, the number of registers, and a
 /// letter for what else there is.
@@ -32,50 +27,4 @@ pub enum Format {
     Format35c,
     Format3rc,
     Format51l,
-}
-
-impl Format {
-    /// The number of 16-bit units.
-    ///
-    /// Source: the heading "Format IDs" of the Android page "Dalvik executable instruction formats".
-    pub fn units(self) -> usize
-        ensures { result ≡ units_in (format_of self) }
-    {
-        match self {
-            Format::Format10x
-            | Format::Format12x
-            | Format::Format11n
-            | Format::Format11x
-            | Format::Format10t => 1,
-            Format::Format20t
-            | Format::Format22x
-            | Format::Format21t
-            | Format::Format21s
-            | Format::Format21h
-            | Format::Format21c
-            | Format::Format23x
-            | Format::Format22b
-            | Format::Format22s
-            | Format::Format22t
-            | Format::Format22c => 2,
-            Format::Format30t
-            | Format::Format32x
-            | Format::Format31i
-            | Format::Format31t
-            | Format::Format31c
-            | Format::Format35c
-            | Format::Format3rc => 3,
-            Format::Format51l => 5,
-        }
-    }
-
-    /// Returns whether the high byte of the first unit is zero in every instruction of the format.
-    pub(crate) fn has_zero_byte(self) -> bool
-        ensures { result ≡ has_zero_byte (format_of self) }
-    {
-        matches!(
-            self,
-            Format::Format10x | Format::Format20t | Format::Format30t | Format::Format32x
-        )
-    }
 }

@@ -4,9 +4,8 @@ ghost use Rattle.dexspec.specs.Opcodes.{units_in};
 ghost use Rattle.dexspec.specs.Pieces.{branch_offset, instruction_size, is_first_unit};
 ghost use Rattle.dexinsn.specs.Opcode.{format_of};
 
-use crate::code_units::Units;
+use crate::code_units::{Units, high_byte_of, int_at, opcode_in, signed8, signed16};
 use crate::format::Format;
-use crate::units::{high_byte_of, int_at, opcode_in, signed8, signed16};
 
 /// The most registers that the format 35c counts.
 const MAX_COUNTED: u16 = 5;
@@ -20,11 +19,7 @@ pub(crate) fn instruction_size(units: &Units<'_>) -> Option<usize>
     let first = units.at(0);
     let format = Format::of(opcode_in(first))?;
     let needed = format.units();
-    if needed <= units.len() && is_first_unit(format, first) {
-        Some(needed)
-    } else {
-        None
-    }
+    (needed <= units.len() && is_first_unit(format, first)).then_some(needed)
 }
 
 /// Returns whether the format lets an instruction begin with this unit.

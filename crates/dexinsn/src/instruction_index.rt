@@ -5,9 +5,8 @@ ghost use Rattle.std.specs.Option.{option_map};
 ghost use Rattle.dexspec.specs.Pieces.{index_pool, is_wide_index, index_in, two_units};
 ghost use Rattle.dexinsn.specs.Numbered.{kind_of_pool, kind_in, index_room};
 
-use crate::code_units::Units;
+use crate::code_units::{Units, opcode_in};
 use crate::opcodes::index_kind;
-use crate::units::opcode_in;
 use dexpool::SymbolKind;
 
 /// The opcode of the one instruction whose index has 32 bits, const-string/jumbo.
@@ -52,8 +51,5 @@ pub(crate) fn index_kind_at(units: &Units<'_>, unit: usize) -> SymbolKind
     requires { unit < length units.now }
     ensures { result ≡ kind_in (drop unit units.now) }
 {
-    match kind_at(units, unit) {
-        Some(kind) => kind,
-        None => SymbolKind::Text,
-    }
+    kind_at(units, unit).unwrap_or(SymbolKind::Text)
 }

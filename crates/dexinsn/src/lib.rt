@@ -7,7 +7,6 @@
 //! `specs/Split`, `specs/Stored` and `specs/Units`.
 #![tactic(auto)]
 
-pub use building::build_pieces;
 pub use checking::check_pieces;
 pub use code::{Cut, split};
 pub use code_fault::CodeFault;
@@ -22,12 +21,11 @@ pub use opcodes::{index_kind, mnemonic};
 pub use payload::PayloadKind;
 pub use pieces::Pieces;
 pub use put::put_pieces;
-pub use reading::read_pieces;
+pub use reading::{build_pieces, read_pieces};
 pub use scratch::Scratch;
 pub use shape::PiecesShape;
 pub use symbol_indices::renumber;
 
-mod building;
 mod checking;
 mod code;
 mod code_fault;
@@ -41,7 +39,6 @@ mod listing;
 mod long_switches;
 mod opcodes;
 mod payload;
-mod piece;
 mod piece_step;
 mod pieces;
 mod put;
@@ -54,4 +51,3 @@ mod symbol_indices;
 mod target_group;
 mod target_groups;
 mod unit;
-mod units;

@@ -8,12 +8,11 @@ ghost use Rattle.dexinsn.specs.Units.{units_in};
 ghost use Rattle.dexinsn.specs.Stored.{AreStored, left_by, parts_in, pieces_with};
 ghost use Rattle.dexinsn.specs.Listing.{payload_shown, kind_from, symbol_by, listed, listing, IsListing, ListsFirst};
 
-use crate::code_units::Units;
+use crate::code_units::{Units, opcode_in};
 use crate::instruction_index::kind_at;
 use crate::payload::PayloadKind;
-use crate::piece::piece_size;
+use crate::piece_step::piece_size;
 use crate::pieces::{Index, Pieces};
-use crate::units::opcode_in;
 use dexpool::SymbolKind;
 use std::marker::Model;
 
@@ -69,20 +68,6 @@ impl<'p> Model for PieceIter<'p> {
     ghost invariant = { λ p. IsListing (units_in p.bytes.now) p.unit p.indices.now };
 }
 
-impl<'p> PieceIter<'p> {
-    // The pieces of these units.
-    fn of_stored(bytes: &'p [u8], indices: &'p [Index]) -> PieceIter<'p>
-        requires { AreStored (units_in bytes.now) indices.now }
-        ensures { result ≡ listed 0 (pieces_with (parts_in (units_in bytes.now)) indices.now) }
-    {
-        PieceIter {
-            bytes,
-            unit: 0,
-            indices,
-        }
-    }
-}
-
 impl<'p> Iterator for PieceIter<'p> {
     type Item = Piece;
 
@@ -133,12 +118,9 @@ fn symbol_at<'p>(
     ensures symbol { result.0 ≡ symbol_by (index_pool (drop unit units.now)) indices.now }
     ensures left { result.1.now ≡ left_by (index_pool (drop unit units.now)) indices.now }
 {
-    match kind_at(units, unit) {
-        Some(kind) => match indices.split_first() {
-            Some((index, left)) => (Some((kind, index.number as usize)), left),
-            None => (None, indices),
-        },
-        None => (None, indices),
+    match (kind_at(units, unit), indices.split_first()) {
+        (Some(kind), Some((index, left))) => (Some((kind, index.number as usize)), left),
+        _ => (None, indices),
     }
 }
 
@@ -180,6 +162,10 @@ impl<'a> Pieces<'a> {
     pub fn iter(&self) -> PieceIter<'_>
         ensures { result ≡ listed 0 self.now.pieces }
     {
-        PieceIter::of_stored(self.bytes, &self.indices)
+        PieceIter {
+            bytes: self.bytes,
+            unit: 0,
+            indices: &self.indices,
+        }
     }
 }

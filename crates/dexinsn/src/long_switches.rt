@@ -7,12 +7,11 @@ ghost use Rattle.dexinsn.specs.Payload.{ident_of};
 ghost use Rattle.dexinsn.specs.internal.LongSwitches.{ArePayloads, AreTargetsAt};
 ghost use Rattle.dexinsn.specs.Checking.{AreNoted};
 
-use crate::code_units::Units;
+use crate::code_units::{Units, int_at};
 use crate::payload::PayloadKind;
 use crate::start_bits::next_bit;
 use crate::target_group::TargetGroup;
 use crate::target_groups::group_targets;
-use crate::units::int_at;
 use std::alloc::{AllocError, Global};
 use std::collections::HashMap;
 
@@ -35,23 +34,13 @@ pub(crate) fn targets_at(units: &Units<'_>, kind: PayloadKind, unit: usize) -> O
     ensures { MatchOption result (payload_targets units.now unit
         ≡ []) (AreTargetsAt units.now unit) }
 {
-    match kind {
-        PayloadKind::PackedSwitch => {
-            let count = usize::from(units.at(unit + 1));
-            Some(Targets {
-                first: unit + 4,
-                count,
-            })
-        }
-        PayloadKind::SparseSwitch => {
-            let count = usize::from(units.at(unit + 1));
-            Some(Targets {
-                first: unit + 2 + 2 * count,
-                count,
-            })
-        }
-        PayloadKind::ArrayData => None,
-    }
+    let count = usize::from(units.at(unit + 1));
+    let first = match kind {
+        PayloadKind::PackedSwitch => unit + 4,
+        PayloadKind::SparseSwitch => unit + 2 + 2 * count,
+        PayloadKind::ArrayData => return None,
+    };
+    Some(Targets { first, count })
 }
 
 /// The targets of the long switch payloads of code, in groups, by the unit at which each payload begins.
@@ -90,13 +79,11 @@ fn note(
     requires groups { ArePayloads units.now groups.old }
     ensures { OnOk result (ArePayloads units.now groups.new) }
 {
-    let kind = match PayloadKind::of(units.at(unit)) {
-        Some(kind) => kind,
-        None => return Ok(()),
+    let Some(kind) = PayloadKind::of(units.at(unit)) else {
+        return Ok(());
     };
-    let targets = match targets_at(units, kind, unit) {
-        Some(targets) => targets,
-        None => return Ok(()),
+    let Some(targets) = targets_at(units, kind, unit) else {
+        return Ok(());
     };
     if targets.count <= FEW_TARGETS {
         return Ok(());
@@ -107,30 +94,6 @@ fn note(
     }
     let grouped = group_targets(alloc, &sorted)?;
     groups.insert(unit, grouped)?;
-    Ok(())
-}
-
-// Groups the targets of the long switch payloads among the pieces whose bits are set.
-fn note_all(
-    alloc: Global,
-    units: &Units<'_>,
-    noted: &[u64],
-    groups: &mut HashMap<usize, Vec<TargetGroup>>,
-) -> Result<(), AllocError>
-    requires few { length noted.now < 2 ^ 57 }
-    requires noted { AreNoted units.now noted.now }
-    requires groups { ArePayloads units.now groups.old }
-    ensures { OnOk result (ArePayloads units.now groups.new) }
-{
-    let mut at = 0;
-    while at < units.len() {
-        let unit = match next_bit(noted, at) {
-            Some(unit) => unit,
-            None => return Ok(()),
-        };
-        note(alloc, units, groups, unit)?;
-        at = unit + 1;
-    }
     Ok(())
 }
 
@@ -146,8 +109,13 @@ impl LongSwitches {
         ensures { IfOk result (λ switches. ArePayloads units.now switches.groups) }
     {
         let mut groups = HashMap::new(alloc);
-        if units.len() > FEW_TARGETS {
-            note_all(alloc, units, noted, &mut groups)?;
+        if units.len() <= FEW_TARGETS {
+            return Ok(LongSwitches { groups });
+        }
+        let mut at = 0;
+        while let Some(unit) = next_bit(noted, at) {
+            note(alloc, units, &mut groups, unit)?;
+            at = unit + 1;
         }
         Ok(LongSwitches { groups })
     }

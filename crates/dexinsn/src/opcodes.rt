@@ -1,6 +1,7 @@
 ghost use Rattle.std.specs.Prelude.{◌≡◌, Option};
 ghost use Rattle.std.specs.Option.{option_map, option_and_then};
-ghost use Rattle.dexspec.specs.Opcodes.{opcode_of};
+ghost use Rattle.dexspec.specs.Opcodes.{opcode_of, units_in};
+ghost use Rattle.dexspec.specs.Pieces.{has_zero_byte};
 ghost use Rattle.dexinsn.specs.Numbered.{kind_of_pool};
 ghost use Rattle.dexinsn.specs.Opcode.{AreMnemonics, AreRows, IsRowOf, format_of, kind_of_index, mnemonic_of};
 
@@ -262,6 +263,37 @@ impl Format {
         ensures { option_map format_of result ≡ option_map (λ o. o.format) (opcode_of op) }
     {
         row_of(op).format
+    }
+
+    /// The number of 16-bit units.
+    ///
+    /// Source: the heading "Format IDs" of the Android page "Dalvik executable instruction formats".
+    pub fn units(self) -> usize
+        ensures { result ≡ units_in (format_of self) }
+    {
+        match self {
+            Format10x | Format12x | Format11n | Format11x | Format10t => 1,
+            Format20t
+            | Format22x
+            | Format21t
+            | Format21s
+            | Format21h
+            | Format21c
+            | Format23x
+            | Format22b
+            | Format22s
+            | Format22t
+            | Format22c => 2,
+            Format30t | Format32x | Format31i | Format31t | Format31c | Format35c | Format3rc => 3,
+            Format51l => 5,
+        }
+    }
+
+    /// Returns whether the high byte of the first unit is zero in every instruction of the format.
+    pub(crate) fn has_zero_byte(self) -> bool
+        ensures { result ≡ has_zero_byte (format_of self) }
+    {
+        matches!(self, Format10x | Format20t | Format30t | Format32x)
     }
 }
 

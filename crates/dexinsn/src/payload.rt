@@ -5,8 +5,7 @@ ghost use Rattle.dexspec.specs.Lists.{rises};
 ghost use Rattle.dexspec.specs.Pieces.{ints_in, is_payload_ident, payload_ident, payload_size, packed_switch_ident, sparse_switch_ident, array_data_ident};
 ghost use Rattle.dexinsn.specs.Payload.{ident_of};
 
-use crate::code_units::Units;
-use crate::units::int_at;
+use crate::code_units::{Units, int_at};
 
 /// The three kinds of payload: the data of an instruction, stored apart from it.
 ///
@@ -76,11 +75,7 @@ fn packed_switch_size(units: &Units<'_>) -> Option<usize>
         return None;
     }
     let needed = 4 + 2 * usize::from(units.at(1));
-    if needed <= units.len() {
-        Some(needed)
-    } else {
-        None
-    }
+    (needed <= units.len()).then_some(needed)
 }
 
 fn sparse_switch_size(units: &Units<'_>) -> Option<usize>
@@ -92,11 +87,7 @@ fn sparse_switch_size(units: &Units<'_>) -> Option<usize>
     }
     let size = usize::from(units.at(1));
     let needed = 2 + 4 * size;
-    if needed <= units.len() && keys_rise(units, size) {
-        Some(needed)
-    } else {
-        None
-    }
+    (needed <= units.len() && keys_rise(units, size)).then_some(needed)
 }
 
 fn array_data_size(units: &Units<'_>) -> Option<usize>
@@ -109,11 +100,8 @@ fn array_data_size(units: &Units<'_>) -> Option<usize>
     let width = u64::from(units.at(1));
     let count = u64::from(units.at(2)) + 0x1_0000 * u64::from(units.at(3));
     let needed = 4 + (count * width + 1) / 2;
-    if needed <= units.len() as u64 && matches!(width, 1 | 2 | 4 | 8) {
-        Some(needed as usize)
-    } else {
-        None
-    }
+    let fits = needed <= units.len() as u64 && matches!(width, 1 | 2 | 4 | 8);
+    fits.then_some(needed as usize)
 }
 
 /// Returns whether `size` keys, from the third unit on, rise strictly.

@@ -1,18 +1,32 @@
 //! One piece of code units at a time, found in few tests.
 
-ghost use Rattle.std.specs.Prelude.{◌≡◌, ◌<◌, drop, length, IfSome, MatchOption, Some};
+ghost use Rattle.std.specs.Prelude.{◌≡◌, ◌<◌, ◌≤◌, drop, length, IfSome, MatchOption, Some};
 ghost use Rattle.dexspec.specs.Pieces.{piece_size};
 ghost use Rattle.dexspec.specs.Mentions.{Mentions};
 ghost use Rattle.dexinsn.specs.Opcode.{IsPlainRow, kind_of_index};
 ghost use Rattle.dexinsn.specs.Checking.{AreLimits, HasNoStep, IsStep, count_of_index, limit_of, slot_of};
 
-use crate::checking::{has_targets, index_count};
-use crate::code_units::Units;
+use crate::checking::{index_count, is_noted};
+use crate::code_units::{Units, opcode_in};
+use crate::instruction::instruction_size;
 use crate::opcodes::{IndexKind, Row, row_of};
 use crate::payload::PayloadKind;
-use crate::piece::piece_size;
-use crate::units::opcode_in;
 use dexpool::{Pools, SymbolKind};
+
+/// The number of units of the instruction or payload that comes first, at unit `at` of the code; `None` where neither
+/// does.
+#[tactic(auto, using(crate::proofs::IndexRoom::first_is))]
+pub(crate) fn piece_size(at: usize, units: &Units<'_>) -> Option<usize>
+    requires { 0 < length units.now }
+    ensures size { result ≡ piece_size at units.now }
+    ensures some { IfSome result (λ size. 0 < size) }
+    ensures within { IfSome result (λ size. size ≤ length units.now) }
+{
+    match PayloadKind::of(units.at(0)) {
+        Some(kind) => { if at % 2 == 0 { kind.size(units) } else { None } }
+        None => instruction_size(units),
+    }
+}
 
 /// The properties of a piece that the pass over units needs.
 #[derive(Clone, Copy)]
@@ -116,9 +130,7 @@ fn plain_step(units: &Units<'_>, limits: &Limits, at: usize) -> Option<Step>
     requires { at < length units.now }
     ensures { (m : Mentions) → AreLimits m limits.now → IfSome result (IsStep units.now m at) }
 {
-    let Some(row) = plain_row(units, at) else {
-        return None;
-    };
+    let row = plain_row(units, at)?;
     if limits.limit(row.index) <= usize::from(units.at(at + 1)) {
         return None;
     }
@@ -139,12 +151,11 @@ fn any_step(units: &Units<'_>, pools: &Pools<'_>, at: usize) -> Option<Step>
     let size = piece_size(at, &units.rest(at))?;
     let indices = index_count(units, at, size, pools)?;
     let first = units.at(at);
-    let is_instruction = PayloadKind::of(first).is_none();
     Some(Step {
         units: size,
         indices,
-        is_instruction,
-        is_noted: !is_instruction || has_targets(first),
+        is_instruction: PayloadKind::of(first).is_none(),
+        is_noted: is_noted(first),
     })
 }
 

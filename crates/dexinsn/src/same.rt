@@ -115,15 +115,6 @@ impl<'a> Pieces<'a> {
     pub fn same_mapped(&self, mine: &Remap, other: &Pieces<'_>, theirs: &Remap) -> bool
         ensures { IsTrue result ↔ (renumbered mine.now self.now ≡ renumbered theirs.now other.now) }
     {
-        if self.registers != other.registers {
-            return false;
-        }
-        if self.ins != other.ins {
-            return false;
-        }
-        if self.outs != other.outs {
-            return false;
-        }
         let own = RemappedPieces {
             bytes: self.bytes,
             indices: &self.indices,
@@ -134,6 +125,9 @@ impl<'a> Pieces<'a> {
             indices: &other.indices,
             remap: theirs,
         };
-        own.eq_pieces(&others)
+        self.registers == other.registers
+            && self.ins == other.ins
+            && self.outs == other.outs
+            && own.eq_pieces(&others)
     }
 }

@@ -7,17 +7,6 @@ ghost use Rattle.dexinsn.specs.Checking.{HasNoBit, IsNextBit};
 
 use crate::target_group::TargetGroup;
 
-/// Sets the bit of a unit.
-pub(crate) fn set_bit(words: &mut Vec<u64>, unit: usize)
-    requires { unit / 64 < length words.old.items }
-    ensures len { length words.new.items ≡ length words.old.items }
-    ensures set { HasBit words.new.items unit }
-    ensures others { (k : ℕ) → (k ≡ unit → ⊥) → HasBit words.new.items k
-        ↔ HasBit words.old.items k }
-{
-    words[unit / 64] |= 1 << (unit % 64) as u32;
-}
-
 /// Sets the bit of a unit, if it is to be set.
 #[inline(always)]
 pub(crate) fn put_bit(words: &mut Vec<u64>, unit: usize, bit: bool)

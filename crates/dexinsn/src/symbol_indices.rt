@@ -20,14 +20,9 @@ fn renumbered_index(units: &Units<'_>, index: Index, remap: &Remap) -> Index
     ensures { result ≡ renumbered_index remap.now units.now index }
 {
     let kind = index_kind_at(units, index.unit as usize);
-    let number = match remap.image(kind, index.number as usize) {
-        Some(image) => image as u32,
-        None => 0,
-    };
-    Index {
-        unit: index.unit,
-        number,
-    }
+    let image = remap.image(kind, index.number as usize);
+    let number = image.unwrap_or(0) as u32;
+    Index { number, ..index }
 }
 
 // Replaces each number by the one that it maps to.

@@ -26,13 +26,7 @@ fn is_in_index(units: &Units<'_>, first: usize, unit: usize) -> bool
     ensures { result
         ≡ ((unit == first + 1) || ((unit == first + 2) && is_wide_index (drop first units.now))) }
 {
-    if unit == first + 1 {
-        return true;
-    }
-    if unit == first + 2 {
-        return is_wide_at(units, first);
-    }
-    false
+    unit == first + 1 || unit == first + 2 && is_wide_at(units, first)
 }
 
 // Returns whether a unit is one of an index.

@@ -3,9 +3,9 @@ use Rattle.dexinsn.specs.declared.code.Cut.{Cut}
 use Rattle.dexinsn.proofs.Passed.{cuts_of-push, one_cut_more, cut_breaks}
 use Rattle.dexinsn.proofs.code.cut_units.Goals as goal
 
-pub returns-in-None-clause-fault : goal.returns-in-None-clause-fault
-returns-in-None-clause-fault c =
-    cut_breaks c.args.units.now (cuts_of c.loop-at.cuts.items) c.loop-at.starts.items c.loop-at.noted.items c.loop-at.at c.loop-at.invariant (omega arith) (ap (piece_size c.loop-at.at) (sym c.rest.ensures) ∙ sym c.in-None.ensures.size)
+pub returns-in_default-clause-fault : goal.returns-in_default-clause-fault
+returns-in_default-clause-fault c =
+    cut_breaks c.args.units.now (cuts_of c.loop-at.cuts.items) c.loop-at.starts.items c.loop-at.noted.items c.loop-at.at c.loop-at.invariant (omega arith) (ap (piece_size c.loop-at.at) (sym c.rest.ensures) ∙ sym c.in_default.ensures.size)
 
 pub loop-at-preserved : goal.loop-at-preserved
 loop-at-preserved c =

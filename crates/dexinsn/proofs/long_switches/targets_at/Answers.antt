@@ -1,15 +1,15 @@
-use Rattle.dexinsn.proofs.Common.{◌∙◌, ap, arith, ident_of}
-use Rattle.dexinsn.proofs.IndexRoom.{packed_fits, sparse_fits}
+use Rattle.dexinsn.proofs.Common.{◌≡◌, ◌+◌, ◌<◌, ℕ, List, ap, ◌∙◌, arith, length, drop, length-drop, get_or, get_or-drop, is_payload_ident, slice_index}
+use Rattle.dexinsn.proofs.IndexRoom.{size_is}
+use Rattle.dexinsn.proofs.Listings.{payload_two}
+use Rattle.dexinsn.proofs.Placed.{ident_begins}
 use Rattle.dexinsn.proofs.long_switches.targets_at.Goals as goal
 
-pub overflow_add-unit : goal.overflow_add-unit
-overflow_add-unit c = omega (arith, c.requires.small, packed_fits c.args.units.now c.args.unit c.requires.piece (c.requires.kind ∙ ap ident_of c.in-PackedSwitch.is))
+first_at : (at : ℕ) (us : List ℕ) → slice_index (drop at us) 0 ≡ slice_index us at
+first_at at us = let z : at + 0 ≡ at = omega arith in get_or-drop at us 0 0 ∙ ap (λ (k : ℕ). get_or us k 0) z
 
 pub at-requires : goal.at-requires
-at-requires c = omega (arith, packed_fits c.args.units.now c.args.unit c.requires.piece (c.requires.kind ∙ ap ident_of c.in-PackedSwitch.is))
-
-pub overflow_add-unit-in-SparseSwitch : goal.overflow_add-unit-in-SparseSwitch
-overflow_add-unit-in-SparseSwitch c = omega (arith, c.requires.small, sparse_fits c.args.units.now c.args.unit c.requires.piece (c.requires.kind ∙ ap ident_of c.in-SparseSwitch.is))
-
-pub at-requires-in-SparseSwitch : goal.at-requires-in-SparseSwitch
-at-requires-in-SparseSwitch c = omega (arith, sparse_fits c.args.units.now c.args.unit c.requires.piece (c.requires.kind ∙ ap ident_of c.in-SparseSwitch.is))
+at-requires c =
+    let rest = drop c.args.unit c.args.units.now in
+    let size = size_is _ c.requires.piece in
+    let two : 1 < length rest = payload_two c.args.unit size.0 rest size.1 (ap is_payload_ident (first_at c.args.unit c.args.units.now ∙ c.requires.kind) ∙ ident_begins c.args.kind) in
+    omega (arith, length-drop c.args.unit c.args.units.now, two)

@@ -1,4 +1,4 @@
-use Rattle.dexinsn.proofs.Common.{◌≡◌, ◌<◌, Bool, true, false, cond, length, slice_index, ap, sym, ◌∙◌, arith, flat_map, list_any, numbered_bytes, blank_units, covers}
+use Rattle.dexinsn.proofs.Common.{◌≡◌, ◌<◌, Bool, cond, length, slice_index, ap, sym, ◌∙◌, arith, flat_map, list_any, numbered_bytes, blank_units, covers}
 use Rattle.dexinsn.specs.{units_in}
 use Rattle.dexinsn.proofs.BlankUnits.{blank_unit}
 use Rattle.dexinsn.proofs.PutUnits.{stored_length}

@@ -1,8 +1,8 @@
-use Rattle.dexinsn.proofs.Common.{◌≡◌, true, false, drop, Some, IsSome, sym, ap, subst, ◌∙◌, arith, rules, is_some, index_pool, piece_size}
+use Rattle.dexinsn.proofs.Common.{◌≡◌, drop, Some, IsSome, sym, ap, subst, ◌∙◌, arith, rules, is_some, index_pool, piece_size}
 use Rattle.dexinsn.proofs.BuiltIndices.{all_built, index_built, next_begins, next_piece, next_size, next_within, no_pool, none_built, plain_built, some_pool, some_units}
 use Rattle.dexinsn.proofs.IndexRoom.{room_after, wide_room_after}
-use Rattle.dexinsn.proofs.building.build_indices.Goals as goal
-use Rattle.dexinsn.proofs.building.build_indices.Goals.{then-is_some, else-is_some}
+use Rattle.dexinsn.proofs.reading.build_indices.Goals as goal
+use Rattle.dexinsn.proofs.reading.build_indices.Goals.{then-is_some, else-is_some}
 
 pub loop-size-init : goal.loop-size-init
 loop-size-init c = record { room = search rules; built = none_built c.args.units.now c.args.count c.in_ok-indices.indices.items (search rules) c.requires.have }

@@ -1,4 +1,4 @@
-use Rattle.dexinsn.proofs.long_switches.note_all.Goals as goal
+use Rattle.dexinsn.proofs.long_switches.LongSwitches.find.Goals as goal
 
 pub note-requires-clause-piece : goal.note-requires-clause-piece
 note-requires-clause-piece c = c.requires.noted.pieces c.in-Some.unit c.in-Some.ensures.has

@@ -2,7 +2,7 @@ use Rattle.dexinsn.proofs.Common.{ℕ, List, length, ◌^◌, ◌<◌, drop, ap,
 use Rattle.dexinsn.specs.{units_in}
 use Rattle.dexinsn.proofs.BuiltIndices.{built_read, checked_have, shape_checked, shape_units}
 use Rattle.dexinsn.proofs.StoredRead.{few_units, read_pieces, read_stored}
-use Rattle.dexinsn.proofs.building.build_pieces.Goals as goal
+use Rattle.dexinsn.proofs.reading.build_pieces.Goals as goal
 
 pub build_indices-requires-clause-few : goal.build_indices-requires-clause-few
 build_indices-requires-clause-few c =

@@ -1,6 +1,6 @@
 -- Numbers of 32 bits, one of which denotes none, and what they denote.
 use Rattle.std.specs.Prelude.{◌≡◌, ℕ, Option, Some, None}
-use Rattle.std.proofs.Common.{refl, ap, inl, inr, arith}
+use Rattle.std.proofs.Common.{refl, inl, inr, arith}
 use Rattle.std.proofs.lemmas.Bool.{cases_order, ne_eqb}
 use Rattle.dexpool.specs.Packed.{image_in}
 

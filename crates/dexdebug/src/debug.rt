@@ -3,8 +3,7 @@
 ghost use Rattle.std.specs.Prelude.{◌≡◌, IfOk};
 
 use crate::indices::Index;
-use crate::names::NameIter;
-use crate::operations::OperationIter;
+use crate::operations::{NameIter, OperationIter};
 use std::alloc::AllocError;
 use std::marker::Model;
 

@@ -12,8 +12,7 @@ ghost use Rattle.dexdebug.specs.DebugEquality.{same_debug, debug_input, debug_eq
 
 use crate::debug::Debug;
 use crate::debug_operation::Operation;
-use crate::names::NameIter;
-use crate::operations::OperationIter;
+use crate::operations::{NameIter, OperationIter};
 use std::hash::{Hash, Hasher};
 
 // Returns whether names are equal, one for one.

@@ -1,7 +1,6 @@
 //! Numbers of symbols in debug programs, and what becomes of them.
 
 ghost use Rattle.std.specs.Prelude.{◌≡◌, ◌<◌, ◌≤◌, ◌*◌, ◌^◌, All, length, sum_by};
-ghost use Rattle.std.specs.List.{FoldsTo};
 ghost use Rattle.dexspec.specs.Weight.{debug_weight};
 ghost use Rattle.dexpool.specs.Uses.{HasMark, AreMarkedToo};
 ghost use Rattle.dexdebug.specs.Debug.{unindexed, number_uses, debug_uses, HasPlace, FitsIndex, IsFormedDebug, image_or_none, operation_weight, renumbered_debug};
@@ -19,15 +18,6 @@ pub(crate) fn renumbered(remap: &Remap, kind: SymbolKind, number: Option<u32>) -
     let number = number?;
     let image = remap.image(kind, number as usize)?;
     Some(image as u32)
-}
-
-// Passes the symbol of a number, if there is one, to the visitor.
-pub(crate) fn visit_number<V: Visitor>(kind: SymbolKind, number: Option<u32>, visitor: &mut V)
-    ensures { FoldsTo V.step visitor.old (number_uses kind number) visitor.new }
-{
-    if let Some(number) = number {
-        visitor.symbol(kind, number);
-    }
 }
 
 // Returns what operations weigh.

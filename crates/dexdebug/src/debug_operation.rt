@@ -143,16 +143,10 @@ impl Operation {
         ensures few { result < 5 }
     {
         match self {
-            Operation::AdvancePc(_) => 1,
-            Operation::AdvanceLine(_) => 1,
             Operation::StartLocal { .. } => 3,
             Operation::StartLocalExtended { .. } => 4,
-            Operation::EndLocal(_) => 1,
-            Operation::RestartLocal(_) => 1,
-            Operation::SetPrologueEnd => 0,
-            Operation::SetEpilogueBegin => 0,
-            Operation::SetFile(_) => 1,
-            Operation::Special(_) => 0,
+            Operation::SetPrologueEnd | Operation::SetEpilogueBegin | Operation::Special(_) => 0,
+            _ => 1,
         }
     }
 }

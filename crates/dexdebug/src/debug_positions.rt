@@ -41,10 +41,7 @@ fn line_step(operation: &Operation) -> i64
 fn is_special(operation: &Operation) -> bool
     ensures { result ≡ recorded.is_special (unindexed_operation operation.now) }
 {
-    match operation {
-        Operation::Special(_) => true,
-        _ => false,
-    }
+    matches!(operation, Operation::Special(_))
 }
 
 // Returns the line after an operation.

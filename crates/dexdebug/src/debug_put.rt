@@ -17,8 +17,7 @@ use crate::debug_opcodes::{
     DBG_START_LOCAL_EXTENDED,
 };
 use crate::debug_operation::Operation;
-use crate::names::NameIter;
-use crate::operations::OperationIter;
+use crate::operations::{NameIter, OperationIter};
 use dexhead::{Count, Encode, Output};
 use dexpool::Numbering;
 use std::alloc::AllocError;
@@ -175,15 +174,6 @@ fn make_room(debug: &Debug<'_>, out: &mut Vec<u8>) -> Result<(), AllocError>
     out.reserve(debug.item_len())
 }
 
-// Appends a debug program.
-fn put_numbered(debug: &Debug<'_>, out: &mut Vec<u8>) -> Result<(), AllocError>
-    ensures { Puts (numbered_debug_bytes debug.now) out.old out.new result }
-{
-    make_room(debug, out)?;
-    debug.encode(out);
-    Ok(())
-}
-
 /// Appends the debug_info_item, every number in its shortest encoding. It is that of the symbolic debug program that
 /// `debug` denotes in the numbering, each index the rank of its symbol.
 ///
@@ -204,5 +194,7 @@ pub fn put_debug(
 {
     numbering.is_numbering();
     debug_bytes_law();
-    put_numbered(debug, out)
+    make_room(debug, out)?;
+    debug.encode(out);
+    Ok(())
 }

@@ -66,25 +66,18 @@ fn number_at(bytes: &[u8], at: usize) -> Option<(u32, usize)>
     ensures within { IfSome result (λ read. at + read.1 ≤ length bytes.now) }
     ensures only { (v n : ℕ) → Uleb128At bytes.now at v n → result ≡ Some (v, n) }
 {
-    match read_u(bytes, at) {
-        Ok(read) => Some(read),
-        Err(_) => None,
-    }
+    read_u(bytes, at).ok()
 }
 
 // The signed number at a place, and how many bytes it has.
 #[inline(always)]
-#[tactic(auto, using(crate::proofs::DebugRead::some_of))]
 fn lines_at(bytes: &[u8], at: usize) -> Option<(i32, usize)>
     requires { at ≤ length bytes.now }
     ensures found { IfSome result (λ read. Sleb128At bytes.now at read.0 read.1) }
     ensures within { IfSome result (λ read. at + read.1 ≤ length bytes.now) }
     ensures only { (v : ℤ) (n : ℕ) → Sleb128At bytes.now at v n → result ≡ Some (v, n) }
 {
-    match read_s(bytes, at) {
-        Ok(read) => Some(read),
-        Err(_) => None,
-    }
+    read_s(bytes, at).ok()
 }
 
 // Whether the number, if there is one, is below a count.
@@ -92,10 +85,7 @@ fn lines_at(bytes: &[u8], at: usize) -> Option<(i32, usize)>
 fn is_below(number: Option<u32>, count: usize) -> bool
     ensures { IsTrue result ↔ IfSome number (λ n. n < count) }
 {
-    match number {
-        Some(number) => (number as usize) < count,
-        None => true,
-    }
+    number.is_none_or(|number| (number as usize) < count)
 }
 
 // The index below a count, or none, at a place, and how many bytes it has.
@@ -107,13 +97,7 @@ fn index_at(bytes: &[u8], at: usize, count: usize) -> Option<(Option<u32>, usize
     ensures only { (i : Option ℕ) (n : ℕ) → IndexAt count bytes.now at i n → result ≡ Some (i, n) }
 {
     match read_p1(bytes, at) {
-        Ok((number, len)) => {
-            if is_below(number, count) {
-                Some((number, len))
-            } else {
-                None
-            }
-        }
+        Ok((number, len)) => is_below(number, count).then_some((number, len)),
         Err(_) => None,
     }
 }
@@ -271,20 +255,20 @@ fn check_numbered(bytes: &[u8], at: usize, counts: Counts) -> Option<DebugShape>
     })
 }
 
-// Stores the names from an offset on.
+// Stores the names.
 fn keep_names(
     indices: &mut Vec<Index>,
     bytes: &[u8],
-    from: usize,
-    count: u32,
+    shape: DebugShape,
     texts: usize,
 ) -> Result<(), AllocError>
-    requires within { from ≤ length bytes.now }
-    requires are_encoded { HaveNames texts bytes.now from count }
-    ensures { OnOk result (KeepsNames texts bytes.now from count indices.old.items indices.new.items) }
+    requires within { shape.names_at ≤ length bytes.now }
+    requires are_encoded { HaveNames texts bytes.now shape.names_at shape.names }
+    ensures { OnOk result (KeepsNames texts bytes.now shape.names_at shape.names indices.old.items
+        indices.new.items) }
 {
-    let mut at = from;
-    for _ in 0..count {
+    let mut at = shape.names_at;
+    for _ in 0..shape.names {
         let (name, len) = index_at(bytes, at, texts).unwrap();
         indices.push(Index::text(name))?;
         at += len;
@@ -292,24 +276,23 @@ fn keep_names(
     Ok(())
 }
 
-// Stores the symbols of the operations from an offset on.
+// Stores the symbols of the operations.
 fn keep_symbols(
     indices: &mut Vec<Index>,
     bytes: &[u8],
-    from: usize,
-    tally: Tally,
+    shape: DebugShape,
     counts: Counts,
 ) -> Result<(), AllocError>
-    requires within { from ≤ length bytes.now }
-    requires tallied { AreTallied counts bytes.now from tally }
-    ensures { OnOk result
-        (KeepsSymbols counts bytes.now from tally indices.old.items indices.new.items) }
+    requires within { shape.operations_at ≤ length bytes.now }
+    requires tallied { AreTallied counts bytes.now shape.operations_at shape.tally }
+    ensures { OnOk result (KeepsSymbols counts bytes.now shape.operations_at shape.tally
+        indices.old.items indices.new.items) }
 {
-    if tally.indices == 0 {
+    if shape.tally.indices == 0 {
         return Ok(());
     }
-    let mut at = from;
-    for _ in 0..tally.operations {
+    let mut at = shape.operations_at;
+    for _ in 0..shape.tally.operations {
         let (operation, len) = operation_at(bytes, at + 1, bytes[at], counts).unwrap();
         keep_indices(indices, operation)?;
         at += 1 + len;
@@ -331,20 +314,8 @@ fn build_numbered<'a>(
     ensures { IfOk result (NumberedDebugAt counts bytes.now at) }
 {
     let mut indices = Vec::with_capacity(alloc, shape.names as usize + shape.tally.indices)?;
-    keep_names(
-        &mut indices,
-        bytes,
-        shape.names_at,
-        shape.names,
-        counts.texts,
-    )?;
-    keep_symbols(
-        &mut indices,
-        bytes,
-        shape.operations_at,
-        shape.tally,
-        counts,
-    )?;
+    keep_names(&mut indices, bytes, shape, counts.texts)?;
+    keep_symbols(&mut indices, bytes, shape, counts)?;
     Ok(Debug {
         bytes,
         indices,

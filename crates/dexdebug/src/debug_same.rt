@@ -7,8 +7,7 @@ ghost use Rattle.dexdebug.specs.internal.Same.{SameRemapped, EqualRemapped};
 
 use crate::debug::Debug;
 use crate::debug_operation::Operation;
-use crate::names::NameIter;
-use crate::operations::OperationIter;
+use crate::operations::{NameIter, OperationIter};
 use dexpool::{Remap, SymbolKind};
 
 // Returns the image of a number, if it has one.
@@ -18,90 +17,70 @@ fn image(remap: &Remap, kind: SymbolKind, number: Option<u32>) -> Option<usize>
     remap.image(kind, number? as usize)
 }
 
-// Returns whether both numbers have one image, or neither has one.
-fn eq_remapped(
-    kind: SymbolKind,
-    mine: &Remap,
-    number: Option<u32>,
-    theirs: &Remap,
-    other: Option<u32>,
-) -> bool
-    ensures { IsTrue result
-        ↔ (image_or_none mine.now kind number ≡ image_or_none theirs.now kind other) }
-{
-    image(mine, kind, number) == image(theirs, kind, other)
+// The maps by which two debug programs are remapped.
+#[derive(Clone, Copy)]
+struct Remaps<'r> {
+    mine: &'r Remap,
+    theirs: &'r Remap,
 }
 
-// Returns whether two operations are equal once remapped.
-fn eq_operations(mine: &Remap, operation: &Operation, theirs: &Remap, other: &Operation) -> bool
-    ensures { IsTrue result
-        ↔ EqualRemapped renumbered_operation mine.now theirs.now operation.now other.now }
-{
-    if !operation.unindexed().is_same(&other.unindexed()) {
-        return false;
+impl Remaps<'_> {
+    // Returns whether both numbers have one image, or neither has one.
+    fn eq_numbers(&self, kind: SymbolKind, number: Option<u32>, other: Option<u32>) -> bool
+        ensures { IsTrue result ↔ (image_or_none self.now.mine.now kind number
+            ≡ image_or_none self.now.theirs.now kind other) }
+    {
+        image(self.mine, kind, number) == image(self.theirs, kind, other)
     }
-    if !eq_remapped(
-        SymbolKind::Text,
-        mine,
-        operation.name_idx(),
-        theirs,
-        other.name_idx(),
-    ) {
-        return false;
-    }
-    if !eq_remapped(
-        SymbolKind::Typ,
-        mine,
-        operation.type_idx(),
-        theirs,
-        other.type_idx(),
-    ) {
-        return false;
-    }
-    eq_remapped(
-        SymbolKind::Text,
-        mine,
-        operation.sig_idx(),
-        theirs,
-        other.sig_idx(),
-    )
-}
 
-// Returns whether two lists of names are equal once remapped.
-fn same_names(mine: &Remap, names: NameIter<'_>, theirs: &Remap, mut others: NameIter<'_>) -> bool
-    ensures { IsTrue result ↔ (map (image_or_none mine.now kinds.Text) names.entry
-        ≡ map (image_or_none theirs.now kinds.Text) others.entry) }
-{
-    for name in names {
-        let Some(other) = others.next() else {
-            return false;
-        };
-        if !eq_remapped(SymbolKind::Text, mine, name, theirs, other) {
+    // Returns whether two operations are equal once remapped.
+    fn eq_operation(&self, operation: &Operation, other: &Operation) -> bool
+        ensures { IsTrue result ↔ EqualRemapped renumbered_operation self.now.mine.now
+            self.now.theirs.now operation.now other.now }
+    {
+        if !operation.unindexed().is_same(&other.unindexed()) {
             return false;
         }
-    }
-    others.next().is_none()
-}
-
-// Returns whether two lists of operations are equal, one for one, once remapped.
-fn same_operations(
-    mine: &Remap,
-    operations: OperationIter<'_>,
-    theirs: &Remap,
-    mut others: OperationIter<'_>,
-) -> bool
-    ensures { IsTrue result
-        ↔ SameRemapped renumbered_operation mine.now theirs.now operations.entry others.entry }
-{
-    for operation in operations {
-        let Some(other) = others.next() else {
-            return false;
-        };
-        if !eq_operations(mine, &operation, theirs, &other) {
+        if !self.eq_numbers(SymbolKind::Text, operation.name_idx(), other.name_idx()) {
             return false;
         }
+        if !self.eq_numbers(SymbolKind::Typ, operation.type_idx(), other.type_idx()) {
+            return false;
+        }
+        self.eq_numbers(SymbolKind::Text, operation.sig_idx(), other.sig_idx())
     }
-    others.next().is_none()
+
+    // Returns whether two lists of names are equal once remapped.
+    fn eq_names(&self, names: NameIter<'_>, mut others: NameIter<'_>) -> bool
+        ensures { IsTrue result ↔ (map (image_or_none self.now.mine.now kinds.Text) names.entry
+            ≡ map (image_or_none self.now.theirs.now kinds.Text) others.entry) }
+    {
+        for name in names {
+            let Some(other) = others.next() else {
+                return false;
+            };
+            if !self.eq_numbers(SymbolKind::Text, name, other) {
+                return false;
+            }
+        }
+        others.next().is_none()
+    }
+
+    // Returns whether two lists of operations are equal, one for one, once remapped.
+    fn eq_operations(&self, operations: OperationIter<'_>, mut others: OperationIter<'_>) -> bool
+        ensures { IsTrue result ↔ SameRemapped renumbered_operation self.now.mine.now
+            self.now.theirs.now operations.entry others.entry }
+    {
+        for operation in operations {
+            let Some(other) = others.next() else {
+                return false;
+            };
+            if !self.eq_operation(&operation, &other) {
+                return false;
+            }
+        }
+        others.next().is_none()
+    }
 }
 
 impl Debug<'_> {
@@ -111,17 +90,13 @@ impl Debug<'_> {
         ensures { IsTrue result
             ↔ (renumbered_debug mine.now self.now ≡ renumbered_debug theirs.now other.now) }
     {
+        let remaps = Remaps { mine, theirs };
         if self.line_start != other.line_start {
             return false;
         }
-        if !same_names(
-            mine,
-            self.parameter_names(),
-            theirs,
-            other.parameter_names(),
-        ) {
+        if !remaps.eq_names(self.parameter_names(), other.parameter_names()) {
             return false;
         }
-        same_operations(mine, self.operations(), theirs, other.operations())
+        remaps.eq_operations(self.operations(), other.operations())
     }
 }

@@ -6,7 +6,7 @@ ghost use Rattle.dexdebug.specs.Debug.{FitsIndex, HasPlace, number_uses};
 ghost use Rattle.dexdebug.specs.DebugReading.{text_index};
 ghost use Rattle.dexdebug.specs.Operations.{renumbered_index};
 
-use crate::debug_numbers::{renumbered, visit_number};
+use crate::debug_numbers::renumbered;
 use dexpool::{Remap, Renumber, SymbolKind, Symbols, Visitor};
 use std::marker::Model;
 
@@ -90,7 +90,9 @@ impl Symbols for Index {
     ghost uses = { λ i. number_uses i.kind i.number };
 
     fn visit<V: Visitor>(&self, visitor: &mut V) {
-        visit_number(self.kind, self.number.get(), visitor);
+        if let Some(number) = self.number.get() {
+            visitor.symbol(self.kind, number);
+        }
     }
 }
 

@@ -9,16 +9,14 @@
 pub use checked_debugs::{CheckedDebugs, checked_debug_at};
 pub use debug::Debug;
 pub use debug_laws::{
-    debug_bytes_law, debug_equality_law, debug_renumber_law, debug_unindexed_law, debug_uses_law,
-    operation_equality_law,
+    debug_bytes_law, debug_equality_law, debug_meaning_law, debug_remapped_law, debug_renumber_law,
+    debug_unindexed_law, debug_uses_law, operation_equality_law,
 };
 pub use debug_operation::Operation;
 pub use debug_positions::positions;
 pub use debug_put::put_debug;
 pub use debug_reading::{DebugShape, build_debug, check_debug, read_debug};
-pub use meaning_laws::{debug_meaning_law, debug_remapped_law};
-pub use names::NameIter;
-pub use operations::OperationIter;
+pub use operations::{NameIter, OperationIter};
 
 mod checked_debugs;
 mod debug;
@@ -32,6 +30,4 @@ mod debug_put;
 mod debug_reading;
 mod debug_same;
 mod indices;
-mod meaning_laws;
-mod names;
 mod operations;

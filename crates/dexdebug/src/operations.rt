@@ -1,4 +1,4 @@
-//! The operations of a debug program, as they are stored.
+//! The names of parameters and the operations of a debug program, as they are stored.
 
 ghost use Rattle.std.specs.Prelude.{◌≡◌, ◌++◌, OnOk};
 ghost use Rattle.std.specs.Iterator.{YieldsFirst, item_count};
@@ -12,6 +12,36 @@ use crate::debug_reading::{EVERY, operation_at};
 use crate::indices::Index;
 use std::alloc::AllocError;
 use std::marker::Model;
+
+/// The numbers of the texts that are the names of parameters, or `None` where one has no name, those that are left, in
+/// order. Contracts see a list of them.
+#[derive(Drop)]
+pub struct NameIter<'p> {
+    pub(crate) indices: &'p [Index],
+}
+
+impl<'p> Model for NameIter<'p> {
+    ghost use Rattle.std.specs.Prelude.{ℕ, List, Option};
+    ghost use Rattle.dexdebug.specs.Operations.{numbers_in};
+
+    ghost Value = { List (Option ℕ) };
+
+    ghost view = { λ names. numbers_in names.indices.now };
+}
+
+impl<'p> Iterator for NameIter<'p> {
+    type Item = Option<u32>;
+
+    ghost next_gives = { YieldsFirst (λ names. names) };
+
+    ghost remaining = { item_count (λ names. names) };
+
+    fn next(&mut self) -> Option<Option<u32>> {
+        let (index, left) = self.indices.split_first()?;
+        self.indices = left;
+        Some(index.number.get())
+    }
+}
 
 /// The operations of a debug program that are left, in order. Contracts see a list of them.
 #[derive(Drop)]
@@ -41,10 +71,7 @@ impl<'p> Model for OperationIter<'p> {
 fn number_in(indices: &[Index], place: usize) -> Option<u32>
     ensures { result ≡ number_in indices.now place }
 {
-    match indices.get(place) {
-        Some(index) => index.number.get(),
-        None => None,
-    }
+    indices.get(place)?.number.get()
 }
 
 impl<'p> Iterator for OperationIter<'p> {
@@ -65,18 +92,16 @@ impl<'p> Iterator for OperationIter<'p> {
             return Some(Operation::Special(opcode));
         }
         let (operation, len) = operation_at(self.bytes, self.at + 1, opcode, EVERY).unwrap();
+        self.at += 1 + len;
+        self.count -= 1;
         let places = operation.index_count();
         if places == 0 {
-            self.at += 1 + len;
-            self.count -= 1;
             return Some(operation);
         }
         let name_idx = number_in(self.indices, 0);
         let second = number_in(self.indices, 1);
         let third = number_in(self.indices, 2);
         let (_, left) = self.indices.split_at(places);
-        self.at += 1 + len;
-        self.count -= 1;
         self.indices = left;
         Some(operation.with_numbers(name_idx, second, third))
     }

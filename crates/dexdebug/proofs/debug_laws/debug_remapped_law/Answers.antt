@@ -1,5 +1,5 @@
 use Rattle.dexdebug.proofs.DebugRanked.{debug_remapped, same_debug}
-use Rattle.dexdebug.proofs.meaning_laws.debug_remapped_law.Goals as goal
+use Rattle.dexdebug.proofs.debug_laws.debug_remapped_law.Goals as goal
 
 pub returns : goal.returns
 returns c = record {

@@ -1,5 +1,5 @@
 -- How many bytes a code item of numbers has, against what it weighs.
-use Rattle.dexcode.proofs.Common.{◌≡◌, ℕ, ◌+◌, ◌*◌, ◌%◌, ◌^◌, ◌<◌, ◌≤◌, ◌==◌, Bool, true, if◌then◌else◌, nat_lt, List, [], ◌∷◌, ◌++◌, length, Option, Some, None, option_to_list, refl, ap, sym, arith, length-append, All, flat_map, lt-ltb, length-map, All-head, All-tail, sum_by-cons, ushort, uint, uleb128, sleb128, size_u, length-ushort, length-uint, NumberedPiece, NumberedCode, numbered_units, numbered_bytes, Catch, Try, NumberedHandler, NumberedTry, NumberedItem, named, all_named, handlers_of, handlers_weight, AreStored, HasShortTypes, handler_count, numbered_catch_bytes, numbered_handler_bytes, numbered_handler_off, numbered_try_bytes, numbered_list_bytes, numbered_table_bytes, gap_bytes, numbered_tries_bytes, numbered_head_bytes, unit_count, numbered_item_bytes, numbered_code_bytes, numbered_tries_weight, numbered_code_weight, false}
+use Rattle.dexcode.proofs.Common.{◌≡◌, ℕ, ◌+◌, ◌*◌, ◌%◌, ◌^◌, ◌<◌, ◌≤◌, ◌==◌, Bool, true, if◌then◌else◌, nat_lt, List, [], ◌∷◌, ◌++◌, length, Option, Some, None, option_to_list, refl, ap, sym, arith, length-append, All, flat_map, lt-ltb, length-map, All-head, All-tail, sum_by-cons, ushort, uint, uleb128, size_u, length-ushort, length-uint, NumberedPiece, NumberedCode, numbered_units, numbered_bytes, Catch, Try, NumberedHandler, NumberedTry, NumberedItem, named, all_named, handlers_of, handlers_weight, AreStored, HasShortTypes, handler_count, numbered_catch_bytes, numbered_handler_bytes, numbered_handler_off, numbered_try_bytes, numbered_list_bytes, numbered_table_bytes, gap_bytes, numbered_tries_bytes, numbered_head_bytes, unit_count, numbered_item_bytes, numbered_code_bytes, numbered_tries_weight, numbered_code_weight, false}
 use Rattle.dexspec.proofs.numbers.Groups.{length-groups}
 use Rattle.dexspec.proofs.written.PlacedBytes.{length_rows}
 use Rattle.dexspec.proofs.size.SizeItems.{uleb128-size, sleb128-size, if-size}

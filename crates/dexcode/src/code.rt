@@ -71,10 +71,7 @@ impl<'a> Code<'a> {
         match &self.extras {
             Extras::None => None,
             Extras::Debug(debug) => Some(debug),
-            Extras::Tries(both) => match &both.debug {
-                Some(debug) => Some(debug),
-                None => None,
-            },
+            Extras::Tries(both) => both.debug.as_deref(),
         }
     }
 

@@ -9,12 +9,12 @@
 
 pub use code::Code;
 pub use code_checking::{CodeShape, check_code, check_code_once};
-pub use code_laws::{code_bytes_law, code_types_law, code_weight_law};
-pub use code_numbers::renumber;
-pub use code_numbers_laws::{
-    code_cut_law, code_images_law, code_joined_law, code_kept_law, code_places_law,
-    code_renumber_law, code_uses_law, debug_places_law,
+pub use code_laws::{
+    code_bytes_law, code_cut_law, code_images_law, code_joined_law, code_kept_law,
+    code_meaning_law, code_places_law, code_remapped_law, code_renumber_law, code_types_law,
+    code_uses_law, code_weight_law, debug_places_law,
 };
+pub use code_numbers::renumber;
 pub use code_put::{CodeItem, put_code};
 pub use code_reading::{read_code, read_code_in};
 pub use dexdebug::{
@@ -23,29 +23,22 @@ pub use dexdebug::{
     debug_unindexed_law, debug_uses_law, operation_equality_law, positions, put_debug, read_debug,
 };
 pub use handlers::{Catch, Handler};
-pub use meaning_laws::{code_meaning_law, code_remapped_law};
 pub use tries::{Tries, Try};
 
-mod catches;
 mod code;
 mod code_checking;
 mod code_laws;
 mod code_len;
 mod code_numbers;
-mod code_numbers_laws;
 mod code_put;
 mod code_reading;
 mod code_types;
 mod code_weight;
 mod extras;
-mod handler_list;
 mod handlers;
-mod meaning_laws;
 mod named_handlers;
 mod stored_tries;
 mod tries;
 mod tries_numbers;
 mod tries_reader;
 mod tries_same;
-mod try_items;
-mod try_table;

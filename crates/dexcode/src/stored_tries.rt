@@ -90,11 +90,7 @@ impl StoredTries {
         for item in tries {
             let off = u16_at(reader.bytes, place + 6);
             let handler = reader.number_of(list, off, &mut handlers, &mut numbers)?;
-            numbered.push(Try {
-                start_addr: item.start_addr,
-                insn_count: item.insn_count,
-                handler,
-            })?;
+            numbered.push(Try { handler, ..*item })?;
             place += 8;
         }
         let handlers = listed_in(alloc, handlers)?;

@@ -1,7 +1,26 @@
 //! The reader of tries and their handlers.
 
+ghost use Rattle.std.specs.Prelude.{◌≡◌, ◌<◌, ◌≤◌, ◌+◌, ◌*◌, ℕ, List, Option, Some, None, length, slice_index, slice_index_or, IfOk, IfErr, IfSome, IfNone};
+ghost use Rattle.dexspec.specs.Lists.{Sequence};
+ghost use Rattle.dexspec.specs.Numbers.{Uleb128At};
+ghost use Rattle.dexcode.specs.Numbered.{NumberedHandler};
+ghost use Rattle.dexcode.specs.Reading.{IsStart, CatchAt, CatchAllAt, ListedTryAt, TryItemsAt, IsNumberPut, IsTriesFault};
+ghost use Rattle.dexcode.specs.declared.handlers.Catch.{Catch as Caught};
+ghost use Rattle.dexcode.specs.declared.tries.Try.{Try as Meant};
+ghost use Rattle.dexcode.specs.internal.NamedHandlers.{HasHandler, HasList, HaveCatches, IsHandlerAt};
+ghost use Rattle.dexcode.specs.internal.TriesReading.{AreTriesRead, HaveHandlers, NoCatches, NoHandlerAt, NoHandlers, NoList, NoTries, NoTryItems};
+
+use crate::handlers::{Catch, Handler};
+use crate::stored_tries::StoredTries;
+use crate::tries::Try;
+use dexhead::{Condition, u16_at, u32_at};
 use dexinsn::InstructionStarts;
-use std::alloc::Global;
+use dexleb::{read_s, read_u};
+use dexpool::ItemFault;
+use std::alloc::{AllocError, Global};
+
+// The last byte of a list that the offset of a try can name.
+const LAST_OFFSET: usize = 65_535;
 
 /// Reads the tries of a code_item and their handlers from the bytes of a file. It has the allocator for what is read,
 /// the units at which instructions of the code_item begin, and the number of types of the file.
@@ -11,4 +30,291 @@ pub(crate) struct TriesReader<'s, 'u> {
     pub(crate) bytes: &'s [u8],
     pub(crate) starts: &'s InstructionStarts<'u>,
     pub(crate) types: usize,
+}
+
+// The numbers of bytes are below 256. It does nothing: its contract is cited.
+fn are_bytes(bytes: &[u8])
+    ensures { (i : ℕ) → slice_index bytes.now i < 256 }
+{}
+
+// The try at a place, where the handlers of the list are numbered by its bytes.
+#[inline(always)]
+fn read_try(bytes: &[u8], at: usize, units: u32, numbers: &[Option<u32>]) -> Option<Try>
+    requires { at + 8 ≤ length bytes.now }
+    ensures some { IfSome result (λ t. ListedTryAt units numbers.now bytes.now at t 8) }
+    ensures none { IfNone result ((t : Meant) (n : ℕ)
+        → ListedTryAt units numbers.now bytes.now at t n → ⊥) }
+{
+    let start_addr = u32_at(bytes, at);
+    let insn_count = u16_at(bytes, at + 4);
+    if insn_count == 0 {
+        return None;
+    }
+    if u64::from(units) < u64::from(start_addr) + u64::from(insn_count) {
+        return None;
+    }
+    let handler = handler_at(numbers, u16_at(bytes, at + 6))?;
+    Some(Try {
+        start_addr,
+        insn_count,
+        handler,
+    })
+}
+
+// Sets the number of a handler at its offset from the start of its list.
+fn put_number(numbers: &mut Vec<Option<u32>>, place: usize, number: u32) -> Result<(), AllocError>
+    requires { length numbers.old.items ≤ place }
+    ensures { IfOk result (λ _. IsNumberPut place number numbers.old.items numbers.new.items) }
+{
+    if place > LAST_OFFSET {
+        return Ok(());
+    }
+    numbers.resize(place, None)?;
+    numbers.push(Some(number))?;
+    Ok(())
+}
+
+// Returns the number of the handler that begins `off` bytes after the start of its list.
+#[inline(always)]
+fn handler_at(numbers: &[Option<u32>], off: u16) -> Option<usize>
+    ensures { result ≡ slice_index_or numbers.now off None }
+{
+    match numbers.get(usize::from(off)) {
+        Some(Some(number)) => Some(*number as usize),
+        _ => None,
+    }
+}
+
+impl TriesReader<'_, '_> {
+    // `count` tries from an offset on, and the list of their handlers after them.
+    pub(crate) fn read_try_table(
+        &self,
+        at: usize,
+        count: u16,
+        units: u32,
+    ) -> Result<StoredTries, ItemFault>
+        requires { at ≤ length self.now.bytes.now }
+        ensures tries { IfOk result (λ tries. TryItemsAt self.now.starts.now self.now.types units
+            self.now.bytes.now at count tries) }
+        ensures fault { IfErr result (IsTriesFault (NoTryItems self.now.starts.now self.now.types
+            units self.now.bytes.now at count)) }
+    {
+        are_bytes(self.bytes);
+        let size = 8 * usize::from(count);
+        if self.bytes.len() - at <= size {
+            return Err(ItemFault::Refused(Condition::Tries as u8));
+        }
+        let list_at = at + size;
+        let numbers = self.read_list(list_at)?;
+        let items = self.read_try_items(at, count, units, &numbers)?;
+        let tries = StoredTries::of(self, at, list_at, &items)?;
+        match tries {
+            Some(tries) => Ok(tries),
+            None => Err(ItemFault::Refused(Condition::Tries as u8)),
+        }
+    }
+
+    // Reads `count` tries at an offset, where the handlers of the list are numbered by its bytes.
+    fn read_try_items(
+        &self,
+        at: usize,
+        count: u16,
+        units: u32,
+        numbers: &[Option<u32>],
+    ) -> Result<Vec<Try>, ItemFault>
+        requires { at + 8 * count ≤ length self.now.bytes.now }
+        ensures tries { IfOk result (λ tries.
+            AreTriesRead units numbers.now self.now.bytes.now at count tries.items) }
+        ensures fault { IfErr result
+            (IsTriesFault (NoTries units numbers.now self.now.bytes.now at count)) }
+    {
+        let mut tries = Vec::with_capacity(self.alloc, usize::from(count))?;
+        let mut place = at;
+        let mut end = 0;
+        for _ in 0..count {
+            let Some(item) = read_try(self.bytes, place, units, numbers) else {
+                return Err(ItemFault::Refused(Condition::Tries as u8));
+            };
+            if item.start_addr < end {
+                return Err(ItemFault::Refused(Condition::Tries as u8));
+            }
+            end = item.start_addr + u32::from(item.insn_count);
+            tries.push(item)?;
+            place += 8;
+        }
+        Ok(tries)
+    }
+
+    // Reads `count` handlers at `first`, of the list at `list`. Returns by the bytes of the list the number of the
+    // handler that begins there.
+    fn read_handlers(
+        &self,
+        list: usize,
+        first: usize,
+        count: u32,
+    ) -> Result<Vec<Option<u32>>, ItemFault>
+        requires order { list ≤ first }
+        requires within { first ≤ length self.now.bytes.now }
+        ensures handlers { IfOk result (HaveHandlers self.now.starts.now self.now.types
+            self.now.bytes.now list first count) }
+        ensures fault { IfErr result (IsTriesFault
+            (NoHandlers self.now.starts.now self.now.types self.now.bytes.now first count)) }
+    {
+        let mut numbers = Vec::new(self.alloc);
+        let mut size = 0;
+        for number in 0..count {
+            let place = first + size;
+            let Some(len) = self.handler_len(place) else {
+                return Err(ItemFault::Refused(Condition::Tries as u8));
+            };
+            put_number(&mut numbers, place - list, number)?;
+            size += len;
+        }
+        Ok(numbers)
+    }
+
+    // Reads the list of handlers at `at`. Returns by the bytes of the list the number of the handler that begins
+    // there. No handler is kept.
+    fn read_list(&self, at: usize) -> Result<Vec<Option<u32>>, ItemFault>
+        requires { at ≤ length self.now.bytes.now }
+        ensures list { IfOk result (λ numbers. HasList self.now.starts.now self.now.types
+            self.now.bytes.now at numbers.items) }
+        ensures fault { IfErr result (IsTriesFault
+            (NoList self.now.starts.now self.now.types self.now.bytes.now at)) }
+    {
+        let Ok((count, count_size)) = read_u(self.bytes, at) else {
+            return Err(ItemFault::Refused(Condition::Tries as u8));
+        };
+        self.read_handlers(at, at + count_size, count)
+    }
+
+    // Reads the address at `at`, if an instruction begins there, and returns the number of bytes that encode it.
+    #[inline(always)]
+    fn read_address(&self, at: usize) -> Option<(u32, usize)>
+        requires { at ≤ length self.now.bytes.now }
+        ensures none { IfNone result ((a n : ℕ) → Uleb128At self.now.bytes.now at a n
+            → IsStart self.now.starts.now a → ⊥) }
+        ensures address { IfSome result (λ x. Uleb128At self.now.bytes.now at x.0 x.1) }
+        ensures start { IfSome result (λ x. IsStart self.now.starts.now x.0) }
+    {
+        let Ok((addr, size)) = read_u(self.bytes, at) else {
+            return None;
+        };
+        self.starts.contains(addr).then_some((addr, size))
+    }
+
+    // Reads the type that is caught and its address at `at`, and returns the number of bytes that encode them.
+    #[inline(always)]
+    fn read_catch(&self, at: usize) -> Option<(Catch, usize)>
+        requires { at ≤ length self.now.bytes.now }
+        ensures none { IfNone result ((c : Caught) (n : ℕ)
+            → CatchAt self.now.starts.now self.now.types self.now.bytes.now at c n → ⊥) }
+        ensures some { IfSome result (λ x.
+            CatchAt self.now.starts.now self.now.types self.now.bytes.now at x.0 x.1) }
+        ensures within { IfSome result (λ x. at + x.1 ≤ length self.now.bytes.now) }
+    {
+        let (typ, index_size) = match read_u(self.bytes, at) {
+            Ok(read) => read,
+            Err(_) => return None,
+        };
+        if self.types <= typ as usize {
+            return None;
+        }
+        let (addr, addr_size) = self.read_address(at + index_size)?;
+        Some((Catch { typ, addr }, index_size + addr_size))
+    }
+
+    // Returns the number of bytes that encode `count` catches at `at`, if they are there. No catch is kept.
+    fn catches_len(&self, at: usize, count: usize) -> Option<usize>
+        requires { at ≤ length self.now.bytes.now }
+        ensures none { IfNone result
+            (NoCatches self.now.starts.now self.now.types self.now.bytes.now at count) }
+        ensures some { IfSome result
+            (HaveCatches self.now.starts.now self.now.types self.now.bytes.now at count) }
+    {
+        let mut size = 0;
+        for _ in 0..count {
+            let (_, len) = self.read_catch(at + size)?;
+            size += len;
+        }
+        Some(size)
+    }
+
+    // Builds the `count` catches at `at`, in a vector without spare room, and returns the number of bytes that encode
+    // them.
+    fn build_catches(&self, at: usize, count: usize) -> Result<(Vec<Catch>, usize), AllocError>
+        requires within { at ≤ length self.now.bytes.now }
+        requires there { (cs : List Caught) × (n : ℕ) × (length cs ≡ count)
+            × Sequence (CatchAt self.now.starts.now self.now.types) self.now.bytes.now at cs n }
+        ensures within { IfOk result (λ x. at + x.1 ≤ length self.now.bytes.now) }
+        ensures built { (cs : List Caught) (n : ℕ) → length cs ≡ count
+            → Sequence (CatchAt self.now.starts.now self.now.types) self.now.bytes.now at cs n
+            → IfOk result (λ x. (x.0.items ≡ cs) × (x.1 ≡ n)) }
+    {
+        let mut catches = Vec::with_capacity(self.alloc, count)?;
+        let mut size = 0;
+        for _ in 0..count {
+            let (caught, len) = self.read_catch(at + size).unwrap();
+            catches.push(caught)?;
+            size += len;
+        }
+        Ok((catches, size))
+    }
+
+    // Reads the catch-all address, if the size of the handler says that there is one, and returns the number of bytes
+    // that encode it.
+    #[inline(always)]
+    fn read_catch_all(&self, at: usize, size: i32) -> Option<(Option<u32>, usize)>
+        requires { at ≤ length self.now.bytes.now }
+        ensures none { IfNone result ((a : Option ℕ) (n : ℕ)
+            → CatchAllAt self.now.starts.now size self.now.bytes.now at a n → ⊥) }
+        ensures some { IfSome result (λ x.
+            CatchAllAt self.now.starts.now size self.now.bytes.now at x.0 x.1) }
+        ensures within { IfSome result (λ x. at + x.1 ≤ length self.now.bytes.now) }
+    {
+        if size > 0 {
+            return Some((None, 0));
+        }
+        let (addr, len) = self.read_address(at)?;
+        Some((Some(addr), len))
+    }
+
+    // Returns the number of bytes that encode the handler at an offset, if there is one. No handler is kept.
+    fn handler_len(&self, at: usize) -> Option<usize>
+        requires { at ≤ length self.now.bytes.now }
+        ensures none { IfNone result
+            (NoHandlerAt self.now.starts.now self.now.types self.now.bytes.now at) }
+        ensures some { IfSome result
+            (HasHandler self.now.starts.now self.now.types self.now.bytes.now at) }
+    {
+        let (count, count_size) = match read_s(self.bytes, at) {
+            Ok(read) => read,
+            Err(_) => return None,
+        };
+        let first = at + count_size;
+        let many = count.unsigned_abs() as usize;
+        let catches_size = self.catches_len(first, many)?;
+        let (_, all_size) = self.read_catch_all(first + catches_size, count)?;
+        Some(count_size + catches_size + all_size)
+    }
+
+    // Builds the handler at an offset.
+    pub(crate) fn build_handler(&self, at: usize) -> Result<Handler, AllocError>
+        requires within { at ≤ length self.now.bytes.now }
+        requires there { (h : NumberedHandler)
+            × IsHandlerAt self.now.starts.now self.now.types self.now.bytes.now at h }
+        ensures { (h : NumberedHandler)
+            → IsHandlerAt self.now.starts.now self.now.types self.now.bytes.now at h
+            → IfOk result (λ handler. handler ≡ h) }
+    {
+        let (count, count_size) = read_s(self.bytes, at).unwrap();
+        let first = at + count_size;
+        let many = count.unsigned_abs() as usize;
+        let (catches, size) = self.build_catches(first, many)?;
+        let (catch_all_addr, _) = self.read_catch_all(first + size, count).unwrap();
+        Ok(Handler {
+            catches,
+            catch_all_addr,
+        })
+    }
 }

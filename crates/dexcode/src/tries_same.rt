@@ -21,10 +21,7 @@ fn same_catch(mine: &Remap, catch: Catch, theirs: &Remap, other: Catch) -> bool
     ensures { IsTrue result
         ↔ (renumbered_catch mine.now catch ≡ renumbered_catch theirs.now other) }
 {
-    if catch.addr != other.addr {
-        return false;
-    }
-    remapped_type(mine, catch.typ) == remapped_type(theirs, other.typ)
+    catch.addr == other.addr && remapped_type(mine, catch.typ) == remapped_type(theirs, other.typ)
 }
 
 // Whether the catches are equal, one for one, once their types are remapped.
@@ -48,10 +45,8 @@ fn same_handler(mine: &Remap, handler: &Handler, theirs: &Remap, other: &Handler
     ensures { IsTrue result
         ↔ EqualRemapped renumbered_handler mine.now theirs.now handler.now other.now }
 {
-    if handler.catch_all_addr != other.catch_all_addr {
-        return false;
-    }
-    same_catches(mine, &handler.catches, theirs, &other.catches)
+    handler.catch_all_addr == other.catch_all_addr
+        && same_catches(mine, &handler.catches, theirs, &other.catches)
 }
 
 // Tries with their handlers, and the map by which the types of these are remapped.
@@ -73,10 +68,7 @@ impl RemappedTries<'_> {
         ensures { IsTrue result ↔ EqualTries self.now.remap.now self.now.handlers.now item
             others.now.remap.now others.now.handlers.now other }
     {
-        if item.start_addr != other.start_addr {
-            return false;
-        }
-        if item.insn_count != other.insn_count {
+        if item.start_addr != other.start_addr || item.insn_count != other.insn_count {
             return false;
         }
         if item.handler < compared && item.handler == other.handler {

@@ -4,12 +4,12 @@ use Rattle.dexcode.proofs.HandlersRead.{one_handler}
 use Rattle.dexcode.proofs.Listed.{one_handler_more}
 use Rattle.dexcode.proofs.tries_reader.TriesReader.read_handlers.Goals as goal
 
-pub returns-in-None-clause-fault : goal.returns-in-None-clause-fault
-returns-in-None-clause-fault c = (
+pub returns-in_default-clause-fault : goal.returns-in_default-clause-fault
+returns-in_default-clause-fault c = (
   refl,
   λ hs n many h. let read = c.loop-number.invariant.1 in
       stuck (HandlerAt c.args.self.now.starts.now c.args.self.now.types) (one_handler c.args.self.now.starts.now c.args.self.now.types) c.args.self.now.bytes.now c.args.first c.loop-number.invariant.0 hs c.loop-number.size n
-      (omega (arith, many, read.many, c.loop-number-test.true)) read.are_encoded c.in-None.ensures.none h,
+      (omega (arith, many, read.many, c.loop-number-test.true)) read.are_encoded c.in_default.ensures.none h,
 )
 
 pub loop-number-preserved : goal.loop-number-preserved

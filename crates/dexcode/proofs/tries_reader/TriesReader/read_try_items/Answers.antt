@@ -3,13 +3,13 @@ use Rattle.dexcode.proofs.Prefixes.{stuck}
 use Rattle.dexcode.proofs.TryTables.{one_listed_try, apart_more, overlap}
 use Rattle.dexcode.proofs.tries_reader.TriesReader.read_try_items.Goals as goal
 
-pub returns-in-None-clause-fault : goal.returns-in-None-clause-fault
-returns-in-None-clause-fault c = (
+pub returns-in_default-clause-fault : goal.returns-in_default-clause-fault
+returns-in_default-clause-fault c = (
   refl,
   λ ts n to many h apart. let at = ListedTryAt c.args.units c.args.numbers.now in
       stuck at (one_listed_try c.args.units c.args.numbers.now) c.args.self.now.bytes.now c.args.at c.loop.tries.items ts (8 * c.loop.counter) n
       (omega (arith, many, c.loop.invariant.2.many, c.loop-test.true)) c.loop.invariant.2.are_encoded
-      (λ t k there. c.in-None.ensures.none t k (subst (λ i. at c.args.self.now.bytes.now i t k) (sym c.loop.invariant.0) there)) h,
+      (λ t k there. c.in_default.ensures.none t k (subst (λ i. at c.args.self.now.bytes.now i t k) (sym c.loop.invariant.0) there)) h,
 )
 
 pub returns-then-item-end-clause-fault : goal.returns-then-item-end-clause-fault

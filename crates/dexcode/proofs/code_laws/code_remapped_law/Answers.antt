@@ -1,5 +1,5 @@
 use Rattle.dexcode.proofs.MeaningRanked.{code_remapped, same_code}
-use Rattle.dexcode.proofs.meaning_laws.code_remapped_law.Goals as goal
+use Rattle.dexcode.proofs.code_laws.code_remapped_law.Goals as goal
 
 pub returns : goal.returns
 returns c = record {

@@ -1,12 +1,13 @@
 //! The sections of the data, one after the other.
 
-ghost use Rattle.std.specs.Prelude.{◌≡◌, IfOk};
+ghost use Rattle.std.specs.Prelude.{◌≡◌, ◌^◌, ◌≤◌, IfOk, map};
 ghost use Rattle.dexspec.specs.Mentions.{Mentions};
-ghost use Rattle.dexspec.specs.Placing.{end};
+ghost use Rattle.dexspec.specs.Texts.{string_data};
+ghost use Rattle.dexspec.specs.Placing.{end, end_from};
 ghost use Rattle.dexspec.specs.Canonical.{data_start, string_section};
 ghost use Rattle.dexlayout.specs.Laid.{AreWritable, ordered_of};
 ghost use Rattle.dexlayout.specs.internal.Parts.{AreBack, AreBodies, AreData, AreFirstSections};
-ghost use Rattle.dexlayout.specs.internal.Placing.{CanPlaceSets, PlacedFrom, PlacedSets, AreWrittenSets, AreKnownSets, HaveSets, IsDataFrom, AreEntriesOf};
+ghost use Rattle.dexlayout.specs.internal.Placing.{AreStringsFrom, CanPlaceSets, PlacedFrom, PlacedSets, AreWrittenSets, AreKnownSets, HaveSets, IsDataFrom, AreEntriesOf};
 
 use crate::annotations::place_annotations;
 use crate::class_data::place_class_data;
@@ -21,7 +22,6 @@ use crate::sets::{Sets, place_sets};
 use crate::shared_sets::share_sets;
 use crate::sharing::Shared;
 use crate::static_values::place_static_values;
-use crate::strings::place_strings;
 use crate::tables::entry;
 use crate::type_lists::place_type_lists;
 use dexclass::Class;
@@ -71,6 +71,21 @@ pub(crate) struct Back {
     pub(crate) sets: Sets,
     pub(crate) ref_lists: Items,
     pub(crate) directories: Items,
+}
+
+// The offsets of the texts, from an offset on, one after the other.
+//
+// Source: "string_data_item".
+fn place_strings(alloc: Global, numbering: &Numbering<'_>, from: u32) -> Result<Offsets, AllocError>
+    requires { end_from 1 from (map string_data numbering.now.texts) ≤ 2 ^ 30 }
+    ensures { IfOk result (AreStringsFrom from numbering.now) }
+{
+    let count = numbering.count(SymbolKind::Text);
+    let mut places = Offsets::starting_at(alloc, from, count)?;
+    for i in 0..count {
+        places.put_next(numbering.string(i).item_len())?;
+    }
+    Ok(places)
 }
 
 // Lays out the sections up to the string data, after the tables. `written` has the sets that are written.

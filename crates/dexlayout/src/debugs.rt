@@ -12,8 +12,8 @@ ghost use Rattle.dexlayout.specs.internal.Encoding.{encode_use};
 ghost use Rattle.dexlayout.specs.internal.Encodings.{debug_of, debug_encoding, debug_encodings, all_debug_encodings, AddsEncodings};
 ghost use Rattle.dexlayout.specs.internal.Placing.{PlacedFrom, encoded_debugs};
 
-use crate::item_keys::ItemKey;
 use crate::items::{Items, SharedItems};
+use crate::keys::ItemKey;
 use crate::methods::method_at;
 use crate::sharing::{Shared, Sharing};
 use dexclass::Class;
@@ -37,10 +37,7 @@ fn debug_of<'p, 'a>(method: &Method<'p, 'a>) -> Option<&'p Debug<'a>>
     ensures { MatchOption result (debug_of method.now ≡ None) (λ debug.
         debug_of method.now ≡ Some debug.now) }
 {
-    match method.code() {
-        Some(code) => code.debug(),
-        None => None,
-    }
+    method.code()?.debug()
 }
 
 // Adds the debug program of a method, if it has one. Programs are equal just where their encodings are, so only one of
@@ -86,7 +83,7 @@ fn share_encodings(
     ensures { IfOk result (AreOfUses same_bytes (all_debug_encodings classes.now)) }
 {
     let mut encodings = Encodings {
-        sharing: Sharing::new(alloc),
+        sharing: Sharing::for_uses(alloc, classes.len())?,
         room: Vec::with_capacity(alloc, FIRST_ROOM)?,
     };
     for i in 0..classes.len() {

@@ -1,17 +1,20 @@
 //! Layouts of canonical files.
 
-ghost use Rattle.std.specs.Prelude.{◌≡◌, IfOk, length};
+ghost use Rattle.std.specs.Prelude.{◌≡◌, ◌≤◌, IfOk, length};
 ghost use Rattle.dexspec.specs.Canonical.{canonical};
-ghost use Rattle.dexlayout.specs.Laid.{IsWritable, IsLayoutOf};
+ghost use Rattle.dexlayout.specs.Laid.{AreWritable, IsLaid, IsWritable, IsLayoutOf};
+ghost use Rattle.dexlayout.specs.internal.Placing.{StatesParts};
 
-use crate::data::Data;
+use crate::data::{Data, place_data};
 use crate::items::{Items, SharedItems};
-use crate::layout_build::build_layout;
+use crate::map_entries::place_map;
 use crate::offsets::Offsets;
 use crate::sets::Sets;
-use dexclass::Program;
+use crate::tables::Tables;
+use dexclass::{Class, Program};
 use dexhead::Head;
 use dexlaws::size::fitting_size_law;
+use dexpool::Numbering;
 use std::alloc::{AllocError, Global};
 use std::marker::Model;
 
@@ -46,6 +49,47 @@ impl Model for Layout {
     ghost coded = { Prim.hlevel (codes, elements_code) };
 
     ghost view = { λ l. record { head = l.head; type_lists = l.placed.first_sections.type_lists; annotations = l.placed.first_sections.annotations; static_values = l.placed.first_sections.static_values; strings = l.placed.first_sections.strings; debugs = l.placed.bodies.debugs; codes = l.placed.bodies.codes; class_data = l.placed.bodies.class_data; sets = l.placed.back.sets; ref_lists = l.placed.back.ref_lists; directories = l.placed.back.directories; map = l.map } };
+}
+
+// The header of a file with these tables and this map, at its end. Its sums are 0.
+fn head_of(tables: &Tables, map: &Items) -> Head
+    requires one { length map.now.places.offsets ≡ 1 }
+    requires following { tables.now.end ≤ map.now.places.end }
+    ensures reports { StatesParts tables.now map.now result }
+    ensures signature { length result.signature ≡ 20 }
+{
+    let file_size = map.places().end();
+    Head {
+        checksum: 0,
+        signature: [0; 20],
+        file_size,
+        map_off: map.places().offsets()[0],
+        tables: tables.rows(),
+        data_size: file_size - tables.end,
+        data_off: tables.end,
+    }
+}
+
+// The layout of the file of classes.
+fn build_layout(
+    alloc: Global,
+    numbering: &Numbering<'_>,
+    classes: &[Class<'_>],
+) -> Result<Layout, AllocError>
+    requires { AreWritable numbering.now classes.now }
+    ensures { IfOk result (IsLaid numbering.now classes.now) }
+{
+    let tables = Tables::of(numbering, classes);
+    let data = place_data(alloc, numbering, classes, tables.end)?;
+    let sections = data.entries(numbering, tables.end);
+    let data_end = data.back.directories.places().end();
+    let map = place_map(alloc, &tables.entries(), &sections, data_end)?;
+    let head = head_of(&tables, &map);
+    Ok(Layout {
+        head,
+        placed: data,
+        map,
+    })
 }
 
 impl Layout {

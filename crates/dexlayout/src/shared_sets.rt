@@ -104,7 +104,7 @@ pub(crate) fn share_sets<'p>(
     ensures shared { IfOk result (HaveSets classes.now) }
     ensures known { IfOk result (HaveKnownSets classes.now) }
 {
-    let mut sharing = Sharing::new(alloc);
+    let mut sharing = Sharing::for_uses(alloc, classes.len())?;
     for i in 0..classes.len() {
         add_members(&mut sharing, classes[i].members())?;
     }

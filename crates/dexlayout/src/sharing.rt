@@ -28,16 +28,6 @@ pub(crate) struct Shared<T> {
 }
 
 impl<T: Eq + Hash + Drop> Sharing<T> {
-    /// No uses.
-    pub(crate) fn new(alloc: Global) -> Sharing<T>
-        ensures { HaveItems T.eq [] result.items.keys result.numbers.items }
-    {
-        Sharing {
-            items: IndexSet::new(alloc),
-            numbers: Vec::new(alloc),
-        }
-    }
-
     /// No uses, and memory for the numbers of `uses` of them.
     pub(crate) fn for_uses(alloc: Global, uses: usize) -> Result<Sharing<T>, AllocError>
         ensures { IfOk result (λ sharing.
@@ -80,10 +70,7 @@ fn use_offset(number: Option<usize>, offsets: &[u32]) -> u32
     requires { IfSome number (λ i. i < length offsets.now) }
     ensures { result ≡ option_map_or (slice_index offsets.now) number 0 }
 {
-    match number {
-        Some(number) => offsets[number],
-        None => 0,
-    }
+    number.map_or(0, |number| offsets[number])
 }
 
 /// The offset of the item of each use, from the numbers of the uses and the offsets of the items that are written.

@@ -56,6 +56,7 @@ fn table_entry(table: Table, rows: Rows) -> MapEntry
 
 impl Tables {
     /// The tables of the file of classes.
+    #[tactic(auto, using(crate::proofs::OwnFile::rows_few))]
     pub(crate) fn of(numbering: &Numbering<'_>, classes: &[Class<'_>]) -> Tables
         requires { AreWritable numbering.now classes.now }
         ensures { AreTables (ordered_of numbering.now classes.now) result }

@@ -8,7 +8,7 @@ ghost use Rattle.dexlayout.specs.internal.Adding.{AddsUses, AddsParameters, list
 ghost use Rattle.dexlayout.specs.internal.Placing.{HaveTypeLists, encoded_lists};
 
 use crate::items::{Items, SharedItems};
-use crate::list_keys::ListKey;
+use crate::keys::ListKey;
 use crate::sharing::{Shared, Sharing};
 use dexclass::Class;
 use dexpool::{Numbering, SymbolKind};

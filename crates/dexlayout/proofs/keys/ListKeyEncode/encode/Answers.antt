@@ -1,5 +1,5 @@
 use Rattle.dexlayout.proofs.Common.{List, ℕ, length, get_or, ap, arith, subst, ◌∙◌, flat_map, ushort, uint, given_more, given_all}
-use Rattle.dexlayout.proofs.list_keys.ListKeyEncode.encode.Goals as goal
+use Rattle.dexlayout.proofs.keys.ListKeyEncode.encode.Goals as goal
 
 pub overflow_cast-at : goal.overflow_cast-at
 overflow_cast-at g c = omega (arith, c.at.ensures ∙ ap (λ (l : List ℕ). get_or l c.loop-i.i 0) c.self.view_is, c.requires.1 c.loop-i.i 0 (omega (arith, c.loop-i-test.true, c.len-count.ensures, ap (λ (l : List ℕ). length l) c.self.view_is)))

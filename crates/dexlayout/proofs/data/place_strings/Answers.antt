@@ -1,6 +1,6 @@
 use Rattle.dexlayout.proofs.Common.{◌+◌, length, map, drop, Some, arith, ap, sym, subst, ◌∙◌, Text, string_data, offsets_from, end_from, AreLaidSo, place_use, place_uses}
 use Rattle.dexlayout.proofs.EncodedUses.{all_encoded, put_plain, left_next, left_fits, left_none}
-use Rattle.dexlayout.proofs.strings.place_strings.Goals as goal
+use Rattle.dexlayout.proofs.data.place_strings.Goals as goal
 
 pub put_next-requires : goal.put_next-requires
 put_next-requires c =

@@ -1,8 +1,8 @@
 use Rattle.dexlayout.proofs.Common.{ℕ, List, length, arith, ap, sym, subst, ◌∙◌, IsMap, ordered_of, ItemPlaces, placed_map}
 use Rattle.dexlayout.proofs.Ends.{end_in_file}
 use Rattle.dexlayout.proofs.OwnFile.{data_before, map_laid}
-use Rattle.dexlayout.proofs.layout_build.build_layout.Goals as goal
-use Rattle.dexlayout.proofs.layout_build.build_layout.Goals.{After-entries, In_ok-map}
+use Rattle.dexlayout.proofs.layout.build_layout.Goals as goal
+use Rattle.dexlayout.proofs.layout.build_layout.Goals.{After-entries, In_ok-map}
 
 pub entries-sections-requires : goal.entries-sections-requires
 entries-sections-requires c = (c.args.classes.now, c.requires, c.in_ok-data.ensures, c.of-tables.ensures.end_is)

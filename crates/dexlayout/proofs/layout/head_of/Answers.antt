@@ -1,5 +1,5 @@
 use Rattle.dexlayout.proofs.Common.{◌-◌, ap, ◌∙◌, slice_index, ItemPlaces}
-use Rattle.dexlayout.proofs.layout_build.head_of.Goals as goal
+use Rattle.dexlayout.proofs.layout.head_of.Goals as goal
 
 pub returns-clause-reports : goal.returns-clause-reports
 returns-clause-reports c = λ K t laid.

@@ -6,10 +6,8 @@ ghost use Rattle.dexcanon.specs.internal.Ready.{CanBeMade};
 ghost use Rattle.dexcanon.specs.internal.Adding.{tables_of, data_of, after_header_of};
 
 use crate::class_defs::ClassDefs;
-use crate::contents::Contents;
-use crate::item_lists::ItemList;
-use crate::strings::StringDataItems;
-use crate::tables::{FieldIds, MethodIds, ProtoIds, StringIds, TypeIds};
+use crate::contents::{Contents, ItemList};
+use crate::tables::{FieldIds, MethodIds, ProtoIds, StringDataItems, StringIds, TypeIds};
 use dexhead::Output;
 
 // Writes the rows of the tables.

@@ -11,8 +11,7 @@ ghost use Rattle.dexcanon.specs.internal.ClassRows.{class_row, no_offsets};
 ghost use Rattle.dexcanon.specs.internal.Ready.{CanBeMade, ordered_in};
 ghost use Rattle.dexcanon.specs.internal.Adding.{class_rows, offsets_of};
 
-use crate::contents::Contents;
-use crate::item_lists::ItemList;
+use crate::contents::{Contents, ItemList};
 use dexclass::Class;
 use dexhead::Output;
 use dexlayout::encode_numbers;
@@ -56,10 +55,7 @@ fn index(number: Option<usize>) -> u32
     requires { IfSome number (λ n. n < 2 ^ 32) }
     ensures { result ≡ unwrap_or number no_index }
 {
-    match number {
-        Some(number) => number as u32,
-        None => 0xffff_ffff,
-    }
+    number.map_or(0xffff_ffff, |number| number as u32)
 }
 
 // The numbers of a class row.

@@ -1,11 +1,14 @@
-//! What a file is made of.
+//! What a file is made of, and lists of its items that are not aligned.
 
-ghost use Rattle.std.specs.Prelude.{◌≡◌};
+ghost use Rattle.std.specs.Prelude.{◌≡◌, ℕ, ◌<◌, List, length, slice_index_or, []};
+ghost use Rattle.std.specs.List.{concat};
 ghost use Rattle.dexspec.specs.Canonical.{canonical, with_sums, unsigned_file};
 ghost use Rattle.dexlayout.specs.Laid.{IsWritable, IsLayoutOf};
+ghost use Rattle.dexcanon.specs.declared.contents.Contents.{Contents};
 ghost use Rattle.dexcanon.specs.internal.Ready.{CanBeMade, ordered_in};
 
 use dexclass::{Class, Program};
+use dexhead::Output;
 use dexlayout::Layout;
 use dexpool::Numbering;
 
@@ -29,6 +32,33 @@ impl<'a, 'p> Contents<'a, 'p, 'p> {
             numbering: program.numbering(),
             classes: program.classes(),
             layout,
+        }
+    }
+}
+
+/// A list of items of a file, one after the other without alignment.
+pub(crate) trait ItemList {
+    // the bytes of each item
+    ghost items: { Contents → List (List ℕ) };
+
+    /// How many items there are.
+    fn len(contents: &Contents<'_, '_, '_>) -> usize
+        requires { CanBeMade contents.now }
+        ensures { result ≡ length (items contents.now) };
+
+    /// Writes the item at a place.
+    fn encode_item<O: Output>(contents: &Contents<'_, '_, '_>, i: usize, out: &mut O)
+        requires ready { CanBeMade contents.now }
+        requires within { i < length (items contents.now) }
+        ensures { O.gives (slice_index_or (items contents.now) i []) out.old out.new };
+
+    /// Writes the items.
+    fn encode<O: Output>(contents: &Contents<'_, '_, '_>, out: &mut O)
+        requires { CanBeMade contents.now }
+        ensures { O.gives (concat (items contents.now)) out.old out.new }
+    {
+        for i in 0..Self::len(contents) {
+            Self::encode_item(contents, i, out);
         }
     }
 }

@@ -1,11 +1,10 @@
 //! The digest of each class of a program: the signature of the canonical file of the class alone.
 
-ghost use Rattle.std.specs.Prelude.{◌≡◌, ◌≤◌, ◌++◌, map, take, drop, vec_len, vec_capacity, IfOk, OnOk};
+ghost use Rattle.std.specs.Prelude.{◌≡◌, ◌++◌, map, take, drop, IfOk, OnOk};
 ghost use Rattle.std.specs.List.{Contains};
 ghost use Rattle.dexspec.specs.Classes.{Definition};
 ghost use Rattle.dexspec.specs.Files.{definitions};
-ghost use Rattle.dexspec.specs.Canonical.{canonical, with_sums, unsigned_file};
-ghost use Rattle.dexcanon.specs.internal.Ready.{CanBeMade, ordered_in};
+ghost use Rattle.dexspec.specs.Canonical.{canonical};
 ghost use Rattle.dexcanon.specs.Digests.{class_digest, IsFileAlone, class_digests, EqualByFiles};
 
 use crate::contents::Contents;
@@ -65,21 +64,11 @@ fn put_digests(alloc: Global, part: Part<'_>, digests: &mut Vec<[u8; 20]>) -> Re
 fn signature(alloc: Global, program: &Program<'_>) -> Result<[u8; 20], AllocError>
     ensures { IfOk result (λ signature. signature ≡ take 20 (drop 12 (canonical program.now))) }
 {
+    dexhead::laws::file_law();
+    dexhead::laws::sums_law();
     let layout = Layout::of(alloc, program)?;
     let contents = Contents::of(program, &layout);
     let buffer = Vec::with_capacity(alloc, PIECE)?;
-    Ok(signed(&contents, buffer))
-}
-
-// The signature of the file of its contents, which is made in a buffer with room.
-fn signed(contents: &Contents<'_, '_, '_>, buffer: Vec<u8>) -> [u8; 20]
-    requires ready { CanBeMade contents.now }
-    requires room { 112 ≤ vec_capacity buffer }
-    requires empty { vec_len buffer ≡ 0 }
-    ensures { result ≡ take 20 (drop 12 (with_sums (unsigned_file (ordered_in contents.now)))) }
-{
-    dexhead::laws::file_law();
-    dexhead::laws::sums_law();
-    let (_buffer, message) = write_signed(contents, buffer, Sha1::new());
-    message.finalize()
+    let (_buffer, message) = write_signed(&contents, buffer, Sha1::new());
+    Ok(message.finalize())
 }

@@ -1,15 +1,14 @@
-//! The rows of the tables of symbols.
+//! The rows of the tables of symbols, and the data of the texts.
 //!
-//! Source: the headings "string_id_item", "type_id_item", "proto_id_item", "field_id_item" and "method_id_item" of the
-//! Android page "Dalvik Executable format".
+//! Source: the headings "string_id_item", "type_id_item", "proto_id_item", "field_id_item", "method_id_item" and
+//! "string_data_item" of the Android page "Dalvik Executable format".
 
 ghost use Rattle.std.specs.Prelude.{◌^◌, ◌<◌, ◌++◌};
 ghost use Rattle.dexspec.specs.Bytes.{ushort, uint};
-ghost use Rattle.dexcanon.specs.internal.Adding.{string_rows, type_rows, proto_rows, field_rows, method_rows};
+ghost use Rattle.dexcanon.specs.internal.Adding.{string_items, string_rows, type_rows, proto_rows, field_rows, method_rows};
 
-use crate::contents::Contents;
-use crate::item_lists::ItemList;
-use dexhead::Output;
+use crate::contents::{Contents, ItemList};
+use dexhead::{Encode, Output};
 use dexlayout::encode_numbers;
 use dexpool::SymbolKind;
 
@@ -111,5 +110,21 @@ impl ItemList for MethodIds {
     fn encode_item<O: Output>(contents: &Contents<'_, '_, '_>, i: usize, out: &mut O) {
         let method = contents.numbering.method(i);
         encode_member(method.class, method.proto, method.name, out);
+    }
+}
+
+/// The data of the texts.
+pub(crate) struct StringDataItems;
+
+impl ItemList for StringDataItems {
+    ghost items = { string_items };
+
+    #[tactic(auto, using(crate::proofs::Rows::count_mapped))]
+    fn len(contents: &Contents<'_, '_, '_>) -> usize {
+        contents.numbering.count(SymbolKind::Text)
+    }
+
+    fn encode_item<O: Output>(contents: &Contents<'_, '_, '_>, i: usize, out: &mut O) {
+        contents.numbering.string(i).encode(out);
     }
 }

@@ -1,6 +1,6 @@
 use Rattle.dexcanon.proofs.Common.{◌+◌, [], drop, get_or, ap, arith, concat, drop_all, completes_none, completes_more, completes_all}
 use Rattle.dexcanon.proofs.Rows.{next_item}
-use Rattle.dexcanon.proofs.item_lists.ItemList.encode.Goals as goal
+use Rattle.dexcanon.proofs.contents.ItemList.encode.Goals as goal
 
 pub loop-i-init : goal.loop-i-init
 loop-i-init g c = completes_none g.O.Output.gives (concat (g.Self.ItemList.items c.args.contents.now)) c.args.out.now

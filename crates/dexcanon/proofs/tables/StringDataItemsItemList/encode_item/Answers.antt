@@ -1,5 +1,5 @@
 use Rattle.dexcanon.proofs.Common.{[], ap, sym, subst, ◌∙◌, get_or-map, string_data}
-use Rattle.dexcanon.proofs.strings.StringDataItemsItemList.encode_item.Goals as goal
+use Rattle.dexcanon.proofs.tables.StringDataItemsItemList.encode_item.Goals as goal
 
 pub returns : goal.returns
 returns g c =

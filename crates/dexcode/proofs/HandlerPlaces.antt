@@ -1,5 +1,5 @@
 -- Handlers of a list: what those before a place weigh, and where each begins.
-use Rattle.dexcode.proofs.Common.{◌≡◌, ℕ, zero, suc, ◌+◌, ◌*◌, ◌^◌, ◌<◌, ◌≤◌, Bool, List, [], ◌∷◌, ◌++◌, length, map, take, get_or, refl, ap, sym, subst, ◌∙◌, if◌then◌else◌, arith, length-append, All, flat_map, false_from_ne_true, sum_by-cons, sum_by_more, AreDistinct, ushort, uint, uleb128, Mentions, distinct_once, all_of, Try, handler_decides, NumberedHandler, NumberedTry, no_handler, same_handler, handlers_of, handlers_weight, named, all_named, AreStored, HasShortTypes, ArePlaces, numbered_handler_bytes, numbered_handler_off, numbered_try_bytes, place_of, placed_try_bytes}
+use Rattle.dexcode.proofs.Common.{◌≡◌, ℕ, zero, suc, ◌+◌, ◌*◌, ◌^◌, ◌<◌, ◌≤◌, Bool, List, [], ◌∷◌, ◌++◌, length, map, take, get_or, refl, ap, sym, subst, ◌∙◌, if◌then◌else◌, arith, length-append, All, All-cons, All-nil, flat_map, false_from_ne_true, sum_by-cons, sum_by_more, AreDistinct, ushort, uint, uleb128, Mentions, distinct_once, all_of, Try, handler_decides, NumberedHandler, NumberedTry, no_handler, same_handler, handlers_of, handlers_weight, named, all_named, AreStored, HasShortTypes, ArePlaces, numbered_handler_bytes, numbered_handler_off, numbered_try_bytes, place_of, placed_try_bytes}
 use Rattle.std.proofs.lemmas.List.Concat.{length-flat_map}
 use Rattle.dexcode.proofs.Images.{all_distinct, flat_mapped}
 use Rattle.dexcode.proofs.TryRows.{IsInRange}
@@ -12,6 +12,12 @@ one_weight h = 10 + 8 * length h.catches
 -- one handler more
 pub weight_more : (hs : List NumberedHandler) (i : ℕ) (d : NumberedHandler) → i < length hs → handlers_weight (take (i + 1) hs) ≡ handlers_weight (take i hs) + 10 + 8 * length (get_or hs i d).catches
 weight_more hs i d lt = omega (arith, sum_by_more one_weight hs i d lt)
+
+-- each has few catches
+pub few_catches : (hs : List NumberedHandler) → handlers_weight hs ≤ 65535 → All (λ h. length h.catches < 2 ^ 16) hs
+few_catches [] light = All-nil (λ h. length h.catches < 2 ^ 16)
+few_catches (h ∷ hs) light =
+    All-cons (λ h. length h.catches < 2 ^ 16) h hs (omega (arith, light, sum_by-cons one_weight h hs)) (few_catches hs (omega (arith, light, sum_by-cons one_weight h hs)))
 
 -- each weighs something
 pub weight_count : (hs : List NumberedHandler) → 5 + 10 * length hs ≤ handlers_weight hs

@@ -8,10 +8,10 @@ ghost use Rattle.dexcode.specs.internal.Writing.{IsPlacedLen};
 
 use crate::code::Code;
 use crate::code_laws::code_bytes_law;
-use crate::code_put::{encode_handler, encode_list};
+use crate::code_put::encode_list;
 use crate::handlers::Handler;
 use crate::tries::Try;
-use dexhead::Count;
+use dexhead::{Count, Encode};
 use dexinsn::Pieces;
 
 // The number of catches, 0 or less where there is an address for all else.
@@ -33,7 +33,7 @@ pub(crate) fn handler_len(handler: &Handler) -> usize
     ensures few { result ≤ 10 + 10 * length handler.now.catches }
 {
     let mut count = Count { len: 0 };
-    encode_handler(handler, &mut count);
+    handler.encode(&mut count);
     count.len
 }
 

@@ -58,14 +58,16 @@ fn encode_catch_all<O: Output>(catch_all_addr: Option<u32>, out: &mut O)
     }
 }
 
-// Writes a handler.
-pub(crate) fn encode_handler<O: Output>(handler: &Handler, out: &mut O)
-    requires { length handler.now.catches < 2 ^ 16 }
-    ensures { O.gives (numbered_handler_bytes handler.now) out.old out.new }
-{
-    out.sleb(handler_count(handler));
-    encode_all(handler.catches(), out);
-    encode_catch_all(handler.catch_all_addr(), out);
+impl Encode for Handler {
+    ghost formed = { λ h. length h.catches < 2 ^ 16 };
+
+    ghost bytes = { numbered_handler_bytes };
+
+    fn encode<O: Output>(&self, out: &mut O) {
+        out.sleb(handler_count(self));
+        encode_all(self.catches(), out);
+        encode_catch_all(self.catch_all_addr(), out);
+    }
 }
 
 // Writes the list of handlers.
@@ -74,17 +76,7 @@ pub(crate) fn encode_list<O: Output>(handlers: &[Handler], out: &mut O)
     ensures { O.gives (numbered_list_bytes handlers.now) out.old out.new }
 {
     out.uleb(handlers.len() as u32);
-    encode_handlers(handlers, out);
-}
-
-// Writes handlers.
-fn encode_handlers<O: Output>(handlers: &[Handler], out: &mut O)
-    requires { handlers_weight handlers.now ≤ most_handlers }
-    ensures { O.gives (flat_map numbered_handler_bytes handlers.now) out.old out.new }
-{
-    for handler in handlers {
-        encode_handler(handler, out);
-    }
+    encode_all(handlers, out);
 }
 
 // Writes a try whose handler begins at one of the places.

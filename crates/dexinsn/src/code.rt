@@ -1,4 +1,4 @@
-ghost use Rattle.std.specs.Prelude.{◌≡◌, ◌<◌, ◌≤◌, ◌^◌, [], Result, IfErr, IfOk, length};
+ghost use Rattle.std.specs.Prelude.{◌≡◌, ◌<◌, ◌^◌, [], Result, IfErr, IfOk, length};
 ghost use Rattle.dexspec.specs.Pieces.{IsCode};
 ghost use Rattle.dexinsn.specs.declared.code.SplitFault.TheVariants.{Memory};
 ghost use Rattle.dexinsn.specs.internal.LongSwitches.{ArePayloads};

@@ -1,6 +1,6 @@
 //! The index of an instruction.
 
-ghost use Rattle.std.specs.Prelude.{◌≡◌, ◌<◌, ◌≤◌, ◌+◌, ◌^◌, length, drop, slice_index, true, Some, None};
+ghost use Rattle.std.specs.Prelude.{◌≡◌, ◌<◌, ◌≤◌, ◌+◌, ◌^◌, length, drop, slice_index, true};
 ghost use Rattle.std.specs.Option.{option_map};
 ghost use Rattle.dexspec.specs.Pieces.{index_pool, is_wide_index, index_in, two_units};
 ghost use Rattle.dexinsn.specs.Numbered.{kind_of_pool, kind_in, index_room};

@@ -3,10 +3,9 @@
 ghost use Rattle.std.specs.Prelude.{◌≡◌, ◌<◌, ◌≤◌, ◌+◌, [], true, IfSome, IfNone, length, drop, slice_index};
 ghost use Rattle.std.specs.Iterator.{YieldsFirst, item_count};
 ghost use Rattle.dexspec.specs.Pieces.{index_pool, array_data_ident, is_payload_ident};
-ghost use Rattle.dexinsn.specs.Payload.{ident_of};
 ghost use Rattle.dexinsn.specs.Units.{units_in};
-ghost use Rattle.dexinsn.specs.Stored.{AreStored, left_by, parts_in, pieces_with};
-ghost use Rattle.dexinsn.specs.Listing.{payload_shown, kind_from, symbol_by, listed, listing, IsListing, ListsFirst};
+ghost use Rattle.dexinsn.specs.Stored.{left_by};
+ghost use Rattle.dexinsn.specs.Listing.{kind_from, symbol_by, listed, listing, IsListing, ListsFirst};
 
 use crate::code_units::{Units, opcode_in};
 use crate::instruction_index::kind_at;
@@ -133,25 +132,13 @@ fn kind_of(units: &Units<'_>, symbol: Option<(SymbolKind, usize)>) -> PieceKind
 {
     let first = units.at(0);
     match PayloadKind::of(first) {
-        Some(kind) => payload_shown(kind, units),
-        None => PieceKind::Instruction(opcode_in(first), symbol),
-    }
-}
-
-// Returns what is shown of the first payload.
-fn payload_shown(kind: PayloadKind, units: &Units<'_>) -> PieceKind
-    requires kind { slice_index units.now 0 ≡ ident_of kind }
-    requires two { 1 < length units.now }
-    requires four { slice_index units.now 0 ≡ array_data_ident → 3 < length units.now }
-    ensures { result ≡ payload_shown units.now }
-{
-    match kind {
-        PayloadKind::PackedSwitch => PieceKind::PackedSwitch(units.at(1)),
-        PayloadKind::SparseSwitch => PieceKind::SparseSwitch(units.at(1)),
-        PayloadKind::ArrayData => {
+        Some(PayloadKind::PackedSwitch) => PieceKind::PackedSwitch(units.at(1)),
+        Some(PayloadKind::SparseSwitch) => PieceKind::SparseSwitch(units.at(1)),
+        Some(PayloadKind::ArrayData) => {
             let size = u32::from(units.at(2)) + 0x1_0000 * u32::from(units.at(3));
             PieceKind::ArrayData(units.at(1), size)
         }
+        None => PieceKind::Instruction(opcode_in(first), symbol),
     }
 }
 

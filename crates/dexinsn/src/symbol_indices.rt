@@ -90,10 +90,7 @@ fn is_short_string(units: &Units<'_>, unit: usize) -> bool
     requires { unit < length units.now }
     ensures { result ≡ is_short_string (drop unit units.now) }
 {
-    match index_kind_at(units, unit) {
-        SymbolKind::Text => !is_wide_at(units, unit),
-        _ => false,
-    }
+    index_kind_at(units, unit) == SymbolKind::Text && !is_wide_at(units, unit)
 }
 
 // The greatest of some numbers and one more, where it is known of those.

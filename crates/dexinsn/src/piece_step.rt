@@ -102,10 +102,7 @@ fn plain_row(units: &Units<'_>, at: usize) -> Option<Row>
 {
     let first = units.at(at);
     let row = row_of(opcode_in(first));
-    if units.len() - at <= usize::from(row.units) {
-        return None;
-    }
-    if row.greatest < first {
+    if units.len() - at <= usize::from(row.units) || row.greatest < first {
         return None;
     }
     Some(row)

@@ -91,12 +91,8 @@ impl Debug<'_> {
             ↔ (renumbered_debug mine.now self.now ≡ renumbered_debug theirs.now other.now) }
     {
         let remaps = Remaps { mine, theirs };
-        if self.line_start != other.line_start {
-            return false;
-        }
-        if !remaps.eq_names(self.parameter_names(), other.parameter_names()) {
-            return false;
-        }
-        remaps.eq_operations(self.operations(), other.operations())
+        self.line_start == other.line_start
+            && remaps.eq_names(self.parameter_names(), other.parameter_names())
+            && remaps.eq_operations(self.operations(), other.operations())
     }
 }

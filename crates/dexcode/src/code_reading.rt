@@ -38,10 +38,7 @@ impl TriesReader<'_, '_> {
         if units % 2 == 0 {
             return Ok(Some(self.read_try_table(following, count, units)?));
         }
-        if self.bytes.len() < following + 2 {
-            return Err(ItemFault::Refused(Condition::Tries as u8));
-        }
-        if u16_at(self.bytes, following) != 0 {
+        if self.bytes.len() < following + 2 || u16_at(self.bytes, following) != 0 {
             return Err(ItemFault::Refused(Condition::Tries as u8));
         }
         Ok(Some(self.read_try_table(following + 2, count, units)?))

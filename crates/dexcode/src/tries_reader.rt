@@ -47,10 +47,8 @@ fn read_try(bytes: &[u8], at: usize, units: u32, numbers: &[Option<u32>]) -> Opt
 {
     let start_addr = u32_at(bytes, at);
     let insn_count = u16_at(bytes, at + 4);
-    if insn_count == 0 {
-        return None;
-    }
-    if u64::from(units) < u64::from(start_addr) + u64::from(insn_count) {
+    let end = u64::from(start_addr) + u64::from(insn_count);
+    if insn_count == 0 || u64::from(units) < end {
         return None;
     }
     let handler = handler_at(numbers, u16_at(bytes, at + 6))?;

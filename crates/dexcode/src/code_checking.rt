@@ -35,10 +35,8 @@ impl TriesReader<'_, '_> {
         ensures fault { IfErr result (IsTriesFault
             (HasNoTries self.now.starts.now self.now.types self.now.bytes.now off)) }
     {
-        match &self.read_tries(off)? {
-            Some(tries) => Ok(tries_weight(&tries.as_tries())),
-            None => Ok(0),
-        }
+        let tries = self.read_tries(off)?;
+        Ok(tries.map_or(0, |tries| tries_weight(&tries.as_tries())))
     }
 }
 

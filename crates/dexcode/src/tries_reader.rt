@@ -77,10 +77,7 @@ fn put_number(numbers: &mut Vec<Option<u32>>, place: usize, number: u32) -> Resu
 fn handler_at(numbers: &[Option<u32>], off: u16) -> Option<usize>
     ensures { result ≡ slice_index_or numbers.now off None }
 {
-    match numbers.get(usize::from(off)) {
-        Some(Some(number)) => Some(*number as usize),
-        _ => None,
-    }
+    numbers.get(usize::from(off))?.map(|number| number as usize)
 }
 
 impl TriesReader<'_, '_> {
@@ -211,9 +208,8 @@ impl TriesReader<'_, '_> {
             CatchAt self.now.starts.now self.now.types self.now.bytes.now at x.0 x.1) }
         ensures within { IfSome result (λ x. at + x.1 ≤ length self.now.bytes.now) }
     {
-        let (typ, index_size) = match read_u(self.bytes, at) {
-            Ok(read) => read,
-            Err(_) => return None,
+        let Ok((typ, index_size)) = read_u(self.bytes, at) else {
+            return None;
         };
         if self.types <= typ as usize {
             return None;
@@ -285,9 +281,8 @@ impl TriesReader<'_, '_> {
         ensures some { IfSome result
             (HasHandler self.now.starts.now self.now.types self.now.bytes.now at) }
     {
-        let (count, count_size) = match read_s(self.bytes, at) {
-            Ok(read) => read,
-            Err(_) => return None,
+        let Ok((count, count_size)) = read_s(self.bytes, at) else {
+            return None;
         };
         let first = at + count_size;
         let many = count.unsigned_abs() as usize;

@@ -48,9 +48,8 @@ fn put_method(method: &Method<'_, '_>, debug_off: u32, items: &mut Items) -> Res
     requires fits { (encode_use 4 items.old (code_item method.now debug_off)).places.end ≤ 2 ^ 30 }
     ensures { OnOk result (items.new ≡ encode_use 4 items.old (code_item method.now debug_off)) }
 {
-    let code = match method.code() {
-        Some(code) => code,
-        None => return items.pass(),
+    let Some(code) = method.code() else {
+        return items.pass();
     };
     code_bytes_law();
     items.put(&CodeItem { code, debug_off }, code.weight() as usize)

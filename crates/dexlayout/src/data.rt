@@ -172,13 +172,8 @@ pub(crate) fn place_data(
     let shared = share_sets(alloc, classes)?;
     let first_sections = place_first_sections(alloc, numbering, classes, &shared.written, from)?;
     let bodies = place_bodies(alloc, numbering, classes, first_sections.strings.end())?;
-    let back = place_back(
-        alloc,
-        classes,
-        &first_sections.annotations,
-        &shared,
-        bodies.class_data.places().end(),
-    )?;
+    let end = bodies.class_data.places().end();
+    let back = place_back(alloc, classes, &first_sections.annotations, &shared, end)?;
     Ok(Data {
         first_sections,
         bodies,

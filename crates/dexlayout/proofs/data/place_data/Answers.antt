@@ -13,7 +13,7 @@ place_bodies-requires c = (c.args.numbering.now, c.requires.classes, c.end.ensur
 pub place_back-requires-clause-place : goal.place_back-requires-clause-place
 place_back-requires-clause-place c =
     let bodies = c.in_ok-bodies.ensures c.args.numbering.now c.requires.classes (c.end.ensures ∙ c.in_ok-first_sections.ensures.strings_are.end_is) in
-    (c.args.numbering.now, c.requires.classes, c.in_ok-first_sections.ensures.annotations_are, c.end-2.ensures ∙ ap (λ (q : ItemPlaces). q.end) c.places.ensures ∙ bodies.class_data_are.places_are.end_is)
+    (c.args.numbering.now, c.requires.classes, c.in_ok-first_sections.ensures.annotations_are, c.end-end.ensures ∙ ap (λ (q : ItemPlaces). q.end) c.places.ensures ∙ bodies.class_data_are.places_are.end_is)
 
 pub returns : goal.returns
 returns c =
@@ -21,5 +21,5 @@ returns c =
     record {
       first_sections_are = c.in_ok-first_sections.ensures;
       bodies_are = bodies;
-      back_are = c.in_ok-back.ensures c.args.numbering.now c.requires.classes c.in_ok-first_sections.ensures.annotations_are (c.end-2.ensures ∙ ap (λ (q : ItemPlaces). q.end) c.places.ensures ∙ bodies.class_data_are.places_are.end_is);
+      back_are = c.in_ok-back.ensures c.args.numbering.now c.requires.classes c.in_ok-first_sections.ensures.annotations_are (c.end-end.ensures ∙ ap (λ (q : ItemPlaces). q.end) c.places.ensures ∙ bodies.class_data_are.places_are.end_is);
     }

@@ -15,8 +15,7 @@ ghost use Rattle.dexinsn.specs.internal.Checking.{AreCodeStartBits, ArePassedWho
 
 use crate::code_units::{Units, int_at, opcode_in};
 use crate::format::Format;
-use crate::instruction::branch_offset;
-use crate::instruction_index::{index_at, kind_at};
+use crate::instruction::{branch_offset, index_at, kind_at};
 use crate::long_switches::{LongSwitches, targets_at};
 use crate::opcodes::row_of;
 use crate::payload::PayloadKind;

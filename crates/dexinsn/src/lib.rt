@@ -11,7 +11,6 @@ pub use checking::check_pieces;
 pub use code::{Cut, split};
 pub use code_fault::CodeFault;
 pub use format::Format;
-pub use instruction_starts::InstructionStarts;
 pub use laws::{
     cut_places_law, images_law, joined_places_law, marks_law, renumber_law, short_strings_law,
     units_law, uses_law,
@@ -22,7 +21,7 @@ pub use payload::PayloadKind;
 pub use pieces::Pieces;
 pub use put::put_pieces;
 pub use reading::{build_pieces, read_pieces};
-pub use scratch::Scratch;
+pub use scratch::{InstructionStarts, Scratch};
 pub use shape::PiecesShape;
 pub use symbol_indices::renumber;
 
@@ -32,8 +31,6 @@ mod code_fault;
 mod code_units;
 mod format;
 mod instruction;
-mod instruction_index;
-mod instruction_starts;
 mod laws;
 mod listing;
 mod long_switches;

@@ -8,7 +8,7 @@ ghost use Rattle.dexinsn.specs.Stored.{left_by};
 ghost use Rattle.dexinsn.specs.Listing.{kind_from, symbol_by, listed, listing, IsListing, ListsFirst};
 
 use crate::code_units::{Units, opcode_in};
-use crate::instruction_index::kind_at;
+use crate::instruction::kind_at;
 use crate::payload::PayloadKind;
 use crate::piece_step::piece_size;
 use crate::pieces::{Index, Pieces};

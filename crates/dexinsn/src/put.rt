@@ -11,7 +11,7 @@ ghost use Rattle.dexinsn.specs.internal.Writing.{bytes_between, bytes_with};
 ghost use Rattle.dexinsn.specs.Put.{PutsDenoted};
 
 use crate::code_units::{Units, unit_bytes};
-use crate::instruction_index::is_wide_at;
+use crate::instruction::is_wide_at;
 use crate::laws::units_law;
 use crate::pieces::{Index, Pieces};
 use dexhead::{Encode, Output, put_with_len};

@@ -7,7 +7,7 @@ ghost use Rattle.dexinsn.specs.Checking.{AreTheIndices, HaveIndices, IsShapeAt};
 
 use crate::checking::check_pieces;
 use crate::code_units::Units;
-use crate::instruction_index::{index_at, kind_at};
+use crate::instruction::{index_at, kind_at};
 use crate::piece_step::size_at;
 use crate::pieces::{Index, Pieces};
 use crate::scratch::Scratch;

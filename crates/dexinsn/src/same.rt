@@ -8,7 +8,7 @@ ghost use Rattle.dexinsn.specs.Stored.{AreStored, IsIndexed, Follow, parts_in, p
 ghost use Rattle.dexinsn.specs.internal.Same.{Agree, AgreeBeside, AreEqualMapped};
 
 use crate::code_units::{Units, unit_bytes};
-use crate::instruction_index::{index_kind_at, is_wide_at};
+use crate::instruction::{index_kind_at, is_wide_at};
 use crate::pieces::{Index, Pieces};
 use crate::put::after_index;
 use dexpool::Remap;

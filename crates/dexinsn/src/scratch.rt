@@ -1,10 +1,45 @@
-//! Memory that is passed from one code_item to the next.
+//! Where instructions begin, and memory for it that is passed from one code_item to the next.
 
-ghost use Rattle.std.specs.Prelude.{◌≡◌, OnOk, replicate};
+ghost use Rattle.std.specs.Prelude.{◌≡◌, OnOk, replicate, false, slice_index_or};
+ghost use Rattle.dexinsn.specs.Bits.{bits_in};
 
-use crate::instruction_starts::InstructionStarts;
+use crate::start_bits::has_place;
 use std::alloc::{AllocError, Global};
 use std::marker::Model;
+
+/// The units of a code_item at which instructions begin. Contracts see for each unit whether one does.
+#[derive(Drop)]
+pub struct InstructionStarts<'s> {
+    // A bit for each unit.
+    words: &'s [u64],
+}
+
+impl<'s> Model for InstructionStarts<'s> {
+    ghost use Rattle.std.specs.Prelude.{List, Bool};
+    ghost use Rattle.dexinsn.specs.Bits.{bits_in};
+
+    ghost Value = { List Bool };
+
+    ghost view = { λ s. bits_in s.words.now };
+}
+
+impl<'s> InstructionStarts<'s> {
+    // The units whose bits are set.
+    pub(crate) fn of(words: &'s [u64]) -> InstructionStarts<'s>
+        ensures { result ≡ bits_in words.now }
+    {
+        InstructionStarts { words }
+    }
+
+    /// Returns whether an instruction begins at an address, in units from the first one.
+    ///
+    /// Source: "code_item", the field `insns`.
+    pub fn contains(&self, address: u32) -> bool
+        ensures { result ≡ slice_index_or self.now address false }
+    {
+        has_place(self.words, i64::from(address))
+    }
+}
 
 /// Memory for the bits of one code_item, passed from one to the next. Contracts see for each unit of the code_item that
 /// was checked last whether an instruction begins there.

@@ -8,7 +8,7 @@ ghost use Rattle.dexinsn.specs.Numbered.{uses_of, HasPlace, FitPlaces, renumbere
 ghost use Rattle.dexinsn.specs.Stored.{HasPlaceAt, IsIndexed, renumbered_index, uses_at};
 
 use crate::code_units::Units;
-use crate::instruction_index::{index_kind_at, is_wide_at};
+use crate::instruction::{index_kind_at, is_wide_at};
 use crate::pieces::{Index, Pieces};
 use dexpool::{Marks, Remap, SymbolKind, Symbols, Visitor, mark};
 use std::alloc::AllocError;

@@ -8,7 +8,7 @@ ghost use Rattle.dexinsn.specs.Numbered.{numbered_bytes};
 ghost use Rattle.dexinsn.specs.Stored.{AreStored};
 
 use crate::code_units::Units;
-use crate::instruction_index::is_wide_at;
+use crate::instruction::is_wide_at;
 use crate::pieces::{Index, Pieces};
 
 // Returns the number of indices before a unit.

@@ -1,6 +1,6 @@
 use Rattle.dexinsn.proofs.Common.{◌≡◌, ℕ, ◌+◌, drop, get_or, slice_index, ap, sym, ◌∙◌, arith, option_map, option_and_then, get_or-drop, Opcode, opcode_of, low_byte, kind_of_pool}
 use Rattle.dexinsn.proofs.IndexRoom.{pool_of_first}
-use Rattle.dexinsn.proofs.instruction_index.kind_at.Goals as goal
+use Rattle.dexinsn.proofs.instruction.kind_at.Goals as goal
 
 pub returns : goal.returns
 returns c =

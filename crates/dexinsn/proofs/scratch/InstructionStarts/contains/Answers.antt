@@ -1,7 +1,7 @@
 use Rattle.dexinsn.proofs.Common.{◌≡◌, pos, false, get_or, to_z, of_z, w64, ap, ◌∙◌, subst, arith, ◌↔◌, true, ints}
 use Rattle.dexinsn.specs.internal.{HasPlace}
 use Rattle.dexinsn.proofs.StoredRead.{test_in}
-use Rattle.dexinsn.proofs.instruction_starts.InstructionStarts.contains.Goals as goal
+use Rattle.dexinsn.proofs.scratch.InstructionStarts.contains.Goals as goal
 
 pub returns : goal.returns
 returns c =

@@ -9,7 +9,7 @@ ghost use Rattle.dexcode.specs.Reading.{IsCodeFault, IsTriesFault};
 ghost use Rattle.dexcode.specs.internal.TriesReading.{HasNoTries};
 
 use crate::code_laws::code_weight_law;
-use crate::code_weight::tries_weight;
+use crate::code_len::tries_weight;
 use crate::tries_reader::TriesReader;
 use dexdebug::{CheckedDebugs, checked_debug_at};
 use dexhead::{Frame, u32_at};

@@ -33,7 +33,6 @@ mod code_numbers;
 mod code_put;
 mod code_reading;
 mod code_types;
-mod code_weight;
 mod extras;
 mod handlers;
 mod named_handlers;

@@ -1,15 +1,59 @@
-//! A file from a place in its header on.
+//! All that follows the header of a file, and a file from a place in its header on.
+//!
+//! Source: the heading "Overall file layout" of the Android page "Dalvik Executable format".
 
 ghost use Rattle.std.specs.Prelude.{◌≡◌, ◌≤◌, false, drop, vec_len, vec_capacity};
 ghost use Rattle.dexhead.specs.Written.{head_bytes};
 ghost use Rattle.dexcanon.specs.internal.Ready.{CanBeMade};
-ghost use Rattle.dexcanon.specs.internal.Adding.{after_header_of, signed_of};
+ghost use Rattle.dexcanon.specs.internal.Adding.{after_header_of, signed_of, tables_of, data_of};
 ghost use Rattle.dexcanon.specs.internal.Output.{Adds};
 
-use crate::body::encode_body;
-use crate::contents::Contents;
+use crate::class_defs::ClassDefs;
+use crate::contents::{Contents, ItemList};
 use crate::output::{Out, Target};
-use dexhead::Head;
+use crate::tables::{FieldIds, MethodIds, ProtoIds, StringDataItems, StringIds, TypeIds};
+use dexhead::{Head, Output};
+
+// Writes the rows of the tables.
+fn encode_tables<O: Output>(contents: &Contents<'_, '_, '_>, out: &mut O)
+    requires { CanBeMade contents.now }
+    ensures { O.gives (tables_of contents.now) out.old out.new }
+{
+    StringIds::encode(contents, out);
+    TypeIds::encode(contents, out);
+    ProtoIds::encode(contents, out);
+    FieldIds::encode(contents, out);
+    MethodIds::encode(contents, out);
+    ClassDefs::encode(contents, out);
+}
+
+// Writes the sections of the data. All but the texts are encoded in the layout.
+fn encode_data<O: Output>(contents: &Contents<'_, '_, '_>, out: &mut O)
+    requires { CanBeMade contents.now }
+    ensures { O.gives (data_of contents.now) out.old out.new }
+{
+    let layout = contents.layout;
+    out.bytes(layout.type_lists().bytes());
+    out.bytes(layout.annotations().bytes());
+    out.bytes(layout.static_values().bytes());
+    StringDataItems::encode(contents, out);
+    out.bytes(layout.debugs().bytes());
+    out.bytes(layout.codes().bytes());
+    out.bytes(layout.class_data().bytes());
+    out.bytes(layout.sets().written().bytes());
+    out.bytes(layout.ref_lists().bytes());
+    out.bytes(layout.directories().bytes());
+}
+
+/// Writes all that follows the header: the rows of the tables, the sections of the data, and the map.
+pub(crate) fn encode_body<O: Output>(contents: &Contents<'_, '_, '_>, out: &mut O)
+    requires { CanBeMade contents.now }
+    ensures { O.gives (after_header_of contents.now) out.old out.new }
+{
+    encode_tables(contents, out);
+    encode_data(contents, out);
+    out.bytes(contents.layout.map().bytes());
+}
 
 /// Puts a header from a place in it on, into a buffer that is empty and has room for it.
 pub(crate) fn put_head(head: &Head, from: usize, buffer: &mut Vec<u8>)

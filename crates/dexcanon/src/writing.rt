@@ -11,10 +11,9 @@ ghost use Rattle.dexcanon.specs.Written.{HasLeft, HasTaken, CanonicalIsAccepted,
 ghost use Rattle.dexcanon.specs.declared.faults.StoreFault.TheVariants.{Io};
 
 use crate::adler_combine::adler_combine;
-use crate::body::encode_body;
 use crate::contents::Contents;
 use crate::faults::StoreFault;
-use crate::files::{put_head, write_body, write_signed};
+use crate::files::{encode_body, put_head, write_body, write_signed};
 use crate::output::Out;
 use crate::targets::{Sums, Writer};
 use dexclass::Program;

@@ -1,6 +1,6 @@
 use Rattle.dexcanon.proofs.Common.{refl, ap, subst, ◌∙◌, EncodedItems}
 use Rattle.dexcanon.proofs.Rows.{next_part}
-use Rattle.dexcanon.proofs.body.encode_body.Goals as goal
+use Rattle.dexcanon.proofs.files.encode_body.Goals as goal
 
 pub returns : goal.returns
 returns g c =

@@ -1,6 +1,6 @@
 use Rattle.dexcanon.proofs.Common.{ap, sym, subst, append-nil, ◌∙◌, EncodedItems, EncodedSharedItems, SetPlaces}
 use Rattle.dexcanon.proofs.Rows.{next_part, string_bytes}
-use Rattle.dexcanon.proofs.body.encode_data.Goals as goal
+use Rattle.dexcanon.proofs.files.encode_data.Goals as goal
 
 pub returns : goal.returns
 returns g c =

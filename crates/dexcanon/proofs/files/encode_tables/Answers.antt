@@ -1,6 +1,6 @@
 use Rattle.dexcanon.proofs.Common.{refl, uint, field_row_bytes, method_row_bytes}
 use Rattle.dexcanon.proofs.Rows.{concat_map, next_part, type_row}
-use Rattle.dexcanon.proofs.body.encode_tables.Goals as goal
+use Rattle.dexcanon.proofs.files.encode_tables.Goals as goal
 
 pub returns : goal.returns
 returns g c =

@@ -20,7 +20,6 @@ mod methods;
 mod offsets;
 mod ref_lists;
 mod sets;
-mod shared_sets;
 mod sharing;
 mod static_values;
 mod tables;

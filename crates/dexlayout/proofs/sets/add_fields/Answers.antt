@@ -1,6 +1,6 @@
 use Rattle.dexlayout.proofs.Common.{◌++◌, take, sym, subst, arith, NumberedField, IsKnownField, SharesSets, set_use, field_uses}
 use Rattle.dexlayout.proofs.SharedUses.{uses_next}
-use Rattle.dexlayout.proofs.shared_sets.add_fields.Goals as goal
+use Rattle.dexlayout.proofs.sets.add_fields.Goals as goal
 
 pub loop-i-preserved : goal.loop-i-preserved
 loop-i-preserved c = λ m uses known h.

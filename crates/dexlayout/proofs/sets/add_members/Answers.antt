@@ -1,6 +1,6 @@
 use Rattle.dexlayout.proofs.Common.{◌∷◌, [], ◌++◌, subst, sym, refl, ap, All, OnOk, IsKnownField, IsKnownMethod, SharesSets, set_use, field_uses, methods_uses}
 use Rattle.dexlayout.proofs.SharedUses.{uses_joined}
-use Rattle.dexlayout.proofs.shared_sets.add_members.Goals as goal
+use Rattle.dexlayout.proofs.sets.add_members.Goals as goal
 
 pub returns : goal.returns
 returns c = λ m uses known h.

@@ -1,5 +1,5 @@
 use Rattle.dexlayout.proofs.Common.{◌∷◌, [], ◌++◌, map, subst, sym, ap, ◌∙◌, append_assoc, All, OnOk, IsKnownSet, SharesSets, set_use}
-use Rattle.dexlayout.proofs.shared_sets.add_method.Goals as goal
+use Rattle.dexlayout.proofs.sets.add_method.Goals as goal
 
 pub returns : goal.returns
 returns c = λ m uses known h.

@@ -1,6 +1,6 @@
 use Rattle.dexlayout.proofs.Common.{◌++◌, [], map, take, get_or, subst, arith, get_or_default, SharesSets, set_use}
 use Rattle.dexlayout.proofs.SharedUses.{uses_next}
-use Rattle.dexlayout.proofs.shared_sets.add_sets.Goals as goal
+use Rattle.dexlayout.proofs.sets.add_sets.Goals as goal
 
 pub loop-i-preserved : goal.loop-i-preserved
 loop-i-preserved c = λ m uses known h.

@@ -2,8 +2,8 @@ use Rattle.dexlayout.proofs.Common.{[], ◌∷◌, ◌++◌, take, sym, subst, a
 use Rattle.dexmembers.specs.Numbered.{AreKnownMembers}
 use Rattle.dexlayout.proofs.SharedUses.{shared_kept, shared_known, on_returned}
 use Rattle.dexlayout.proofs.SharedKinds.{set_uses_are, sets_shared}
-use Rattle.dexlayout.proofs.shared_sets.share_sets.Goals as goal
-use Rattle.dexlayout.proofs.shared_sets.share_sets.Goals.{After-finish}
+use Rattle.dexlayout.proofs.sets.share_sets.Goals as goal
+use Rattle.dexlayout.proofs.sets.share_sets.Goals.{After-finish}
 
 pub loop-i-preserved : goal.loop-i-preserved
 loop-i-preserved c = λ m known.

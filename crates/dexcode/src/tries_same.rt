@@ -75,12 +75,8 @@ impl RemappedTries<'_> {
             return true;
         }
         let handler = &self.handlers[item.handler];
-        same_handler(
-            self.remap,
-            handler,
-            others.remap,
-            &others.handlers[other.handler],
-        )
+        let other = &others.handlers[other.handler];
+        same_handler(self.remap, handler, others.remap, other)
     }
 
     // Whether the tries are equal, one for one, once the types of their handlers are remapped. Handlers are in order of

@@ -186,56 +186,46 @@ impl Data {
         requires { IsDataFrom numbering.now self.now from }
         ensures { AreEntriesOf numbering.now self.now from result }
     {
+        let first = &self.first_sections;
+        let lists = first.type_lists.count() as u32;
+        let annotations = first.annotations.places().offsets().len() as u32;
+        let arrays = count_placed(first.static_values.places().offsets()) as u32;
+        let texts = numbering.count(SymbolKind::Text) as u32;
+        let bodies = &self.bodies;
+        let debugs = bodies.debugs.count() as u32;
+        let codes = count_placed(bodies.codes.places().offsets()) as u32;
+        let class_data = count_placed(bodies.class_data.places().offsets()) as u32;
+        let back = &self.back;
+        let sets = back.sets.written().places().offsets().len() as u32;
+        let ref_lists = count_placed(back.ref_lists.places().offsets()) as u32;
+        let directories = count_placed(back.directories.places().offsets()) as u32;
+        let lists_end = first.type_lists.places().end();
+        let annotations_end = first.annotations.places().end();
+        let arrays_end = first.static_values.places().end();
+        let texts_end = first.strings.end();
+        let debugs_end = bodies.debugs.places().end();
+        let codes_end = bodies.codes.places().end();
+        let class_data_end = bodies.class_data.places().end();
+        let sets_end = back.sets.written().places().end();
+        let ref_lists_end = back.ref_lists.places().end();
         [
-            entry(
-                Section::TypeLists,
-                self.first_sections.type_lists.count() as u32,
-                round_up(from),
-            ),
-            entry(
-                Section::AnnotationItems,
-                self.first_sections.annotations.places().offsets().len() as u32,
-                self.first_sections.type_lists.places().end(),
-            ),
-            entry(
-                Section::EncodedArrayItems,
-                count_placed(self.first_sections.static_values.places().offsets()) as u32,
-                self.first_sections.annotations.places().end(),
-            ),
-            entry(
-                Section::StringDataItems,
-                numbering.count(SymbolKind::Text) as u32,
-                self.first_sections.static_values.places().end(),
-            ),
-            entry(
-                Section::DebugInfoItems,
-                self.bodies.debugs.count() as u32,
-                self.first_sections.strings.end(),
-            ),
-            entry(
-                Section::CodeItems,
-                count_placed(self.bodies.codes.places().offsets()) as u32,
-                round_up(self.bodies.debugs.places().end()),
-            ),
-            entry(
-                Section::ClassDataItems,
-                count_placed(self.bodies.class_data.places().offsets()) as u32,
-                self.bodies.codes.places().end(),
-            ),
-            entry(
-                Section::AnnotationSets,
-                self.back.sets.written().places().offsets().len() as u32,
-                round_up(self.bodies.class_data.places().end()),
-            ),
+            entry(Section::TypeLists, lists, round_up(from)),
+            entry(Section::AnnotationItems, annotations, lists_end),
+            entry(Section::EncodedArrayItems, arrays, annotations_end),
+            entry(Section::StringDataItems, texts, arrays_end),
+            entry(Section::DebugInfoItems, debugs, texts_end),
+            entry(Section::CodeItems, codes, round_up(debugs_end)),
+            entry(Section::ClassDataItems, class_data, codes_end),
+            entry(Section::AnnotationSets, sets, round_up(class_data_end)),
             entry(
                 Section::AnnotationSetRefLists,
-                count_placed(self.back.ref_lists.places().offsets()) as u32,
-                round_up(self.back.sets.written().places().end()),
+                ref_lists,
+                round_up(sets_end),
             ),
             entry(
                 Section::AnnotationsDirectories,
-                count_placed(self.back.directories.places().offsets()) as u32,
-                round_up(self.back.ref_lists.places().end()),
+                directories,
+                round_up(ref_lists_end),
             ),
         ]
     }

@@ -37,7 +37,7 @@ pub use Rattle.dexval.specs.Code.{annotation_of, annotation_step, element_of, el
 pub use Rattle.dexval.specs.Directories.{ArePairsAt, HasMembers, HasPair, IsIndexBelow, IsRefListAt, IsSetOrEmptyAt, NoDirectoryAt, NoPairsAt, NoRefListAt, NoSetOrEmptyAt, directory_weight, set_weight_in, sets_weight_in}
 pub use Rattle.dexval.specs.DirectoryCache.{AreCached, AreHeld, HaveOffsets, IsNamedOf, IsNoted}
 pub use Rattle.dexval.specs.Equality.{annotation_input, elements_input, encoded_input, equal_sets, set_decides, value_input, values_input}
-pub use Rattle.dexval.specs.Items.{HasOffsets, IsItemAt, IsRefusal, NoItemAt, NoSetAt}
+pub use Rattle.dexval.specs.Items.{HasOffsets, IsItemAt, IsRefusal, NoItemAt, NoSetAt, Refuses}
 pub use Rattle.dexval.specs.Nesting.{AreElementsReadAt, AreReadAt, HasPools, IsAnnotationReadAt, IsElementReadAt, NoAnnotationAt, NoArrayAt, NoElementAt, NoElementsAt}
 pub use Rattle.dexval.specs.Numbered.{Annotated, AreKnown, Array, BooleanLiteral, ByteLiteral, CharLiteral, Denote, Denotes, DenotesAnnotation, DenotesSet, DoubleLiteral, EnumReference, FieldReference, FloatLiteral, HaveKnown, IntLiteral, IsKnown, IsKnownAnnotation, IsKnownSet, Literal, LongLiteral, MethodReference, Named, NoElement, NoValue, NullLiteral, NumberedAnnotation, NumberedDirectory, NumberedElements, NumberedSet, NumberedValue, NumberedValues, Plain, Reference, ShortLiteral, StringReference, ThenNamed, ThenNext, TypeReference, annotation_in, directory_in, elements_in, elements_of_list, field_at, kind_of_reference, method_at, named_value, plain_value, set_in, text_at, type_at, value_in, values_in, values_of_list}
 pub use Rattle.dexval.specs.Reading.{EncodedValueAt, IsDirectoryAt, IsDirectoryFault, IsDirectoryFaultWithin, IsSetAt, IsSetFault}
@@ -48,7 +48,7 @@ unfoldable pub use Rattle.dexval.specs.Spelled.{count_bytes}
 pub use Rattle.dexval.specs.Tables.{AreNewNamed, Extends, HoldsLists, IsListed, IsPlaceIn, IsRemappedSet, NumberedTable, places_at, set_at, sets_at}
 pub use Rattle.dexval.specs.Uses.{annotation_uses, element_uses, elements_uses, set_uses, value_uses, values_uses}
 pub use Rattle.dexval.specs.declared.annotation.Annotation.{Annotation}
-pub use Rattle.dexval.specs.declared.budget.Budget.{Budget}
+pub use Rattle.dexval.specs.declared.directory_cache.Budget.{Budget}
 pub use Rattle.dexval.specs.declared.directory_cache.DirectoryCache.{DirectoryCache}
 pub use Rattle.dexval.specs.declared.directory_checking.CheckedSets.{CheckedSets}
 pub use Rattle.dexval.specs.declared.value.Element.{Element}

@@ -1,6 +1,6 @@
 -- Elements that are read one after the other: the numbers of their names rise as the names do, the elements that were
 -- read are in the file, and the other elements come after them.
-use Rattle.dexval.proofs.Common.{◌≡◌, ℕ, suc, ◌+◌, ◌-◌, ◌<◌, ◌≤◌, max, true, List, [], ◌∷◌, ◌++◌, length, refl, ap, sym, subst, ◌∙◌, arith, is_lt, length-append, rises, Uleb128At, Text, text_cmp, StringRow, TypeRow, Elements, NoElements, ThenElement, ValueAt, ElementsAt, value_depth, elements_depth, names_of, Mentions, and_first, and_second, one_uleb128, one_string, one_value, NumberedValue, NumberedElements, HaveKnown, IsKnown, elements_in, value_in, elements_of_list, text_at, type_at, HasPools, NoElementAt, IsElementReadAt, NoElementsAt, AreElementsReadAt, NoAnnotationAt, IsAnnotationReadAt, ◌≢◌, Option, Some, None, Result, Ok, Err, slice_index, MatchOption, ArePools, NumberedValues, Array, Annotated, NoValueAt, IsReadAt, NoArrayAt, AreReadAt}
+use Rattle.dexval.proofs.Common.{◌≡◌, ℕ, suc, ◌+◌, ◌-◌, ◌<◌, ◌≤◌, max, true, List, [], ◌∷◌, ◌++◌, length, refl, ap, sym, subst, ◌∙◌, arith, is_lt, length-append, rises, Uleb128At, Text, text_cmp, StringRow, TypeRow, Elements, NoElements, ThenElement, ValueAt, ElementsAt, value_depth, elements_depth, names_of, Mentions, and_first, and_second, one_uleb128, one_string, one_value, NumberedValue, NumberedElements, HaveKnown, IsKnown, elements_in, value_in, elements_of_list, text_at, type_at, HasPools, NoElementAt, IsElementReadAt, NoElementsAt, AreElementsReadAt, NoAnnotationAt, IsAnnotationReadAt, ◌≢◌, Option, Some, None, slice_index, MatchOption, ArePools, NumberedValues, Array, Annotated, NoValueAt, IsReadAt, NoArrayAt, AreReadAt}
 use Rattle.dexspec.specs.Values.{Value}
 use Rattle.dexval.proofs.Rising.{is_less, is_greater, rises_more}
 use Rattle.dexval.proofs.Shapes.{is_at_byte, value_within, array_only, annotation_only}
@@ -213,10 +213,6 @@ module _ (b : List ℕ) (m : Mentions) (file : HasPools b m) where
   }
 
 -- ---- Arrays and annotations as values
-
--- a result is not both a value and an error
-pub ok_no_err : {A E : Type 0} (r : Result A E) (x : A) (e : E) → r ≡ Ok x → r ≡ Err e → ⊥
-ok_no_err r x e p q = absurd cc
 
 module _ (b : List ℕ) (o depth : ℕ) (m : Mentions) (p : ArePools b m) where
   -- there is no value after the end

@@ -1,5 +1,5 @@
 -- A property of all members, one member at a time.
-use Rattle.dexval.proofs.Common.{◌≡◌, ℕ, ◌+◌, ◌<◌, ◌≤◌, List, [], ◌∷◌, length, take, get_or, sym, subst, All, take_more, take_all, All-nil, All-cons, All-append, All-get_or}
+use Rattle.dexval.proofs.Common.{◌≡◌, ℕ, ◌+◌, ◌<◌, ◌≤◌, List, [], ◌∷◌, length, take, get_or, sym, subst, All, take_more, take_all, All-nil, All-cons, All-append}
 
 -- one more member
 pub all_more : {X : Type 0} (P : X → Type 0) (xs : List X) (i : ℕ) (d : X) → i < length xs → d ≡ get_or xs i d → All P (take i xs) → P d → All P (take (i + 1) xs)

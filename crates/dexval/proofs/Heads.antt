@@ -1,7 +1,7 @@
 -- A value is determined by its head and its contents.
 use Rattle.dexval.proofs.Common.{◌≡◌, ◌+◌, ◌<◌, refl, ap, sym, ◌∙◌, arith, Maps, head_of, held_values, held_elements, NumberedValue, NumberedValues, NumberedElements, Plain, Named, Array, Annotated, ByteLiteral, ShortLiteral, CharLiteral, IntLiteral, LongLiteral, FloatLiteral, DoubleLiteral, NullLiteral, BooleanLiteral, StringReference, TypeReference, FieldReference, MethodReference, EnumReference, renumbered, renumbered_values, renumbered_elements, numbered_weight, numbered_values_weight, numbered_elements_weight}
-use Rattle.dexval.specs.declared.head.Head.{Head}
-use Rattle.dexval.specs.declared.head.Head.TheVariants as heads
+use Rattle.dexval.specs.declared.same.Head.{Head}
+use Rattle.dexval.specs.declared.same.Head.TheVariants as heads
 
 -- a value made of both
 abbrev made : Head → NumberedValues → NumberedElements → NumberedValue

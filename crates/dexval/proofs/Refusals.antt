@@ -1,5 +1,6 @@
 -- Refusals of annotations, sets and directories.
-use Rattle.dexval.proofs.Common.{◌≡◌, ◌∙◌, ℕ, ◌+◌, ◌-◌, ◌^◌, ◌≤◌, min, List, Result, Err, refl, ap, arith, inl, inr, IsErrAnd, DirectoryAt, ItemFault, Budget, NoSetAt, IsRefusal, NoDirectoryAt, directory_weight, IsSetFault, IsDirectoryFault, IsDirectoryFaultWithin, Counts, IsFaultWithin, IsTooHeavy}
+use Rattle.dexval.proofs.Common.{◌≡◌, ◌∙◌, ℕ, ◌+◌, ◌-◌, ◌^◌, ◌≤◌, min, List, Option, None, Some, MatchOption, Result, Err, IfSome, refl, ap, arith, inl, inr, IsErrAnd, DirectoryAt, ItemFault, Budget, Refuses, IsRefusal, directory_weight, IsDirectoryFaultWithin, Counts, IsFaultWithin, IsTooHeavy}
+use Rattle.std.specs.Prelude.{IfOk, IfErr, ok_or}
 use Rattle.std.proofs.lemmas.Result.{err_from_is_err_and}
 use Rattle.dexpool.specs.declared.faults.ItemFault.TheVariants.{Refused, Memory}
 
@@ -8,23 +9,22 @@ pub err_is : {T E : Type 0} {fault : E} (r : Result T E) → IsErrAnd r (λ y. y
 err_is r h = let e = err_from_is_err_and r h in e.1 ∙ ap (λ y. Err y) e.2
 
 -- if one statement implies another, so do their refusals
-pub refused_so : {P Q : Type 0} → (P → Q) → (fault : ItemFault) → IsRefusal P fault → IsRefusal Q fault
-refused_so so (Refused number) h = (h.0, so h.1)
-refused_so so Memory h = h
+pub refuses_so : {P Q : Type 0} (number : ℕ) → (P → Q) → (fault : ItemFault) → Refuses number P fault → Refuses number Q fault
+refuses_so number so (Refused n) h = (h.0, so h.1)
+refuses_so number so Memory h = h
 
--- no set is at the offset
-pub set_refused : {P : Type 0} (b : List ℕ) (off : ℕ) → (P → NoSetAt b off) → (fault : ItemFault) → IsRefusal P fault → IsSetFault b off fault
-set_refused b off so (Refused number) h = (h.0, so h.1)
-set_refused b off so Memory h = h
+-- the item that was found, or a refusal where nothing is there
+pub found_or : {X : Type 0} (Absent : Type 0) (Found : X → Type 0) (r : Option X) (fault : ItemFault) → MatchOption r Absent Found → IfOk (ok_or r fault) Found
+found_or Absent Found None fault h = tt
+found_or Absent Found (Some x) fault h = h
 
-pub refused_set : {P : Type 0} (b : List ℕ) (off : ℕ) → (NoSetAt b off → P) → (fault : ItemFault) → IsSetFault b off fault → IsRefusal P fault
-refused_set b off so (Refused number) h = (h.0, so h.1)
-refused_set b off so Memory h = h
+pub held_or : {X : Type 0} (P : X → Type 0) (r : Option X) (fault : ItemFault) → IfSome r P → IfOk (ok_or r fault) P
+held_or P None fault h = tt
+held_or P (Some x) fault h = h
 
--- no directory is at the offset
-pub directory_refused : {P : Type 0} (b : List ℕ) (off : ℕ) → (P → NoDirectoryAt b off) → (fault : ItemFault) → IsRefusal P fault → IsDirectoryFault b off fault
-directory_refused b off so (Refused number) h = (h.0, so h.1)
-directory_refused b off so Memory h = h
+pub refused_or : {X : Type 0} (Absent : Type 0) (Found : X → Type 0) (r : Option X) (number : ℕ) → MatchOption r Absent Found → IfErr (ok_or r (Refused number)) (Refuses number Absent)
+refused_or Absent Found None number h = (refl, h)
+refused_or Absent Found (Some x) number h = tt
 
 -- ---- items that are counted
 

@@ -1,5 +1,6 @@
 -- The weight of a numbered item is the weight of the item that it denotes.
-use Rattle.dexval.proofs.Common.{◌≡◌, ◌<◌, ℕ, ◌+◌, ◌*◌, List, [], ◌∷◌, length, map, refl, sym, ap, arith, sum_by, Option, sum_by-cons, Mentions, value_weight, values_weight, elements_weight, annotation_weight, set_weight, ref_list_weight, static_values_weight, Value, value_of, annotation_of, set_of, Literal, ByteLiteral, Reference, StringReference, NumberedValue, NumberedValues, NumberedElements, NumberedAnnotation, NumberedSet, Plain, Named, Array, Annotated, NoValue, ThenNext, NoElement, ThenNamed, plain_value, named_value, value_in, values_in, elements_in, annotation_in, set_in, values_of_list, numbered_weight, numbered_values_weight, numbered_elements_weight, numbered_annotation_weight, numbered_set_weight, set_at}
+use Rattle.dexval.proofs.Common.{◌≡◌, ◌∙◌, ◌<◌, ℕ, ◌+◌, ◌-◌, ◌*◌, ◌^◌, min, List, [], ◌∷◌, length, map, refl, sym, ap, arith, sum_by, Option, sum_by-cons, Mentions, value_weight, values_weight, elements_weight, annotation_weight, set_weight, ref_list_weight, static_values_weight, Value, value_of, annotation_of, set_of, Literal, ByteLiteral, Reference, StringReference, NumberedValue, NumberedValues, NumberedElements, NumberedAnnotation, NumberedSet, Plain, Named, Array, Annotated, NoValue, ThenNext, NoElement, ThenNamed, plain_value, named_value, value_in, values_in, elements_in, annotation_in, set_in, values_of_list, numbered_weight, numbered_values_weight, numbered_elements_weight, numbered_annotation_weight, numbered_set_weight, set_at}
+use Rattle.dexval.specs.Writing.{weight_of_sets}
 use Rattle.dexval.specs.declared.annotation.Annotation.{Annotation as CodeAnnotation}
 use Rattle.dexval.specs.declared.set.AnnotationSet.{AnnotationSet}
 
@@ -44,11 +45,6 @@ sets_sum_is m [] = refl
 sets_sum_is m (x ∷ xs) =
     omega (arith, sum_by-cons (λ s. 4 + numbered_set_weight (set_of s)) x xs, sum_by-cons set_weight (set_in m (set_of x)) (map (set_in m) (map set_of xs)), set_weight_is m (set_of x), sets_sum_is m xs)
 
--- sets, at least one
-pub sets_weight_is : (m : Mentions) (xs : List AnnotationSet) → 0 < length xs → 8 + sum_by (λ s. 4 + numbered_set_weight (set_of s)) xs ≡ ref_list_weight (map (set_in m) (map set_of xs))
-sets_weight_is m [] some = absurd (omega arith)
-sets_weight_is m (x ∷ xs) some = omega (arith, sets_sum_is m (x ∷ xs))
-
 -- static values, at least one
 pub statics_weight_is : (m : Mentions) (xs : List Value) → 0 < length xs → 6 + numbered_values_weight (values_of_list (map value_of xs)) ≡ static_values_weight (values_in m (values_of_list (map value_of xs)))
 statics_weight_is m [] some = absurd (omega arith)
@@ -60,9 +56,16 @@ annotations_sum [] = refl
 annotations_sum (x ∷ xs) =
     omega (arith, sum_by-cons (λ a. 4 + numbered_annotation_weight (annotation_of a)) x xs, sum_by-cons (λ (a : NumberedAnnotation). 4 + numbered_annotation_weight a) (annotation_of x) (map annotation_of xs), annotations_sum xs)
 
-pub annotations_weight_is : (xs : List CodeAnnotation) → 0 < length xs → 8 + sum_by (λ a. 4 + numbered_annotation_weight (annotation_of a)) xs ≡ numbered_set_weight (map annotation_of xs)
-annotations_weight_is [] some = absurd (omega arith)
-annotations_weight_is (x ∷ xs) some = ap (λ (n : ℕ). 8 + n) (annotations_sum (x ∷ xs))
+-- the weight of a set, by its annotations
+pub annotations_weigh : (xs : List CodeAnnotation) (weight : ℕ) → (length xs ≡ 0 → weight ≡ 0) → (0 < length xs → weight ≡ min (2 ^ 64 - 1) (8 + sum_by (λ a. 4 + numbered_annotation_weight (annotation_of a)) xs))
+    → weight ≡ min (2 ^ 64 - 1) (numbered_set_weight (map annotation_of xs))
+annotations_weigh [] weight none some = omega (arith, none refl)
+annotations_weigh (x ∷ xs) weight none some = some (omega arith) ∙ ap (λ (n : ℕ). min (2 ^ 64 - 1) (8 + n)) (annotations_sum (x ∷ xs))
+
+-- the weight of a list of sets, by its sets
+pub sets_weigh : (m : Mentions) (xs : List AnnotationSet) (weight : ℕ) → (length xs ≡ 0 → weight ≡ 0) → (0 < length xs → weight ≡ min (2 ^ 64 - 1) (8 + sum_by (λ s. 4 + numbered_set_weight (set_of s)) xs)) → weight ≡ min (2 ^ 64 - 1) (weight_of_sets m xs)
+sets_weigh m [] weight none some = omega (arith, none refl)
+sets_weigh m (x ∷ xs) weight none some = omega (arith, some (omega arith), sets_sum_is m (x ∷ xs))
 
 places_sum : (m : Mentions) (sets : List NumberedSet) (ps : List (Option ℕ)) → sum_by (λ p. 4 + set_weight (set_in m (set_at sets p))) ps ≡ 4 * length (map (set_in m) (map (set_at sets) ps)) + sum_by set_weight (map (set_in m) (map (set_at sets) ps))
 places_sum m sets [] = refl

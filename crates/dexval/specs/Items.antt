@@ -26,7 +26,11 @@ pub record HasOffsets (b : List ℕ) (off : ℕ) : Type 0 where
   pub in_data : IsInData b off (4 + 4 * uint_at b off)
   pub aligned : off % 4 ≡ 0
 
--- a fault that refuses a part of a directory refuses the directory; a failed allocation says nothing
+-- a refusal has this number and says this; a failed allocation says nothing
+abbrev pub Refuses : ℕ → Type 0 → ItemFault → Type 0
+Refuses number P (Refused n) = (n ≡ number) × P
+Refuses number P Memory = Unit {0}
+
+-- a fault that refuses a part of a directory refuses the directory
 abbrev pub IsRefusal : Type 0 → ItemFault → Type 0
-IsRefusal P (Refused number) = (number ≡ 22) × P
-IsRefusal P Memory = Unit {0}
+IsRefusal = Refuses 22

@@ -7,6 +7,7 @@ use Rattle.dexspec.specs.Mentions.{Mentions}
 use Rattle.dexpool.specs.declared.faults.ItemFault.{ItemFault}
 use Rattle.dexpool.specs.declared.faults.ItemFault.TheVariants.{Refused, Memory}
 use Rattle.dexval.specs.Directories.{directory_weight}
+use Rattle.dexval.specs.Items.{Refuses}
 use Rattle.dexval.specs.Numbered.{NumberedValue, NumberedValues, NumberedSet, NumberedDirectory, IsKnown, AreKnown, IsKnownSet, IsKnownDirectory, value_in, values_in, set_in, directory_in}
 
 -- an encoded_value that nests at most `most_depth` deep is at offset o of the data
@@ -22,8 +23,7 @@ pub record IsValueAt (b : List ℕ) (off : ℕ) (m : Mentions) (x : NumberedValu
 
 -- no value is at the offset; a failed allocation says nothing
 abbrev pub IsValueFault : List ℕ → ℕ → ItemFault → Type 0
-IsValueFault b off (Refused number) = (number ≡ 21) × ((v : Value) (n : ℕ) → EncodedValueAt b off v n → ⊥)
-IsValueFault b off Memory = Unit {0}
+IsValueFault b off = Refuses 21 ((v : Value) (n : ℕ) → EncodedValueAt b off v n → ⊥)
 
 -- an encoded_array_item of the values is at the offset
 pub record AreStaticsAt (b : List ℕ) (off : ℕ) (m : Mentions) (xs : NumberedValues) : Type 0 where
@@ -32,8 +32,7 @@ pub record AreStaticsAt (b : List ℕ) (off : ℕ) (m : Mentions) (xs : Numbered
 
 -- no encoded_array_item is at the offset
 abbrev pub IsStaticsFault : List ℕ → ℕ → ItemFault → Type 0
-IsStaticsFault b off (Refused number) = (number ≡ 21) × ((vs : Values) (n : ℕ) → EncodedArrayItemAt b off vs n → ⊥)
-IsStaticsFault b off Memory = Unit {0}
+IsStaticsFault b off = Refuses 21 ((vs : Values) (n : ℕ) → EncodedArrayItemAt b off vs n → ⊥)
 
 -- an annotation_set_item of the set is at the offset
 pub record IsSetAt (b : List ℕ) (off : ℕ) (m : Mentions) (s : NumberedSet) : Type 0 where
@@ -42,8 +41,7 @@ pub record IsSetAt (b : List ℕ) (off : ℕ) (m : Mentions) (s : NumberedSet) :
 
 -- no annotation_set_item is at the offset
 abbrev pub IsSetFault : List ℕ → ℕ → ItemFault → Type 0
-IsSetFault b off (Refused number) = (number ≡ 22) × ((s : AnnotationSet) → SetAt b off s → ⊥)
-IsSetFault b off Memory = Unit {0}
+IsSetFault b off = Refuses 22 ((s : AnnotationSet) → SetAt b off s → ⊥)
 
 -- an annotations_directory_item of the directory is at the offset
 pub record IsDirectoryAt (b : List ℕ) (off : ℕ) (m : Mentions) (d : NumberedDirectory) : Type 0 where
@@ -52,8 +50,7 @@ pub record IsDirectoryAt (b : List ℕ) (off : ℕ) (m : Mentions) (d : Numbered
 
 -- no annotations_directory_item is at the offset
 abbrev pub IsDirectoryFault : List ℕ → ℕ → ItemFault → Type 0
-IsDirectoryFault b off (Refused number) = (number ≡ 22) × ((d : Directory) → DirectoryAt b off d → ⊥)
-IsDirectoryFault b off Memory = Unit {0}
+IsDirectoryFault b off = Refuses 22 ((d : Directory) → DirectoryAt b off d → ⊥)
 
 -- an annotations_directory_item of the directory is at the offset, and its sets and lists of sets weigh at most `most`;
 -- 2^64 - 1 is no bound

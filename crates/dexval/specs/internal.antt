@@ -3,4 +3,3 @@ pub mod Counting
 pub mod Found
 pub mod Heads
 pub mod Scalars
-pub mod Weights

@@ -1,5 +1,8 @@
 //! Annotations, with numbers instead of symbols.
 
+ghost use Rattle.std.specs.Prelude.{◌≡◌};
+ghost use Rattle.dexval.specs.Code.{visibility_of};
+
 use crate::value::EncodedAnnotation;
 
 /// The visibility of an annotation.
@@ -22,4 +25,17 @@ pub enum Visibility {
 pub struct Annotation {
     pub visibility: Visibility,
     pub annotation: EncodedAnnotation,
+}
+
+impl Visibility {
+    /// The number of the visibility.
+    pub(crate) fn number(self) -> u8
+        ensures { result ≡ visibility_of self }
+    {
+        match self {
+            Visibility::Build => 0,
+            Visibility::Runtime => 1,
+            Visibility::System => 2,
+        }
+    }
 }

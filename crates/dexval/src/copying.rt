@@ -3,9 +3,7 @@
 ghost use Rattle.std.specs.Prelude.{◌≡◌, IfOk, map};
 ghost use Rattle.dexval.specs.Code.{value_of, element_of, encoded_of, annotation_of, set_of};
 
-use crate::annotation::Annotation;
-use crate::set::AnnotationSet;
-use crate::value::{Element, EncodedAnnotation, Value};
+use crate::{Annotation, AnnotationSet, Element, EncodedAnnotation, Value};
 use std::alloc::AllocError;
 
 // The same value.

@@ -5,8 +5,7 @@ ghost use Rattle.dexval.specs.Code.{set_of, directory_of, member_sets, member_li
 ghost use Rattle.dexval.specs.Shared.{sets_of_members, lists_of_members, shared_directory_of, HoldsItsPlaces};
 ghost use Rattle.dexval.specs.Tables.{IsPlaceIn, set_at, sets_at};
 
-use crate::set::AnnotationSet;
-use crate::set_table::SetTable;
+use crate::{AnnotationSet, SetTable};
 use std::alloc::{AllocError, Global};
 
 /// The annotations of a class, and for each annotated member a pair of its number and its annotations, in the order

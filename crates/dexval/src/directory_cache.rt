@@ -8,16 +8,42 @@ ghost use Rattle.dexspec.specs.Weight.{set_weight};
 ghost use Rattle.dexval.specs.DirectoryCache.{AreHeld, AreCached};
 ghost use Rattle.dexval.specs.Reading.{IsSetAt, IsSetFault};
 ghost use Rattle.dexval.specs.Tables.{set_at};
-ghost use Rattle.dexval.specs.internal.Counting.{IsFile, IsCacheOf, IsSetNoted, HasCountedSet, HasCountedSetOrEmpty, IsFaultWithin};
+ghost use Rattle.dexval.specs.internal.Counting.{IsFile, IsCacheOf, IsSetNoted, HasCountedSet, HasCountedSetOrEmpty, IsFaultWithin, Counts, IsTooHeavy};
 
-use crate::budget::Budget;
-use crate::file_source::FileSource;
-use crate::set::AnnotationSet;
-use crate::set_reading::read_set;
-use crate::set_table::SetTable;
-use dexpool::ItemFault;
+use crate::{AnnotationSet, SetTable, read_set};
+use dexhead::{Condition, Frame};
+use dexpool::{ItemFault, Pools};
 use std::alloc::Global;
 use std::collections::HashMap;
+
+/// The file that annotations are read from: its frame, its pools, and the allocator for the items read.
+#[derive(Clone, Copy)]
+pub(crate) struct FileSource<'s, 'f, 'p> {
+    pub(crate) alloc: Global,
+    pub(crate) frame: &'s Frame<'f>,
+    pub(crate) pools: &'s Pools<'p>,
+}
+
+/// The items read so far weigh `weight`, or 2^64 - 1 if they weigh more, and may weigh at most `most`.
+#[derive(Drop)]
+pub(crate) struct Budget {
+    pub(crate) weight: u64,
+    pub(crate) most: u64,
+}
+
+impl Budget {
+    /// Counts another item. Error: the items weigh more than `most`.
+    pub(crate) fn add(&mut self, weight: u64) -> Result<(), ItemFault>
+        ensures counted { OnOk result (Counts self.old self.new weight) }
+        ensures refused { IfErr result (IsTooHeavy self.old weight) }
+    {
+        self.weight = self.weight.saturating_add(weight);
+        if self.weight > self.most {
+            return Err(ItemFault::Refused(Condition::Weight as u8));
+        }
+        Ok(())
+    }
+}
 
 /// The cache of a directory: the items that were read, and their places by offset.
 #[derive(Drop)]

@@ -11,14 +11,12 @@ ghost use Rattle.dexval.specs.CheckedSets.{AreChecked};
 ghost use Rattle.dexval.specs.Results.{HasDirectoryShape, AreMemberCounts};
 ghost use Rattle.dexval.specs.internal.Counting.{IsFaultOf, HasSetOrEmptyOf, HasRefListOf, HasPairsOf};
 
-use crate::directory::MemberCounts;
 use crate::directory_member::{ListOfMember, OfMember, SetOfMember};
-use crate::directory_reading::{PairRange, list_weight, member_counts, pair_at};
-use crate::file_source::uint_at;
-use crate::set_checking::check_set;
-use crate::set_reading::count_at;
-use dexhead::{Condition, Frame};
-use dexpool::{ItemFault, Pools, SymbolKind};
+use crate::directory_reading::{PairRange, directory_pairs, list_weight, pair_at};
+use crate::set_reading::{count_at, uint_at};
+use crate::{MemberCounts, check_set};
+use dexhead::Frame;
+use dexpool::{ItemFault, Pools};
 use std::alloc::Global;
 use std::collections::HashMap;
 
@@ -184,35 +182,18 @@ pub fn check_directory(
     ensures refused { ArePools frame.now pools.now → IfErr result (IsDirectoryFault frame.now off) }
 {
     pools.numbering().is_numbering();
-    let counts = match member_counts(frame, off) {
-        Some(counts) => counts,
-        None => return Err(ItemFault::Refused(Condition::Annotations as u8)),
-    };
+    let pairs = directory_pairs(frame, pools, off)?;
     let own_off = uint_at(frame, off as usize);
     let own = checked_set_at(frame, pools, own_off, checked)?;
-    let limit = pools.len(SymbolKind::Field);
-    let field_pairs = PairRange {
-        at: off as usize + 16,
-        count: counts.fields,
-        limit,
-    };
-    let fields = members_weight::<SetOfMember>(frame, pools, &field_pairs, checked)?;
-    let limit = pools.len(SymbolKind::Method);
-    let method_pairs = PairRange {
-        at: field_pairs.at + 8 * counts.fields as usize,
-        count: counts.methods,
-        limit,
-    };
-    let methods = members_weight::<SetOfMember>(frame, pools, &method_pairs, checked)?;
-    let parameter_pairs = PairRange {
-        at: method_pairs.at + 8 * counts.methods as usize,
-        count: counts.parameters,
-        limit,
-    };
-    let parameters = members_weight::<ListOfMember>(frame, pools, &parameter_pairs, checked)?;
+    let fields = members_weight::<SetOfMember>(frame, pools, &pairs.fields, checked)?;
+    let methods = members_weight::<SetOfMember>(frame, pools, &pairs.methods, checked)?;
+    let parameters = members_weight::<ListOfMember>(frame, pools, &pairs.parameters, checked)?;
     let weight = own
         .saturating_add(fields)
         .saturating_add(methods)
         .saturating_add(parameters);
-    Ok(DirectoryShape { counts, weight })
+    Ok(DirectoryShape {
+        counts: pairs.counts,
+        weight,
+    })
 }

@@ -12,11 +12,9 @@ ghost use Rattle.dexval.specs.DirectoryCache.{AreHeld};
 ghost use Rattle.dexval.specs.Tables.{NumberedTable, Extends, IsListed, IsPlaceIn, set_at, sets_at};
 ghost use Rattle.dexval.specs.internal.Counting.{IsFaultAt, HasItemOf, IsFile, IsCacheOf, IsItemNoted, HasCountedItem, IsFaultWithin};
 
-use crate::budget::Budget;
-use crate::directory_cache::{DirectoryCache, counted_set_at};
+use crate::directory_cache::{Budget, DirectoryCache, FileSource, counted_set_at};
 use crate::directory_checking::{CheckedSets, checked_list_at, checked_set_at};
 use crate::directory_reading::counted_list_at;
-use crate::file_source::FileSource;
 use dexhead::Frame;
 use dexpool::{ItemFault, Pools};
 

@@ -11,14 +11,12 @@ ghost use Rattle.dexval.specs.DirectoryCache.{AreHeld};
 ghost use Rattle.dexval.specs.Reading.{IsDirectoryFault, IsDirectoryFaultWithin};
 ghost use Rattle.dexval.specs.Shared.{IsTight};
 ghost use Rattle.dexval.specs.Results.{IsReadDirectory, IsReadWithin, AreMemberCounts};
-ghost use Rattle.dexval.specs.internal.Counting.{IsFile, IsCacheOf, AreSetsNoted, IsListNoted, AreAllNoted, HasCountedSets, HasCountedList, HaveCountedPairs, HasCountedParts, ArePlacesHeld, NamesAllPlaces, IsPairAt, IsFaultWithin, IsPairsFault};
+ghost use Rattle.dexval.specs.internal.Counting.{IsFile, IsCacheOf, AreSetsNoted, IsListNoted, AreAllNoted, HasCountedSets, HasCountedList, HaveCountedPairs, ArePairsOf, IsPairAt, IsFaultWithin, IsPairsFault};
 
-use crate::budget::Budget;
 use crate::directory::{Directory, MemberCounts, SharedDirectory};
-use crate::directory_cache::{DirectoryCache, counted_set_or_empty_at};
+use crate::directory_cache::{Budget, DirectoryCache, FileSource, counted_set_or_empty_at};
 use crate::directory_member::{ListOfMember, OfMember, SetOfMember};
-use crate::file_source::{FileSource, uint_at};
-use crate::set_reading::count_at;
+use crate::set_reading::{count_at, uint_at};
 use dexhead::{Condition, Frame, u32_at};
 use dexpool::{ItemFault, Pools, SymbolKind};
 use std::alloc::Global;
@@ -50,6 +48,60 @@ pub fn member_counts(frame: &Frame<'_>, off: u32) -> Option<MemberCounts>
         return None;
     }
     Some(MemberCounts {
+        fields,
+        methods,
+        parameters,
+    })
+}
+
+/// Pairs of a member and an offset: `count` pairs from an offset on, each with the number of a member below the limit.
+#[derive(Clone, Copy)]
+pub(crate) struct PairRange {
+    pub(crate) at: usize,
+    pub(crate) count: u32,
+    pub(crate) limit: usize,
+}
+
+/// The pairs of a directory, for the members of each kind that it annotates.
+#[derive(Clone, Copy)]
+pub(crate) struct DirectoryPairs {
+    pub(crate) counts: MemberCounts,
+    pub(crate) fields: PairRange,
+    pub(crate) methods: PairRange,
+    pub(crate) parameters: PairRange,
+}
+
+/// The pairs of the annotations_directory_item at an offset. Error: the counts and all pairs are not inside the data at
+/// a multiple of 4.
+pub(crate) fn directory_pairs(
+    frame: &Frame<'_>,
+    pools: &Pools<'_>,
+    off: u32,
+) -> Result<DirectoryPairs, ItemFault>
+    ensures pairs { IfOk result (ArePairsOf frame.now off pools.now) }
+    ensures refused { IfErr result (IsRefusal (HasMembers frame.now off → ⊥)) }
+{
+    let Some(counts) = member_counts(frame, off) else {
+        return Err(ItemFault::Refused(Condition::Annotations as u8));
+    };
+    let fields = PairRange {
+        at: off as usize + 16,
+        count: counts.fields,
+        limit: pools.len(SymbolKind::Field),
+    };
+    let limit = pools.len(SymbolKind::Method);
+    let methods = PairRange {
+        at: fields.at + 8 * counts.fields as usize,
+        count: counts.methods,
+        limit,
+    };
+    let parameters = PairRange {
+        at: methods.at + 8 * counts.methods as usize,
+        count: counts.parameters,
+        limit,
+    };
+    Ok(DirectoryPairs {
+        counts,
         fields,
         methods,
         parameters,
@@ -146,14 +198,6 @@ pub(crate) fn counted_list_at(
     Ok(place)
 }
 
-/// Pairs of a member and an offset: `count` pairs from an offset on, each with the number of a member below the limit.
-#[derive(Clone, Copy)]
-pub(crate) struct PairRange {
-    pub(crate) at: usize,
-    pub(crate) count: u32,
-    pub(crate) limit: usize,
-}
-
 // The members of these pairs, by their numbers, with the place of the item of each, which is counted. Error: the pairs
 // are not there, or their items are too heavy.
 fn members_at<T: OfMember>(
@@ -185,69 +229,8 @@ fn members_at<T: OfMember>(
     Ok(members)
 }
 
-// The places that a directory names.
-#[derive(Drop)]
-struct Places {
-    own: Option<u32>,
-    fields: Vec<(u32, u32)>,
-    methods: Vec<(u32, u32)>,
-    parameters: Vec<(u32, u32)>,
-}
-
-// The places that the annotations_directory_item at an offset names. Its sets are counted one by one. Error: there is no
-// directory, or it is too heavy.
-fn counted_directory_at(
-    source: &FileSource<'_, '_, '_>,
-    off: u32,
-    cache: &mut DirectoryCache,
-    budget: &mut Budget,
-) -> Result<Places, ItemFault>
-    requires held { AreHeld cache.old }
-    requires cache { IsFile source.now → IsCacheOf source.now cache.old }
-    requires none { cache.old.table ≡ record { sets = []; lists = [] } }
-    ensures held { IfOk result (ArePlacesHeld cache.new.table) }
-    ensures named { IfOk result (NamesAllPlaces cache.new.table) }
-    ensures read { IsFile source.now
-        → IfOk result (HasCountedParts source.now off budget.old budget.new cache.new) }
-    ensures refused { IsFile source.now → IfErr result (IsFaultWithin
-        (DirectoryAt source.now.frame.now off) directory_weight budget.old.weight budget.old.most) }
-{
-    let counts = match member_counts(source.frame, off) {
-        Some(counts) => counts,
-        None => return Err(ItemFault::Refused(Condition::Annotations as u8)),
-    };
-    let own_off = uint_at(source.frame, off as usize);
-    let own = counted_set_or_empty_at(source, own_off, cache, budget)?;
-    let limit = source.pools.len(SymbolKind::Field);
-    let field_pairs = PairRange {
-        at: off as usize + 16,
-        count: counts.fields,
-        limit,
-    };
-    let fields = members_at::<SetOfMember>(source, &field_pairs, cache, budget)?;
-    let limit = source.pools.len(SymbolKind::Method);
-    let method_pairs = PairRange {
-        at: field_pairs.at + 8 * counts.fields as usize,
-        count: counts.methods,
-        limit,
-    };
-    let methods = members_at::<SetOfMember>(source, &method_pairs, cache, budget)?;
-    let parameter_pairs = PairRange {
-        at: method_pairs.at + 8 * counts.methods as usize,
-        count: counts.parameters,
-        limit,
-    };
-    let parameters = members_at::<ListOfMember>(source, &parameter_pairs, cache, budget)?;
-    Ok(Places {
-        own,
-        fields,
-        methods,
-        parameters,
-    })
-}
-
-// The directory of the annotations_directory_item at an offset, if its sets weigh at most `most`. Error: there is no
-// directory, or it is too heavy.
+// The directory of the annotations_directory_item at an offset, if its sets weigh at most `most`. Its sets are counted
+// one by one. Error: there is no directory, or it is too heavy.
 fn directory_at(
     alloc: Global,
     frame: &Frame<'_>,
@@ -268,13 +251,23 @@ fn directory_at(
         frame,
         pools,
     };
-    let places = counted_directory_at(&source, off, &mut cache, &mut budget)?;
+    let pairs = directory_pairs(frame, pools, off)?;
+    let own_off = uint_at(frame, off as usize);
+    let own = counted_set_or_empty_at(&source, own_off, &mut cache, &mut budget)?;
+    let fields = members_at::<SetOfMember>(&source, &pairs.fields, &mut cache, &mut budget)?;
+    let methods = members_at::<SetOfMember>(&source, &pairs.methods, &mut cache, &mut budget)?;
+    let parameters = members_at::<ListOfMember>(
+        &source,
+        &pairs.parameters,
+        &mut cache,
+        &mut budget,
+    )?;
     Ok(SharedDirectory {
         table: cache.table,
-        own: places.own,
-        fields: places.fields,
-        methods: places.methods,
-        parameters: places.parameters,
+        own,
+        fields,
+        methods,
+        parameters,
     })
 }
 

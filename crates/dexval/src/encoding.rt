@@ -8,13 +8,12 @@ ghost use Rattle.dexval.specs.Code.{value_of, element_of, encoded_type, encoded_
 ghost use Rattle.dexval.specs.Numbered.{values_of_list, elements_of_list};
 ghost use Rattle.dexval.specs.Spelled.{count_bytes, numbered_bytes, numbered_array_bytes, numbered_values_bytes, numbered_elements_bytes, encoded_annotation_bytes, numbered_annotation_bytes};
 
-use crate::annotation::Annotation;
 use crate::type_codes::{
     ANNOTATION, ARRAY, BOOLEAN, BYTE, CHAR, DOUBLE, ENUM, FIELD, FLOAT, INT, LONG, METHOD, NULL,
     SHORT, STRING, TYPE,
 };
-use crate::value::{Element, EncodedAnnotation, Value};
 use crate::widths::{bits_width, magnitude, signed_width, unsigned_width};
+use crate::{Annotation, Element, EncodedAnnotation, Value};
 use byteorder::{ByteOrder, LittleEndian};
 use dexhead::{Encode, Output};
 
@@ -152,19 +151,14 @@ fn encode_elements<O: Output>(elements: &[Element], out: &mut O)
     }
 }
 
-/// A value, to be encoded as an encoded_value.
-#[derive(Drop)]
-pub(crate) struct ValueItem<'a> {
-    pub(crate) value: &'a Value,
-}
-
-impl Encode for ValueItem<'_> {
+// As an encoded_value.
+impl Encode for Value {
     ghost formed = { λ _. ⊤ };
 
-    ghost bytes = { λ i. numbered_bytes (value_of i.value.now) };
+    ghost bytes = { λ v. numbered_bytes (value_of v) };
 
     fn encode<O: Output>(&self, out: &mut O) {
-        encode_value(self.value, out);
+        encode_value(self, out);
     }
 }
 

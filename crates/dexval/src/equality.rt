@@ -1,10 +1,17 @@
 //! Sets of annotations that are the same are equal by `==`, and have equal hash input.
 
 ghost use Rattle.std.specs.Cmp.{partial_equiv_from_equiv};
-ghost use Rattle.dexval.specs.Equality.{equal_sets, equal_sets_equiv, set_input, equal_sets_agree, IsSetEquality, DependsOnSet};
+ghost use Rattle.dexval.specs.Equality.{equal_sets, equal_sets_equiv, set_input, equal_sets_agree, IsSetEquality, DependsOnSet, value_input, values_input, elements_input, encoded_input, annotation_input};
+ghost use Rattle.std.specs.Prelude.{◌≡◌, ◌++◌, fold, map};
+ghost use Rattle.std.specs.Hash as fed;
+ghost use Rattle.dexval.specs.Code.{value_of, encoded_type, encoded_elements, annotation_of, elements_of, set_from};
+ghost use Rattle.dexval.specs.Numbered.{values_of_list};
 
-use crate::hashing::hash_annotations;
-use crate::set::AnnotationSet;
+use crate::type_codes::{
+    ANNOTATION, ARRAY, BOOLEAN, BYTE, CHAR, DOUBLE, ENUM, FIELD, FLOAT, INT, LONG, METHOD, NULL,
+    SHORT, STRING, TYPE,
+};
+use crate::{Annotation, AnnotationSet, Element, EncodedAnnotation, Value};
 use dexpool::Remap;
 use std::hash::{Hash, Hasher};
 
@@ -40,3 +47,94 @@ pub fn set_equality_law()
     ensures equal { IsSetEquality ⟦<AnnotationSet as PartialEq>⟧.eq }
     ensures hashed { DependsOnSet ⟦<AnnotationSet as Hash>⟧.hash_input }
 {}
+
+// Feeds a type code, then the number.
+fn hash_coded<T: Hash, H: Hasher>(code: u8, number: &T, state: &mut H)
+    ensures { state.new ≡ fold H.write state.old (fed.u8 code ++ T.hash_input number.now) }
+{
+    state.write_u8(code);
+    number.hash(state);
+}
+
+// Feeds a value.
+#[cycle(hashing)]
+fn hash_value<H: Hasher>(value: &Value, state: &mut H)
+    ensures { state.new ≡ fold H.write state.old (value_input (value_of value.now)) }
+{
+    match value {
+        Value::Byte(number) => hash_coded(BYTE, number, state),
+        Value::Short(number) => hash_coded(SHORT, number, state),
+        Value::Char(unit) => hash_coded(CHAR, unit, state),
+        Value::Int(number) => hash_coded(INT, number, state),
+        Value::Long(number) => hash_coded(LONG, number, state),
+        Value::Float(bits) => hash_coded(FLOAT, bits, state),
+        Value::Double(bits) => hash_coded(DOUBLE, bits, state),
+        Value::String(number) => hash_coded(STRING, number, state),
+        Value::Typ(number) => hash_coded(TYPE, number, state),
+        Value::Field(number) => hash_coded(FIELD, number, state),
+        Value::Method(number) => hash_coded(METHOD, number, state),
+        Value::Enum(number) => hash_coded(ENUM, number, state),
+        Value::Array(values) => {
+            hash_coded(ARRAY, &values.len(), state);
+            hash_values(values, state);
+        }
+        Value::Annotation(annotation) => {
+            state.write_u8(ANNOTATION);
+            hash_encoded(annotation, state);
+        }
+        Value::Null => state.write_u8(NULL),
+        Value::Boolean(is) => hash_coded(BOOLEAN, is, state),
+    }
+}
+
+// Feeds values.
+#[cycle(hashing)]
+fn hash_values<H: Hasher>(values: &[Value], state: &mut H)
+    ensures { state.new
+        ≡ fold H.write state.old (values_input (values_of_list (map value_of values.now))) }
+{
+    for value in values {
+        hash_value(value, state);
+    }
+}
+
+// Feeds an encoded_annotation.
+#[cycle(hashing)]
+fn hash_encoded<H: Hasher>(annotation: &EncodedAnnotation, state: &mut H)
+    ensures { state.new ≡ fold H.write state.old
+        (encoded_input (encoded_type annotation.now) (encoded_elements annotation.now)) }
+{
+    annotation.typ.hash(state);
+    annotation.elements.len().hash(state);
+    hash_elements(&annotation.elements, state);
+}
+
+// Feeds the names of elements and their values.
+#[cycle(hashing)]
+fn hash_elements<H: Hasher>(elements: &[Element], state: &mut H)
+    ensures { state.new ≡ fold H.write state.old (elements_input (elements_of elements.now)) }
+{
+    for element in elements {
+        element.name.hash(state);
+        hash_value(&element.value, state);
+    }
+}
+
+// Feeds an annotation.
+fn hash_annotation<H: Hasher>(annotation: &Annotation, state: &mut H)
+    ensures { state.new ≡ fold H.write state.old (annotation_input (annotation_of annotation.now)) }
+{
+    state.write_u8(annotation.visibility.number());
+    hash_encoded(&annotation.annotation, state);
+}
+
+/// Feeds annotations, after their count.
+pub(crate) fn hash_annotations<H: Hasher>(annotations: &[Annotation], state: &mut H)
+    ensures { state.new
+        ≡ fold H.write state.old (fed.slice annotation_input (set_from annotations.now)) }
+{
+    annotations.len().hash(state);
+    for annotation in annotations {
+        hash_annotation(annotation, state);
+    }
+}

@@ -17,9 +17,9 @@ pub(crate) struct Measure {
     pub(crate) weight: u64,
 }
 
-// The unsigned number at an offset, and its size.
+/// The unsigned number at an offset, and its size.
 #[inline(always)]
-fn number_at(bytes: &[u8], at: usize) -> Option<(u32, usize)>
+pub(crate) fn number_at(bytes: &[u8], at: usize) -> Option<(u32, usize)>
     requires { at ≤ length bytes.now }
     ensures found { FindsUleb128 bytes.now at result }
     ensures some { IfSome result (λ read. 1 ≤ read.1) }

@@ -1,16 +1,16 @@
 //! Writes values and annotations.
 
-ghost use Rattle.std.specs.Prelude.{◌<◌, ◌≤◌, length, IsOk};
+ghost use Rattle.std.specs.Prelude.{◌<◌, ◌≤◌, length, IsOk, ◌≡◌, ℕ, ◌-◌, ◌^◌, List, min};
 ghost use Rattle.dexspec.specs.Mentions.{Mentions};
 ghost use Rattle.dexspec.specs.internal.Writing.{Puts};
 ghost use Rattle.dexval.specs.Code.{value_of, annotation_of, values_of};
 ghost use Rattle.dexval.specs.Spelled.{numbered_bytes, numbered_array_bytes, numbered_annotation_bytes};
-ghost use Rattle.dexval.specs.Writing.{PutsValue, PutsStatics, PutsAnnotation, statics_length, annotation_length, weight_of_value, weight_of_statics, weight_of_annotation, HasRoom, HasRoomForStatics};
+ghost use Rattle.dexval.specs.Writing.{PutsValue, PutsStatics, PutsAnnotation, statics_length, annotation_length, weight_of_value, weight_of_statics, weight_of_annotation, HasRoom, HasRoomForStatics, IsAnnotationSize};
+ghost use Rattle.dexspec.specs.Spellings.{offsets_bytes};
 
-use crate::annotation::Annotation;
-use crate::encoding::{ArrayItem, ValueItem};
-use crate::value::Value;
-use dexhead::put_encoded;
+use crate::encoding::ArrayItem;
+use crate::{Annotation, AnnotationSet, Value};
+use dexhead::{encoded_len, put_encoded};
 use dexpool::Numbering;
 use std::alloc::AllocError;
 
@@ -35,7 +35,7 @@ pub fn put_value(
     ensures room { (m : Mentions) → HasRoom out.old (weight_of_value m value.now) → IsOk result }
 {
     numbering.is_numbering();
-    put_encoded(&ValueItem { value }, out)
+    put_encoded(value, out)
 }
 
 /// Appends the initial values of static fields (an encoded_array_item), each as [`put_value`] does.
@@ -85,4 +85,26 @@ pub fn put_annotation(
 {
     numbering.is_numbering();
     put_encoded(annotation, out)
+}
+
+/// The number of bytes that [`put_annotation`](crate::put_annotation) appends for the annotation, or 2^64 - 1 if they
+/// are more. It is the size of the annotation that it denotes in a numbering.
+///
+/// Source: "annotation_item" and "encoded_annotation format".
+pub fn annotation_size(annotation: &Annotation) -> u64
+    ensures size { result
+        ≡ min (2 ^ 64 - 1) (length (numbered_annotation_bytes (annotation_of annotation.now))) }
+    ensures symbolic { IsAnnotationSize (annotation_of annotation.now) result }
+{
+    encoded_len(annotation) as u64
+}
+
+/// The size of an annotation_set_ref_list of these sets, wherever they are: four bytes, and four for each set.
+///
+/// Source: "annotation_set_ref_list".
+pub fn ref_list_size(sets: &[AnnotationSet]) -> u64
+    ensures { (offsets : List ℕ) → length offsets ≡ length sets.now
+        → result ≡ length (offsets_bytes offsets) }
+{
+    4 + 4 * sets.len() as u64
 }

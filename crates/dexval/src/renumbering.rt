@@ -7,9 +7,7 @@ ghost use Rattle.dexval.specs.Numbered.{values_of_list, elements_of_list};
 ghost use Rattle.dexval.specs.Renumbering.{remapped, renumbered, renumbered_values, renumbered_elements, renumbered_element, renumbered_annotation, renumbered_set, HasPlaces, HavePlaces, ElementHasPlaces, ElementsHavePlaces, AnnotationHasPlaces, SetHasPlaces};
 ghost use Rattle.dexpool.specs.Images.{IsMapped};
 
-use crate::annotation::Annotation;
-use crate::set::AnnotationSet;
-use crate::value::{Element, EncodedAnnotation, Value};
+use crate::{Annotation, AnnotationSet, Element, EncodedAnnotation, Value};
 use dexpool::{Remap, SymbolKind};
 
 /// The number that the number of a symbol of a kind maps to.

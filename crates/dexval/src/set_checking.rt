@@ -78,8 +78,5 @@ pub fn check_set(frame: &Frame<'_>, pools: &Pools<'_>, off: u32) -> Result<SetSh
     ensures number { IfErr result (λ fault. fault ≡ Refused 22) }
 {
     pools.numbering().is_numbering();
-    match set_shape(frame, pools, off) {
-        Some(shape) => Ok(shape),
-        None => Err(ItemFault::Refused(Condition::Annotations as u8)),
-    }
+    set_shape(frame, pools, off).ok_or(ItemFault::Refused(Condition::Annotations as u8))
 }

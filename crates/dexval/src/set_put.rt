@@ -9,9 +9,7 @@ ghost use Rattle.dexval.specs.Code.{annotation_of, set_of, set_from};
 ghost use Rattle.dexval.specs.Spelled.{numbered_offsets, numbered_set_bytes};
 ghost use Rattle.dexval.specs.Writing.{PutsSet, HasRoomForSet};
 
-use crate::annotation::Annotation;
-use crate::set::AnnotationSet;
-use crate::sizes::annotation_size;
+use crate::{Annotation, AnnotationSet, annotation_size};
 use dexhead::Output;
 use dexpool::Numbering;
 use std::alloc::AllocError;

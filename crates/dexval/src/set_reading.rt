@@ -1,6 +1,6 @@
 //! Reads sets of annotations from a file.
 
-ghost use Rattle.std.specs.Prelude.{◌≡◌, ◌<◌, IfOk, IfErr, MatchOption};
+ghost use Rattle.std.specs.Prelude.{◌≡◌, ◌+◌, ◌<◌, ◌≤◌, length, IfOk, IfErr, MatchOption};
 ghost use Rattle.dexspec.specs.Bytes.{uint_at};
 ghost use Rattle.dexpool.specs.Pools.{ArePools};
 ghost use Rattle.dexval.specs.Code.{visibility_of};
@@ -10,12 +10,10 @@ ghost use Rattle.dexval.specs.Items.{NoItemAt, HasOffsets, IsRefusal};
 ghost use Rattle.dexval.specs.Results.{IsReadSet};
 ghost use Rattle.dexval.specs.internal.Found.{IsOffsetCount, IsReadItem};
 
-use crate::annotation::{Annotation, Visibility};
-use crate::file_source::uint_at;
 use crate::nesting::ValueReader;
-use crate::set::AnnotationSet;
 use crate::value_reading::MOST_DEPTH;
-use dexhead::{Condition, Frame};
+use crate::{Annotation, AnnotationSet, Visibility};
+use dexhead::{Condition, Frame, u32_at};
 use dexpool::{ItemFault, Pools};
 use std::alloc::Global;
 
@@ -53,14 +51,24 @@ fn item_at(
         alloc,
         bytes,
         pools,
+        number: Condition::Annotations as u8,
     };
-    match reader.annotation_at(at + 1, MOST_DEPTH)? {
-        Some((annotation, _)) => Ok(Annotation {
-            visibility,
-            annotation,
-        }),
-        None => Err(ItemFault::Refused(Condition::Annotations as u8)),
-    }
+    let (annotation, _) = reader.annotation_at(at + 1, MOST_DEPTH)?;
+    Ok(Annotation {
+        visibility,
+        annotation,
+    })
+}
+
+/// The number that the four bytes at an offset of a file encode.
+///
+/// Condition: the four bytes are there.
+#[inline(always)]
+pub(crate) fn uint_at(frame: &Frame<'_>, at: usize) -> u32
+    requires { at + 4 ≤ length frame.now }
+    ensures { result ≡ uint_at frame.now at }
+{
+    u32_at(frame.bytes(), at)
 }
 
 /// The number of offsets of an annotation_set_item or an annotation_set_ref_list at an offset, or `None` if the item is
@@ -84,10 +92,7 @@ pub(crate) fn count_at(frame: &Frame<'_>, off: u32) -> Result<u32, ItemFault>
         × (count ≡ uint_at frame.now off)) }
     ensures refused { IfErr result (IsRefusal (HasOffsets frame.now off → ⊥)) }
 {
-    match offset_count(frame, off) {
-        Some(count) => Ok(count),
-        None => Err(ItemFault::Refused(Condition::Annotations as u8)),
-    }
+    offset_count(frame, off).ok_or(ItemFault::Refused(Condition::Annotations as u8))
 }
 
 /// Reads the annotation_set_item at an offset, and the annotations that it refers to. Their indices refer to the pools,

@@ -59,10 +59,7 @@ pub fn check_value(frame: &Frame<'_>, pools: &Pools<'_>, off: u32) -> Result<Val
     ensures refused { ArePools frame.now pools.now → IfErr result (IsValueFault frame.now off) }
     ensures number { IfErr result (λ fault. fault ≡ Refused 21) }
 {
-    match value_shape(frame, pools, off) {
-        Some(shape) => Ok(shape),
-        None => Err(ItemFault::Refused(Condition::Values as u8)),
-    }
+    value_shape(frame, pools, off).ok_or(ItemFault::Refused(Condition::Values as u8))
 }
 
 // The shape of the encoded_array_item at an offset, or `None` if there is none.
@@ -99,8 +96,5 @@ pub fn check_statics(
     ensures refused { ArePools frame.now pools.now → IfErr result (IsStaticsFault frame.now off) }
     ensures number { IfErr result (λ fault. fault ≡ Refused 21) }
 {
-    match statics_shape(frame, pools, off) {
-        Some(shape) => Ok(shape),
-        None => Err(ItemFault::Refused(Condition::Values as u8)),
-    }
+    statics_shape(frame, pools, off).ok_or(ItemFault::Refused(Condition::Values as u8))
 }

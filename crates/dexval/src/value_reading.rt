@@ -41,11 +41,10 @@ pub fn read_value(
         alloc,
         bytes: frame.bytes(),
         pools,
+        number: Condition::Values as u8,
     };
-    match reader.value_at(off as usize, MOST_DEPTH)? {
-        Some((value, size)) => Ok((value, size as u32)),
-        None => Err(ItemFault::Refused(Condition::Values as u8)),
-    }
+    let (value, size) = reader.value_at(off as usize, MOST_DEPTH)?;
+    Ok((value, size as u32))
 }
 
 /// Reads the encoded_array_item at an offset: the initial values of the static fields of a class.
@@ -73,9 +72,8 @@ pub fn read_statics(
         alloc,
         bytes,
         pools,
+        number: Condition::Values as u8,
     };
-    match reader.array_at(at, MOST_DEPTH)? {
-        Some((values, _)) => Ok(values),
-        None => Err(ItemFault::Refused(Condition::Values as u8)),
-    }
+    let (values, _) = reader.array_at(at, MOST_DEPTH)?;
+    Ok(values)
 }

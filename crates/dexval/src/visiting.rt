@@ -1,15 +1,16 @@
-//! Visits the symbols that occur in values and in sets of annotations.
+//! Visits the symbols that occur in values and in sets of annotations: marks them, and checks whether their numbers map
+//! to numbers of 32 bits.
 
-ghost use Rattle.std.specs.Prelude.{map};
+ghost use Rattle.std.specs.Prelude.{map, All, ◌↔◌, IsTrue};
 ghost use Rattle.std.specs.List.{FoldsTo};
 ghost use Rattle.dexval.specs.Code.{value_of, element_of, encoded_of, annotation_of, set_of, elements_of};
 ghost use Rattle.dexval.specs.Numbered.{values_of_list};
 ghost use Rattle.dexval.specs.Uses.{value_uses, values_uses, element_uses, elements_uses, annotation_uses, set_uses};
+ghost use Rattle.dexpool.specs.Uses.{HasMark, AreMarkedToo};
+ghost use Rattle.dexval.specs.Renumbering.{HasPlaces, HavePlaces, SetHasPlaces};
 
-use crate::annotation::Annotation;
-use crate::set::AnnotationSet;
-use crate::value::{Element, EncodedAnnotation, Value};
-use dexpool::{SymbolKind, Symbols, Visitor, visit_all};
+use crate::{Annotation, AnnotationSet, Element, EncodedAnnotation, Value};
+use dexpool::{Fits, Marks, Remap, SymbolKind, Symbols, Visitor, all_fit, mark, visit_all};
 
 // Passes the names of elements, and the symbols that occur in their values, to the visitor.
 #[cycle(visiting)]
@@ -32,6 +33,28 @@ pub fn visit_values<V: Visitor>(values: &[Value], visitor: &mut V)
     }
 }
 
+/// Marks each symbol that occurs in values, as those of static fields.
+///
+/// Condition: there is a mark for each of them.
+#[tactic(auto, using(dexpool::proofs::Visits::all_marked))]
+pub fn mark_values(values: &[Value], marks: &mut Marks)
+    requires { All (HasMark marks.old) (values_uses (values_of_list (map value_of values.now))) }
+    ensures { AreMarkedToo
+        (values_uses (values_of_list (map value_of values.now))) marks.old marks.new }
+{
+    visit_values(values, marks);
+}
+
+/// Whether each number of a symbol in values, as those of static fields, maps to a number below 2^32.
+#[tactic(auto, using(dexpool::proofs::Visits::all_fit))]
+pub fn values_fit(values: &[Value], remap: &Remap) -> bool
+    ensures { IsTrue result ↔ HavePlaces remap.now (values_of_list (map value_of values.now)) }
+{
+    let mut fits = Fits { remap, fit: true };
+    visit_values(values, &mut fits);
+    fits.fit
+}
+
 impl Value {
     /// Passes each symbol that occurs in the value to the visitor, in order.
     #[cycle(visiting)]
@@ -48,6 +71,27 @@ impl Value {
             Value::Annotation(annotation) => annotation.visit(visitor),
             _ => {}
         }
+    }
+
+    /// Marks each symbol that occurs in the value.
+    ///
+    /// Condition: there is a mark for each of them.
+    #[tactic(auto, using(dexpool::proofs::Visits::all_marked))]
+    pub fn mark(&self, marks: &mut Marks)
+        requires { All (HasMark marks.old) (value_uses (value_of self.now)) }
+        ensures { AreMarkedToo (value_uses (value_of self.now)) marks.old marks.new }
+    {
+        self.visit(marks);
+    }
+
+    /// Whether each number of a symbol in the value maps to a number below 2^32.
+    #[tactic(auto, using(dexpool::proofs::Visits::all_fit))]
+    pub fn fits(&self, remap: &Remap) -> bool
+        ensures { IsTrue result ↔ HasPlaces remap.now (value_of self.now) }
+    {
+        let mut fits = Fits { remap, fit: true };
+        self.visit(&mut fits);
+        fits.fit
     }
 }
 
@@ -86,5 +130,24 @@ impl Symbols for AnnotationSet {
 
     fn visit<V: Visitor>(&self, visitor: &mut V) {
         visit_all(&self.annotations, visitor);
+    }
+}
+
+impl AnnotationSet {
+    /// Marks each symbol that occurs in the annotations.
+    ///
+    /// Condition: there is a mark for each of them.
+    pub fn mark(&self, marks: &mut Marks)
+        requires { All (HasMark marks.old) (set_uses (set_of self.now)) }
+        ensures { AreMarkedToo (set_uses (set_of self.now)) marks.old marks.new }
+    {
+        mark(self, marks);
+    }
+
+    /// Whether each number of a symbol in the annotations maps to a number below 2^32.
+    pub fn fits(&self, remap: &Remap) -> bool
+        ensures { IsTrue result ↔ SetHasPlaces remap.now (set_of self.now) }
+    {
+        all_fit(self, remap)
     }
 }

@@ -1,6 +1,6 @@
 //! The weights of values and annotations.
 
-ghost use Rattle.std.specs.Prelude.{◌≡◌, ◌+◌, ◌-◌, ◌^◌, ℕ, min, map, sum_by};
+ghost use Rattle.std.specs.Prelude.{◌≡◌, ◌<◌, ◌+◌, ◌-◌, ◌^◌, ℕ, length, min, map, sum_by};
 ghost use Rattle.std.specs.Fn.{FnReturnsAt};
 ghost use Rattle.dexspec.specs.Mentions.{Mentions};
 ghost use Rattle.dexspec.specs.Weight.{value_weight, set_weight};
@@ -8,11 +8,8 @@ ghost use Rattle.dexval.specs.Code.{value_of, encoded_of, set_of, elements_of};
 ghost use Rattle.dexval.specs.Numbered.{value_in, set_in, values_of_list};
 ghost use Rattle.dexval.specs.Spelled.{numbered_weight, numbered_values_weight, numbered_elements_weight, numbered_set_weight};
 ghost use Rattle.dexval.specs.Writing.{weight_of_statics, weight_of_sets};
-ghost use Rattle.dexval.specs.internal.Weights.{weight_of_annotations};
 
-use crate::annotation::Annotation;
-use crate::set::AnnotationSet;
-use crate::value::{Element, EncodedAnnotation, Value};
+use crate::{AnnotationSet, Element, EncodedAnnotation, Value};
 
 // The weight of a value, or 2^64 - 1 if it weighs more.
 #[cycle(weighing)]
@@ -61,13 +58,18 @@ fn annotation_weight(annotation: &EncodedAnnotation) -> u64
     12u64.saturating_add(elements_weight(&annotation.elements))
 }
 
-// The weight of items in a list: 8, and for each item its weight and 4 for its offset, or 2^64 - 1 if that is more.
+// The weight of items in a list: 8, and for each item its weight and 4 for its offset, or 2^64 - 1 if that is more. An
+// empty list weighs nothing.
 fn listed_weight<T, F: Fn(&T) -> u64>(items: &[T], weight_of: F) -> u64
     requires { F.IsAlwaysCallable weight_of }
-    ensures { (weighs : T → ℕ) → ((item : T) (weight : ℕ)
+    ensures none { length items.now ≡ 0 → result ≡ 0 }
+    ensures some { 0 < length items.now → (weighs : T → ℕ) → ((item : T) (weight : ℕ)
         → FnReturnsAt F.Fn weight_of item weight → weight ≡ min (2 ^ 64 - 1) (weighs item))
         → result ≡ min (2 ^ 64 - 1) (8 + sum_by (λ item. 4 + weighs item) items.now) }
 {
+    if items.is_empty() {
+        return 0;
+    }
     let mut weight: u64 = 8;
     for item in items {
         weight = weight.saturating_add(4).saturating_add(weight_of(item));
@@ -75,30 +77,11 @@ fn listed_weight<T, F: Fn(&T) -> u64>(items: &[T], weight_of: F) -> u64
     weight
 }
 
-// The weight of annotations in a set: each has an annotation_item and an offset.
-fn annotations_weight(annotations: &[Annotation]) -> u64
-    ensures { result ≡ min (2 ^ 64 - 1) (weight_of_annotations annotations.now) }
-{
-    listed_weight(annotations, |item| annotation_weight(&item.annotation))
-}
-
-// The weight of sets in a list: each has its annotations and an offset.
-fn sets_weight(sets: &[AnnotationSet]) -> u64
-    ensures { result
-        ≡ min (2 ^ 64 - 1) (8 + sum_by (λ s. 4 + numbered_set_weight (set_of s)) sets.now) }
-{
-    listed_weight(sets, |set| set_weight(set))
-}
-
-// The weight of a set.
-#[tactic(auto, using(crate::proofs::Weights::annotations_weight_is))]
+// The weight of a set: each annotation has an annotation_item and an offset.
 fn set_weight(set: &AnnotationSet) -> u64
     ensures { result ≡ min (2 ^ 64 - 1) (numbered_set_weight (set_of set.now)) }
 {
-    if set.annotations.is_empty() {
-        return 0;
-    }
-    annotations_weight(&set.annotations)
+    listed_weight(&set.annotations, |item| annotation_weight(&item.annotation))
 }
 
 impl Value {
@@ -126,14 +109,10 @@ impl AnnotationSet {
 
 /// The weight of the sets of a method's parameters, with the list of them, or 2^64 - 1 if they weigh more. An empty
 /// list weighs nothing.
-#[tactic(auto, using(crate::proofs::Weights::sets_weight_is))]
 pub fn parameter_sets_weight(sets: &[AnnotationSet]) -> u64
     ensures { (m : Mentions) → result ≡ min (2 ^ 64 - 1) (weight_of_sets m sets.now) }
 {
-    if sets.is_empty() {
-        return 0;
-    }
-    sets_weight(sets)
+    listed_weight(sets, |set| set_weight(set))
 }
 
 /// The weight of the initial values of static fields, or 2^64 - 1 if they weigh more. An empty list weighs nothing.

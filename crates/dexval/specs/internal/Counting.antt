@@ -1,26 +1,25 @@
 -- Items of a file that are read into the cache of a directory, and counted against a budget; and items that are
 -- checked.
-use Rattle.std.specs.Prelude.{◌≡◌, ◌⊎◌, ℕ, ◌+◌, ◌-◌, ◌^◌, ◌<◌, ◌≤◌, min, List, Option, Some, All, map, sum_by}
+use Rattle.std.specs.Prelude.{◌≡◌, ◌⊎◌, ℕ, ◌+◌, ◌-◌, ◌*◌, ◌^◌, ◌<◌, ◌≤◌, min, length, List, Option, Some, All, map, sum_by}
 use Rattle.std.specs.Global.{Vec}
 use Rattle.std.specs.List.{Contains}
 use Rattle.dexspec.specs.Bytes.{uint_at}
-use Rattle.dexspec.specs.Annotations.{PairsAt}
+use Rattle.dexspec.specs.Annotations.{PairsAt, fields_count, methods_count, parameters_count}
 use Rattle.dexspec.specs.Mentions.{Mentions}
 use Rattle.dexpool.specs.declared.faults.ItemFault.{ItemFault}
 use Rattle.dexpool.specs.declared.faults.ItemFault.TheVariants.{Refused, Memory}
-use Rattle.dexval.specs.declared.budget.Budget.{Budget}
+use Rattle.dexval.specs.declared.directory_cache.Budget.{Budget}
 use Rattle.dexval.specs.declared.directory_cache.DirectoryCache.{DirectoryCache}
 use Rattle.dexval.specs.declared.directory_reading.PairRange.{PairRange}
-use Rattle.dexval.specs.declared.directory_reading.Places.{Places}
-use Rattle.dexval.specs.declared.file_source.FileSource.{FileSource}
+use Rattle.dexval.specs.declared.directory_reading.DirectoryPairs.{DirectoryPairs}
+use Rattle.dexval.specs.declared.directory_cache.FileSource.{FileSource}
 use Rattle.dexval.specs.CheckedSets.{IsWeighed}
-use Rattle.dexval.specs.Directories.{IsKnownAt, IsSetOrEmptyAt, IsRefListAt, IsIndexBelow, HasPair, ArePairsAt, NoPairsAt, directory_weight, set_weight_in, sets_weight_in}
+use Rattle.dexval.specs.Directories.{IsKnownAt, IsSetOrEmptyAt, IsRefListAt, IsIndexBelow, HasPair, ArePairsAt, NoPairsAt, set_weight_in, sets_weight_in}
 use Rattle.dexval.specs.DirectoryCache.{AreCached, IsNoted, IsNamedOf}
 use Rattle.dexval.specs.Items.{IsRefusal}
 use Rattle.dexval.specs.Nesting.{HasPools}
-use Rattle.dexval.specs.Numbered.{directory_in}
-use Rattle.dexval.specs.Reading.{IsSetAt, IsDirectoryAt}
-use Rattle.dexval.specs.Shared.{HoldsPlaces, NamesAll, looked_up}
+use Rattle.dexval.specs.Reading.{IsSetAt}
+use Rattle.dexval.specs.Results.{AreMemberCounts}
 use Rattle.dexval.specs.Tables.{NumberedTable, IsPlaceIn, IsListed, set_at, sets_at}
 
 -- ---- the file and the cache
@@ -111,22 +110,18 @@ HaveCountedPairs is_known inside encodes weighs of source pairs old new cache me
 abbrev pub IsPairsFault : {Y : Type 0} → (List ℕ → ℕ → Y → Type 0) → (Y → ℕ) → List ℕ → PairRange → Budget → ItemFault → Type 0
 IsPairsFault encodes weighs b pairs budget = IsFaultWithin (PairsAt (IsIndexBelow pairs.limit) encodes b pairs.at pairs.count) (sum_by (λ e. weighs e.1)) budget.weight budget.most
 
--- the directory at the offset, by the places of its parts
-abbrev pub HasCountedParts : FileSource → ℕ → Budget → Budget → DirectoryCache → Places → Type 0
-HasCountedParts source off old new cache places =
-    HasCounted (IsDirectoryAt source.frame.now off source.pools.now) (λ d. directory_weight (directory_in source.pools.now d)) old new (looked_up cache.table places.own places.fields.items places.methods.items places.parameters.items)
-
--- ---- places
-
--- each place is one of the table's
-abbrev pub ArePlacesHeld : NumberedTable → Places → Type 0
-ArePlacesHeld t places = HoldsPlaces t places.own places.fields.items places.methods.items places.parameters.items
-
--- each set and each list of the table is at one of the places
-abbrev pub NamesAllPlaces : NumberedTable → Places → Type 0
-NamesAllPlaces t places = NamesAll t places.own places.fields.items places.methods.items places.parameters.items
-
 -- ---- pairs and faults
+
+-- the pairs are at the offset, with this count, of members below the limit
+abbrev pub IsRange : PairRange → ℕ → ℕ → ℕ → Type 0
+IsRange pairs at count limit = (pairs.at ≡ at) × (pairs.count ≡ count) × (pairs.limit ≡ limit)
+
+-- the pairs of the directory at the offset
+pub record ArePairsOf (b : List ℕ) (off : ℕ) (m : Mentions) (pairs : DirectoryPairs) : Type 0 where
+  pub counts_are : AreMemberCounts b off pairs.counts
+  pub fields_are : IsRange pairs.fields (off + 16) (fields_count b off) (length m.fields)
+  pub methods_are : IsRange pairs.methods (off + 16 + 8 * fields_count b off) (methods_count b off) (length m.methods)
+  pub parameters_are : IsRange pairs.parameters (off + 16 + 8 * fields_count b off + 8 * methods_count b off) (parameters_count b off) (length m.methods)
 
 -- the number and the offset of a pair
 abbrev pub IsPairAt : List ℕ → ℕ → ℕ → ℕ → ℕ × ℕ → Type 0

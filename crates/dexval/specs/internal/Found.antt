@@ -24,9 +24,13 @@ use Rattle.dexval.specs.internal.Scalars.{Spells, NoValueAt, IsReadAt}
 
 -- ---- numbers
 
+-- no uleb128 is at the offset
+abbrev pub NoNumberAt : List ℕ → ℕ → Type 0
+NoNumberAt b o = (v n : ℕ) → Uleb128At b o v n → ⊥
+
 -- a uleb128 and its size, or none is at the offset
 abbrev pub FindsUleb128 : List ℕ → ℕ → Option (ℕ × ℕ) → Type 0
-FindsUleb128 b o found = MatchOption found ((v n : ℕ) → Uleb128At b o v n → ⊥) (λ read. Uleb128At b o read.0 read.1)
+FindsUleb128 b o found = MatchOption found (NoNumberAt b o) (λ read. Uleb128At b o read.0 read.1)
 
 -- the bytes of a number of at most `width` bytes, which are after the first byte of a value, or there is no such number
 abbrev pub FindsNumber : List ℕ → ℕ → ℕ → Option (Bor (List ℕ)) → Type 0
@@ -42,25 +46,25 @@ SpellsValue m code bytes value = Spells m code bytes (value_of value)
 abbrev pub FindsScalar : List ℕ → ℕ → Mentions → Option (Value × ℕ) → Type 0
 FindsScalar b o m found = MatchOption found ((depth : ℕ) → NoValueAt b o depth) (λ read. IsReadAt b o m 0 (value_of read.0) read.1)
 
--- a value that nests at most `depth` deep, and its size, or none is at the offset
-abbrev pub FindsValue : List ℕ → ℕ → Mentions → ℕ → Option (Value × ℕ) → Type 0
-FindsValue b o m depth found = MatchOption found (NoValueAt b o depth) (λ read. IsReadAt b o m depth (value_of read.0) read.1)
+-- a value that nests at most `depth` deep, and its size
+abbrev pub IsValueRead : List ℕ → ℕ → Mentions → ℕ → Value × ℕ → Type 0
+IsValueRead b o m depth read = IsReadAt b o m depth (value_of read.0) read.1
 
 -- the values of an encoded_array, and its size
-abbrev pub FindsArray : List ℕ → ℕ → Mentions → ℕ → Option (Vec Value × ℕ) → Type 0
-FindsArray b o m depth found = MatchOption found (NoArrayAt b o depth) (λ read. AreReadAt b o m depth (values_of read.0.items) read.1)
+abbrev pub IsArrayRead : List ℕ → ℕ → Mentions → ℕ → Vec Value × ℕ → Type 0
+IsArrayRead b o m depth read = AreReadAt b o m depth (values_of read.0.items) read.1
 
 -- an element whose name has at least the number `least`, and its size
-abbrev pub FindsElement : List ℕ → ℕ → Mentions → ℕ → ℕ → Option (Element × ℕ) → Type 0
-FindsElement b o m depth least found = MatchOption found (NoElementAt b o depth least) (λ read. IsElementReadAt b o m depth least (element_of read.0) read.1)
+abbrev pub IsElementRead : List ℕ → ℕ → Mentions → ℕ → ℕ → Element × ℕ → Type 0
+IsElementRead b o m depth least read = IsElementReadAt b o m depth least (element_of read.0) read.1
 
 -- `count` elements whose names rise strictly, and their size
-abbrev pub FindsElements : List ℕ → ℕ → Mentions → ℕ → ℕ → Option (Vec Element × ℕ) → Type 0
-FindsElements b o m depth count found = MatchOption found (NoElementsAt b o depth count) (λ read. AreElementsReadAt b o m depth count (elements_of read.0.items) read.1)
+abbrev pub AreElementsRead : List ℕ → ℕ → Mentions → ℕ → ℕ → Vec Element × ℕ → Type 0
+AreElementsRead b o m depth count read = AreElementsReadAt b o m depth count (elements_of read.0.items) read.1
 
 -- an encoded_annotation, and its size
-abbrev pub FindsAnnotation : List ℕ → ℕ → Mentions → ℕ → Option (EncodedAnnotation × ℕ) → Type 0
-FindsAnnotation b o m depth found = MatchOption found (NoAnnotationAt b o depth) (λ read. IsAnnotationReadAt b o m depth (encoded_type read.0) (encoded_elements read.0) read.1)
+abbrev pub IsAnnotationRead : List ℕ → ℕ → Mentions → ℕ → EncodedAnnotation × ℕ → Type 0
+IsAnnotationRead b o m depth read = IsAnnotationReadAt b o m depth (encoded_type read.0) (encoded_elements read.0) read.1
 
 -- ---- values that are checked
 

@@ -1,7 +1,7 @@
 -- Values without their contents.
 use Rattle.std.specs.Prelude.{ℕ}
-use Rattle.dexval.specs.declared.head.Head.{Head}
-use Rattle.dexval.specs.declared.head.Head.TheVariants as heads
+use Rattle.dexval.specs.declared.same.Head.{Head}
+use Rattle.dexval.specs.declared.same.Head.TheVariants as heads
 use Rattle.dexpool.specs.Numberings.{Maps}
 use Rattle.dexval.specs.declared.value.Value.{Value}
 use Rattle.dexval.specs.Code.{value_of}

@@ -1,13 +1,13 @@
 use Rattle.dexval.proofs.Common.{Some, arith, SetAt, set_weight, one_set, set_in, set_at}
 use Rattle.dexval.proofs.Keeping.{counts_as}
-use Rattle.dexval.proofs.Refusals.{err_is, refused_set, refused_within, item_refused}
+use Rattle.dexval.proofs.Refusals.{err_is, refuses_so, refused_within, item_refused}
 use Rattle.dexval.proofs.directory_cache.counted_set_at.Goals as goal
 
 pub returns-in_err-place-clause-refused : goal.returns-in_err-place-clause-refused
 returns-in_err-place-clause-refused c = λ p.
     let b = c.args.source.now.frame.now in
     let fault = c.in_err-place.field-0.0 in
-    rw (err_is c.from_residual.result c.from_residual.ensures.1) (refused_within (SetAt b c.args.off) set_weight c.args.budget.now.weight c.args.budget.now.most (λ none. none) fault (refused_set b c.args.off (λ none. none) fault (c.in_err-place.ensures.refused p)))
+    rw (err_is c.from_residual.result c.from_residual.ensures.1) (refused_within (SetAt b c.args.off) set_weight c.args.budget.now.weight c.args.budget.now.most (λ none. none) fault (refuses_so 22 (λ none. none) fault (c.in_err-place.ensures.refused p)))
 
 pub returns-in_err-add-clause-refused : goal.returns-in_err-add-clause-refused
 returns-in_err-add-clause-refused c = λ p.

@@ -1,7 +1,7 @@
 use Rattle.dexval.proofs.Common.{[], refl, sym, arith, CheckedSets, IsSetOrEmptyAt, set_weight_in, IsSetAt}
 use Rattle.dexval.proofs.DirectoryRead.{empty_set, some_set, no_set}
 use Rattle.dexval.proofs.DirectoryChecked.{weighed_as, set_weighed, set_added}
-use Rattle.dexval.proofs.Refusals.{err_is, refused_set}
+use Rattle.dexval.proofs.Refusals.{err_is, refuses_so}
 use Rattle.dexval.proofs.directory_checking.checked_set_at.Goals as goal
 
 pub returns-then-off-eq0-clause-weight : goal.returns-then-off-eq0-clause-weight
@@ -15,7 +15,7 @@ returns-in-Some-clause-weight c = λ p.
 
 pub returns-in_err-shape-clause-refused : goal.returns-in_err-shape-clause-refused
 returns-in_err-shape-clause-refused c = λ p.
-    rw (err_is c.from_residual.result c.from_residual.ensures.1) (refused_set c.args.frame.now c.args.off (no_set c.args.frame.now c.args.off (omega arith)) c.in_err-shape.field-0.0 (c.in_err-shape.ensures.refused p.pools))
+    rw (err_is c.from_residual.result c.from_residual.ensures.1) (refuses_so 22 (no_set c.args.frame.now c.args.off (omega arith)) c.in_err-shape.field-0.0 (c.in_err-shape.ensures.refused p.pools))
 
 pub returns-clause-checked : goal.returns-clause-checked
 returns-clause-checked c = λ p.

@@ -2,17 +2,17 @@ use Rattle.dexval.proofs.Common.{◌≡◌, ◌+◌, ◌*◌, ℕ, List, [], sum
 use Rattle.dexval.proofs.DirectoryRead.{HaveReadList, no_list_yet, one_set_more, no_set_next, no_list_room, list_read}
 use Rattle.dexval.proofs.DirectoryChecked.{one_weighed, weighed_as}
 use Rattle.dexval.proofs.Keeping.{list_adds, list_weighs}
-use Rattle.dexval.proofs.Refusals.{err_is, refused_so}
+use Rattle.dexval.proofs.Refusals.{err_is, refuses_so}
 use Rattle.dexval.proofs.directory_checking.listed_weight.Goals as goal
 
 pub returns-in_err-count-clause-refused : goal.returns-in_err-count-clause-refused
 returns-in_err-count-clause-refused c = λ p.
-    rw (err_is c.from_residual.result c.from_residual.ensures.1) (refused_so (no_list_room c.args.frame.now c.args.off) c.in_err-count.field-0.0 c.in_err-count.ensures.refused)
+    rw (err_is c.from_residual.result c.from_residual.ensures.1) (refuses_so 22 (no_list_room c.args.frame.now c.args.off) c.in_err-count.field-0.0 c.in_err-count.ensures.refused)
 
 pub returns-in_err-set-clause-refused : goal.returns-in_err-set-clause-refused
 returns-in_err-set-clause-refused c = λ p.
     let b = c.args.frame.now in
-    rw (err_is c.from_residual-in_err-set.result c.from_residual-in_err-set.ensures.1) (refused_so (λ none. no_set_next b c.args.off c.loop-i.i (omega (arith, c.in_ok-count.ensures.count.1)) (subst (NoSetOrEmptyAt b) c.uint_at-set_off.ensures none)) c.in_err-set.field-0.0 (c.in_err-set.ensures.refused p))
+    rw (err_is c.from_residual-in_err-set.result c.from_residual-in_err-set.ensures.1) (refuses_so 22 (λ none. no_set_next b c.args.off c.loop-i.i (omega (arith, c.in_ok-count.ensures.count.1)) (subst (NoSetOrEmptyAt b) c.uint_at-set_off.ensures none)) c.in_err-set.field-0.0 (c.in_err-set.ensures.refused p))
 
 pub loop-i-init : goal.loop-i-init
 loop-i-init c = record { checked = c.requires; weighed = λ p. record { item = []; is_read = no_list_yet c.args.frame.now (c.args.off + 4) c.args.pools.now; weight_is = omega arith } }

@@ -2,7 +2,7 @@ use Rattle.dexval.proofs.Common.{◌≡◌, ◌+◌, ◌*◌, ◌++◌, ◌∷�
 use Rattle.dexval.proofs.DirectoryRead.{HaveReadPairs, no_pair_yet, one_pair_more, no_pair_next, no_item_next, pairs_end}
 use Rattle.dexval.proofs.DirectoryChecked.{one_weighed, weighed_as}
 use Rattle.dexval.proofs.Keeping.{members_add}
-use Rattle.dexval.proofs.Refusals.{err_is, refused_so}
+use Rattle.dexval.proofs.Refusals.{err_is, refuses_so}
 use Rattle.dexval.proofs.directory_checking.members_weight.Goals as goal
 
 pub checked_at-requires-clause-other : goal.checked_at-requires-clause-other
@@ -12,13 +12,13 @@ pub returns-in_err-number-clause-refused : goal.returns-in_err-number-clause-ref
 returns-in_err-number-clause-refused g c = λ p.
     let m = c.args.pools.now in
     let h = c.loop-i.invariant.weighed p in
-    rw (err_is c.from_residual.result c.from_residual.ensures.1) (refused_so (no_pair_next (g.T.OfMember.is_known m) (g.T.OfMember.inside m) g.T.OfMember.encodes c.args.frame.now c.args.pairs.now.at c.args.pairs.now.count c.args.pairs.now.limit c.loop-i.i c.loop-i.least h.item (omega arith) h.is_read) c.in_err-number.field-0.0 c.in_err-number.ensures.refused)
+    rw (err_is c.from_residual.result c.from_residual.ensures.1) (refuses_so 22 (no_pair_next (g.T.OfMember.is_known m) (g.T.OfMember.inside m) g.T.OfMember.encodes c.args.frame.now c.args.pairs.now.at c.args.pairs.now.count c.args.pairs.now.limit c.loop-i.i c.loop-i.least h.item (omega arith) h.is_read) c.in_err-number.field-0.0 c.in_err-number.ensures.refused)
 
 pub returns-in_err-item-clause-refused : goal.returns-in_err-item-clause-refused
 returns-in_err-item-clause-refused g c = λ p.
     let encodes = g.T.OfMember.encodes in
     let b = c.args.frame.now in
-    rw (err_is c.from_residual-in_err-item.result c.from_residual-in_err-item.ensures.1) (refused_so (λ none. no_item_next encodes b c.args.pairs.now.at c.args.pairs.now.count c.args.pairs.now.limit c.loop-i.i (omega arith) (subst (λ (o : ℕ). (y : g.T.OfMember.Meant) → encodes b o y → ⊥) c.in_ok-number.ensures.pair.2 none)) c.in_err-item.field-0.0 (c.in_err-item.ensures.refused p))
+    rw (err_is c.from_residual-in_err-item.result c.from_residual-in_err-item.ensures.1) (refuses_so 22 (λ none. no_item_next encodes b c.args.pairs.now.at c.args.pairs.now.count c.args.pairs.now.limit c.loop-i.i (omega arith) (subst (λ (o : ℕ). (y : g.T.OfMember.Meant) → encodes b o y → ⊥) c.in_ok-number.ensures.pair.2 none)) c.in_err-item.field-0.0 (c.in_err-item.ensures.refused p))
 
 pub loop-i-init : goal.loop-i-init
 loop-i-init g c = record {

@@ -1,12 +1,12 @@
 use Rattle.dexval.proofs.Common.{◌≡◌, ◌+◌, ◌∷◌, ◌∙◌, ℕ, List, [], map, refl, sym, ap, subst, arith, map-append, uint_at, encoded_type, annotation_of, NumberedAnnotation, IsItemAt, NoItemAt}
 use Rattle.dexval.proofs.FileRead.{file_pools}
-use Rattle.dexval.proofs.Refusals.{err_is, set_refused}
+use Rattle.dexval.proofs.Refusals.{err_is, refuses_so}
 use Rattle.dexval.proofs.SetsRead.{HaveReadSet, one_more, no_next, no_order, all_read, no_room}
 use Rattle.dexval.proofs.set_reading.read_set.Goals as goal
 
 pub returns-in_err-count-clause-refused : goal.returns-in_err-count-clause-refused
 returns-in_err-count-clause-refused c = λ pools.
-    rw (err_is c.from_residual.result c.from_residual.ensures.1) (set_refused c.args.frame.now c.args.off (no_room c.args.frame.now c.args.off) c.in_err-count.field-0.0 c.in_err-count.ensures.refused)
+    rw (err_is c.from_residual.result c.from_residual.ensures.1) (refuses_so 22 (no_room c.args.frame.now c.args.off) c.in_err-count.field-0.0 c.in_err-count.ensures.refused)
 
 pub returns-then-from-least-clause-refused : goal.returns-then-from-least-clause-refused
 returns-then-from-least-clause-refused c = λ pools.
@@ -21,7 +21,7 @@ pub returns-in_err-annotation-clause-refused : goal.returns-in_err-annotation-cl
 returns-in_err-annotation-clause-refused c = λ pools.
     let p = file_pools c.args.frame.now c.args.pools.now c.numbering.result.now c.numbering.ensures c.is_numbering.ensures pools in
     let b = c.args.frame.now in
-    rw (err_is c.from_residual-in_err-annotation.result c.from_residual-in_err-annotation.ensures.1) (set_refused b c.args.off (λ none. no_next b c.args.pools.now p c.args.off c.loop-i.i c.loop-i.least (map annotation_of c.loop-i.annotations.items) (omega (arith, c.in_ok-count.ensures.count.1)) (c.loop-i.invariant.read p) (subst (NoItemAt b) c.uint_at-place.ensures none)) c.in_err-annotation.field-0.0 (c.in_err-annotation.ensures.refused p))
+    rw (err_is c.from_residual-in_err-annotation.result c.from_residual-in_err-annotation.ensures.1) (refuses_so 22 (λ none. no_next b c.args.pools.now p c.args.off c.loop-i.i c.loop-i.least (map annotation_of c.loop-i.annotations.items) (omega (arith, c.in_ok-count.ensures.count.1)) (c.loop-i.invariant.read p) (subst (NoItemAt b) c.uint_at-place.ensures none)) c.in_err-annotation.field-0.0 (c.in_err-annotation.ensures.refused p))
 
 pub loop-i-preserved : goal.loop-i-preserved
 loop-i-preserved c =

@@ -1,6 +1,6 @@
 use Rattle.dexval.proofs.Common.{ℕ, ap, ◌∙◌, min, ◌^◌, ◌-◌, annotation_of}
 use Rattle.dexval.proofs.Spelling.{annotation_lengths_are}
-use Rattle.dexval.proofs.sizes.annotation_size.Goals as goal
+use Rattle.dexval.proofs.put.annotation_size.Goals as goal
 
 pub returns-clause-symbolic : goal.returns-clause-symbolic
 returns-clause-symbolic c = λ m symbolic rising encodes.

@@ -1,6 +1,6 @@
 use Rattle.dexval.proofs.Common.{ℕ, ◌++◌, ap, encoded_type, encoded_elements, encoded_input}
 use Rattle.std.specs.Hash as fed
-use Rattle.dexval.proofs.hashing.hash_annotation.Goals as goal
+use Rattle.dexval.proofs.equality.hash_annotation.Goals as goal
 
 pub returns : goal.returns
 returns g c =

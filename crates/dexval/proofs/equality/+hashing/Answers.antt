@@ -1,7 +1,7 @@
 use Rattle.dexval.proofs.Common.{[], ap, sym, ◌∙◌, arith, vec_len}
 use Rattle.std.specs.Hash as fed
 use Rattle.dexval.proofs.Hashed.{value_fed, element_fed, values_are_fed, elements_are_fed, fed_more, fed_all, array_whole, annotation_whole, encoded_parts}
-use Rattle.dexval.proofs.hashing.+hashing.Goals as goal
+use Rattle.dexval.proofs.equality.+hashing.Goals as goal
 
 pub hash_value-returns-in-Array : goal.hash_value-returns-in-Array
 hash_value-returns-in-Array g t c =

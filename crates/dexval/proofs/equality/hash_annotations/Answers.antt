@@ -1,7 +1,7 @@
 use Rattle.dexval.proofs.Common.{length, arith}
 use Rattle.std.specs.Hash as fed
 use Rattle.dexval.proofs.Hashed.{annotation_fed, annotations_are_fed, fed_more, fed_all}
-use Rattle.dexval.proofs.hashing.hash_annotations.Goals as goal
+use Rattle.dexval.proofs.equality.hash_annotations.Goals as goal
 
 pub loop-annotation-preserved : goal.loop-annotation-preserved
 loop-annotation-preserved g c =

@@ -1,6 +1,6 @@
 use Rattle.dexval.proofs.Common.{◌≡◌, fold, take, flat_map}
 use Rattle.dexval.proofs.Hashed.{value_fed, element_fed}
-use Rattle.dexval.proofs.hashing.+hashing.Given as goal
+use Rattle.dexval.proofs.equality.+hashing.Given as goal
 
 abbrev pub invariant-hash_elements-loop-element : goal.invariant-hash_elements-loop-element
 invariant-hash_elements-loop-element g l = l.state ≡ fold g.H.Hasher.write l.fn.state (flat_map element_fed (take l.element-index l.elements))

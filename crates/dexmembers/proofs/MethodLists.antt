@@ -1,9 +1,10 @@
 -- Methods as they are stored, with their code beside them.
 use Rattle.dexmembers.proofs.Common.{◌≡◌, ◌⊎◌, ℕ, zero, suc, ◌<◌, List, [], ◌∷◌, ◌++◌, get_or, length, map, refl, sym, ap, ◌∙◌, subst, arith, inl, inr, Option, Some, None, All, IfSome, option_map, cases_lt, length-map, length-append, get_or-map, map-append, All-push, All-head, All-tail, Contains, Contains-first, Contains-append_left, Contains-append_right, Maps, NumberedItem, HasPlaces, renumbered_item, IsPlaceIn, map_both}
 use Rattle.std.proofs.lemmas.Option.{slice_get-get_or}
-use Rattle.dexmembers.specs.{StoredMethod, ArePlacesOf, code_places, code_at, held_in, held_with, remapped_method, remapped_stored, IsHeldMethodMapped, IsStoredMethodMapped, stripped_code, stripped_held}
+use Rattle.dexmembers.specs.{remapped_method, IsHeldMethodMapped, stripped_code, stripped_held, StoredMethod, ArePlacesOf, code_places, code_at, held_in, held_with, remapped_stored, IsStoredMethodMapped}
 use Rattle.dexmembers.specs.internal.MethodCodes.{IsKept}
 use Rattle.dexmembers.proofs.RenumberingLists.{all_seen, both_ways}
+use Rattle.dexmembers.proofs.HeldMembers.{place_kept}
 
 -- ---- code at a place
 
@@ -92,16 +93,11 @@ module _ (r : Maps) (codes : List NumberedItem) (xs : List StoredMethod) where
 pub list_stripped : (codes : List NumberedItem) (xs : List StoredMethod) → map (held_in (map stripped_code codes)) xs ≡ map stripped_held (map (held_in codes) xs)
 list_stripped codes xs = sym (map_both (held_in codes) stripped_held (held_in (map stripped_code codes)) xs (λ k d lt. let x = get_or xs k d in ap (held_with x) (sym (code_mapped stripped_code codes x.code))))
 
--- places of as many pieces of code
-place_replaced : (codes new : List NumberedItem) → length new ≡ length codes → (place : Option ℕ) → IsPlaceIn codes place → IsPlaceIn new place
-place_replaced codes new size None lt = tt
-place_replaced codes new size (Some i) lt = omega arith
-
 -- where each code is replaced, the places stay
 pub codes_replaced : (f : NumberedItem → NumberedItem) (codes : List NumberedItem) (places : List (Option ℕ)) → ArePlacesOf codes places → ArePlacesOf (map f codes) places
 codes_replaced f codes places h =
     let size = length-map codes f in
-    record { held = λ k d lt. place_replaced codes (map f codes) size (get_or places k d) (h.held k d lt); named = λ i lt. h.named i (omega arith) }
+    record { held = λ k d lt. place_kept codes (map f codes) size (get_or places k d) (h.held k d lt); named = λ i lt. h.named i (omega arith) }
 
 -- and so they do for methods with other numbers
 pub methods_replaced : (r : Maps) (codes : List NumberedItem) (xs : List StoredMethod) → ArePlacesOf codes (code_places xs) → ArePlacesOf codes (code_places (map (remapped_stored r) xs))

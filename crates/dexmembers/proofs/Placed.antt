@@ -1,5 +1,7 @@
 -- Members whose numbers have images, after a cut and after a join: each image fits its place.
 use Rattle.dexmembers.proofs.Common.{◌≡◌, ℕ, ◌<◌, ◌≤◌, Bool, true, false, nat_lt, max, List, [], ◌∷◌, ◌++◌, Option, Some, None, refl, sym, ap, subst, ◌∙◌, arith, inl, inr, IsSome, IfSome, option_to_list, All, Contains, flat_map, ltb-true, ltb-false, append-nil, All-nil, All-cons, All-head, All-tail, All-append, All-weaker, Contains-append_left, Contains-append_right, Contains-append_cases, Contains-nil, Contains-first, Maps, image, image_of, KeepOrder, ImagesFit, IsGreatest, MapsShort, short_strings, NumberedItem, HasPlaces, HasImages, NumberedSet, NumberedValues, MapsNarrow, SetHasPlaces, HavePlaces, all_prefix, all_back}
+use Rattle.std.specs.Ordering.{ord_max, nat_cmp}
+use Rattle.std.specs.Option.{option_cmp}
 use Rattle.dexpool.specs.declared.symbols.SymbolKind.{SymbolKind}
 use Rattle.dexpool.specs.declared.symbols.SymbolKind.TheVariants as kinds
 use Rattle.dexinsn.proofs.Fits.{ShortMapped, short_mapped, shorts_remapped}
@@ -72,6 +74,16 @@ both_greatest ns ks g h is are = both_by ns ks g h (max g h) (nat_lt g h) refl r
 
 pub left_greatest : (ns ks : List ℕ) (g : Option ℕ) → IsGreatest ns g → IsGreatest ks None → IsGreatest (ns ++ ks) g
 left_greatest ns ks g is none = subst (λ l. IsGreatest l g) (sym (append-nil ns) ∙ ap (λ l. ns ++ l) (sym none)) is
+
+-- no number is less than any other
+pub greater_of : (ns ks : List ℕ) (g h : Option ℕ) → IsGreatest ns g → IsGreatest ks h → IsGreatest (ns ++ ks) (ord_max (option_cmp nat_cmp) g h)
+greater_of ns ks None None is are = left_greatest ns ks None is are
+greater_of ns ks (Some g) None is are = left_greatest ns ks (Some g) is are
+greater_of ns ks None (Some h) is are = subst (λ l. IsGreatest (l ++ ks) (Some h)) (sym is) are
+greater_of ns ks (Some g) (Some h) is are = subst (IsGreatest (ns ++ ks)) (max_some g h) (both_greatest ns ks g h is are)
+  where
+    max_some : (g h : ℕ) → Some (max g h) ≡ ord_max (option_cmp nat_cmp) (Some g) (Some h)
+    max_some g h = grind arith
 
 one_greatest : (n : ℕ) → IsGreatest (n ∷ []) (Some n)
 one_greatest n = (Contains-first n [], All-cons (λ k. k ≤ n) n [] (omega arith) (All-nil (λ k. k ≤ n)))

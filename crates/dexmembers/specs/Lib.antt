@@ -33,3 +33,4 @@ unfoldable pub use Weight.*
 unfoldable pub use Fitting.*
 unfoldable pub use FormedDirectory.*
 unfoldable pub use Stripped.*
+unfoldable pub use internal.Stored.*

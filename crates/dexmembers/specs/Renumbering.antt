@@ -8,7 +8,7 @@ use Rattle.dexcode.specs.Renumbering as code
 use Rattle.dexval.specs.Renumbering.{remapped, renumbered_set, renumbered_values, SetHasPlaces, HavePlaces}
 use Rattle.dexpool.specs.Images.{IsMapped}
 use Rattle.dexmembers.specs.Numbered.{NumberedField, NumberedMethod, NumberedMembers}
-use Rattle.dexmembers.specs.Held.{HeldField, HeldMethod, StoredMethod}
+use Rattle.dexmembers.specs.Held.{HeldField, HeldMethod}
 
 -- ---- other numbers
 
@@ -45,19 +45,11 @@ remapped_field r f = record { number = remapped r kinds.Field f.number; flags = 
 abbrev pub remapped_method : Maps → HeldMethod → HeldMethod
 remapped_method r x = record { number = remapped r kinds.Method x.number; flags = x.flags; code = option_map (renumbered_item r) x.code; set = x.set; list = x.list }
 
--- the method as it is stored, its number remapped
-abbrev pub remapped_stored : Maps → StoredMethod → StoredMethod
-remapped_stored r x = record { number = remapped r kinds.Method x.number; flags = x.flags; code = x.code; set = x.set; list = x.list }
-
 -- ---- places of numbers
 
 -- the image of the field's number fits its place
 abbrev pub IsHeldFieldMapped : Maps → HeldField → Type 0
 IsHeldFieldMapped r f = IsMapped r kinds.Field f.number
-
--- so does that of the method as it is stored
-abbrev pub IsStoredMethodMapped : Maps → StoredMethod → Type 0
-IsStoredMethodMapped r x = IsMapped r kinds.Method x.number
 
 -- the number of the method, and each of its code
 pub record IsHeldMethodMapped (r : Maps) (x : HeldMethod) : Type 0 where

@@ -9,4 +9,5 @@ pub mod Places
 pub mod RowParts
 pub mod RowReaders
 pub mod StaticValues
+pub mod Stored
 pub mod Weighed

@@ -3,13 +3,17 @@
 
 ghost use Rattle.std.specs.Prelude.{◌≡◌, ℕ, ◌<◌, length, IfOk, IfSome, MatchOption};
 ghost use Rattle.dexmembers.specs.internal.Attaching.{place_for, EntriesRise, HasNumberAt, AreHeldFields, AttachesMethods, HaveFieldSetsBelow, HaveListsBelow, HaveSetsBelow, LacksNumber, PlacesBelow};
+ghost use Rattle.dexmembers.specs.Contents.{AreHeld};
+ghost use Rattle.dexmembers.specs.internal.RowParts.{IsHeldDirectory, CanAttach, HaveCodes, IsAttached};
 
-use crate::class_data::{EncodedField, EncodedMethod};
-use crate::members::DeclaredField;
+use crate::class_data::{ClassData, EncodedField, EncodedMethod};
+use crate::members::{Contents, DeclaredField};
 use crate::method_codes::MethodCodes;
 use crate::method_list::{DeclaredMethod, MethodList};
 use crate::places::Place;
+use crate::row_reader::Parts;
 use dexflags::{FieldFlags, MethodFlags};
+use dexval::SharedDirectory;
 use std::alloc::{AllocError, Global};
 
 // Returns the index of the entry of a number, if there is one.
@@ -29,10 +33,10 @@ fn place_for(entries: &[(u32, u32)], number: u32) -> Option<u32>
     Some(entries[at].1)
 }
 
-/// The fields of a list of class data, with the places of their sets in a directory.
-///
-/// Source: "encoded_field format", "field_annotation format".
-pub(crate) fn attach_fields(
+// The fields of a list of class data, with the places of their sets in a directory.
+//
+// Source: "encoded_field format", "field_annotation format".
+fn attach_fields(
     alloc: Global,
     listed: &[EncodedField],
     sets: &[(u32, u32)],
@@ -53,12 +57,12 @@ pub(crate) fn attach_fields(
     Ok(fields)
 }
 
-/// The methods of a list of class data, with their code and the places of their sets and lists of sets in a directory.
-///
-/// Condition: there is code or none for each method.
-///
-/// Source: "encoded_method format", "method_annotation format", "parameter_annotation format".
-pub(crate) fn attach_methods<'a>(
+// The methods of a list of class data, with their code and the places of their sets and lists of sets in a directory.
+//
+// Condition: there is code or none for each method.
+//
+// Source: "encoded_method format", "method_annotation format", "parameter_annotation format".
+fn attach_methods<'a>(
     alloc: Global,
     listed: &[EncodedMethod],
     codes: MethodCodes<'a>,
@@ -74,8 +78,7 @@ pub(crate) fn attach_methods<'a>(
 {
     let MethodCodes { places, code_items } = codes;
     let mut methods = Vec::with_capacity(alloc, listed.len())?;
-    for i in 0..listed.len() {
-        let method = &listed[i];
+    for (i, method) in listed.iter().enumerate() {
         let set = Place::of(place_for(sets, method.index))?;
         let list = Place::of(place_for(lists, method.index))?;
         methods.push(DeclaredMethod {
@@ -89,5 +92,62 @@ pub(crate) fn attach_methods<'a>(
     Ok(MethodList {
         methods,
         code_items,
+    })
+}
+
+/// The members of class data with their parts.
+///
+/// Condition: the places of the directory are its table's, and there is code or none for each method. Error: the memory for a list was refused.
+///
+/// Source: "class_data_item", "annotations_directory_item".
+pub(crate) fn attach<'a>(
+    alloc: Global,
+    declared: &ClassData,
+    parts: Parts<'a>,
+) -> Result<Contents<'a>, AllocError>
+    requires places { IsHeldDirectory parts.directory }
+    requires codes { HaveCodes declared.now parts }
+    ensures attached { CanAttach declared.now parts.entry
+        → IfOk result (IsAttached declared.now parts.entry) }
+    ensures held { IfOk result AreHeld }
+{
+    let Parts {
+        directory,
+        direct_codes,
+        virtual_codes,
+        codes_weight: _,
+        static_values,
+    } = parts;
+    let SharedDirectory {
+        table,
+        own,
+        fields,
+        methods,
+        parameters,
+    } = directory;
+    let static_fields = attach_fields(alloc, &declared.static_fields, &fields)?;
+    let instance_fields = attach_fields(alloc, &declared.instance_fields, &fields)?;
+    let direct_methods = attach_methods(
+        alloc,
+        &declared.direct_methods,
+        direct_codes,
+        &methods,
+        &parameters,
+    )?;
+    let virtual_methods = attach_methods(
+        alloc,
+        &declared.virtual_methods,
+        virtual_codes,
+        &methods,
+        &parameters,
+    )?;
+    Ok(Contents {
+        table,
+        set: own,
+        static_fields,
+        instance_fields,
+        direct_methods,
+        virtual_methods,
+        static_values,
     })
 }

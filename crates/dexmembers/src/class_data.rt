@@ -7,8 +7,8 @@ ghost use Rattle.dexmembers.specs.internal.EncodedMembers.{AreCountsAt, ReadsDat
 ghost use Rattle.dexmembers.specs.internal.ClassData.{ReadsData, RefusesData};
 
 use crate::class_def::ClassDef;
-use crate::encoded_lists::ClassDataReader;
-use crate::encodings::{Owner, number_at};
+use crate::encoded_lists::ClassReader;
+use crate::encodings::number_at;
 use dexhead::{Condition, Frame};
 use dexpool::{ItemFault, Pools};
 use std::alloc::Global;
@@ -73,7 +73,7 @@ fn read_counts(bytes: &[u8], at: usize) -> Option<(Counts, usize)>
     Some((counts, first + second + third + fourth))
 }
 
-impl ClassDataReader<'_, '_> {
+impl ClassReader<'_, '_> {
     // Reads the class data of the class at an offset.
     fn read_data(&self, at: usize) -> Result<ClassData, ItemFault>
         requires { at ≤ length self.now.bytes.now }
@@ -121,7 +121,6 @@ pub(crate) fn read_class_data(
 {
     pools.numbering().is_numbering();
     let bytes = frame.bytes();
-    let class = row.class_idx;
     let off = row.class_data_off;
     if off == 0 {
         return Ok(ClassData {
@@ -134,9 +133,10 @@ pub(crate) fn read_class_data(
     if !frame.is_in_data(off, 1) {
         return Err(ItemFault::Refused(Condition::Members as u8));
     }
-    let reader = ClassDataReader {
+    let reader = ClassReader {
         alloc,
-        owner: Owner { pools, class },
+        pools,
+        class: row.class_idx,
         bytes,
     };
     reader.read_data(off as usize)

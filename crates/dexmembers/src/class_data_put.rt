@@ -5,10 +5,7 @@ ghost use Rattle.dexspec.specs.internal.Writing.{Puts};
 ghost use Rattle.dexmembers.specs.Numbered.{fields_of, methods_of};
 ghost use Rattle.dexmembers.specs.Spelled.{numbered_field_bytes, numbered_fields_bytes, numbered_method_bytes, numbered_methods_bytes, numbered_class_data_bytes, PutsDenotedClassData, class_data_room};
 
-use crate::field_views::{Field, Fields};
-use crate::members::Members;
-use crate::method_views::{Method, Methods};
-use crate::put_laws::members_bytes_law;
+use crate::{Field, Fields, Members, Method, Methods, members_bytes_law};
 use dexhead::{Encode, Output, put_encoded};
 use std::alloc::AllocError;
 

@@ -11,9 +11,9 @@ ghost use Rattle.dexmembers.specs.Numbered.{fields_of, methods_of, members_in, m
 ghost use Rattle.dexmembers.specs.DirectoryPut.{pair_bytes, count_placed, numbered_directory_bytes, both_bytes_by, directory_head_bytes, field_pairs_bytes, method_pairs_bytes, HasDirectoryRoom, IsDirectoryLen};
 ghost use Rattle.dexmembers.specs.FormedDirectory.{IsFormedDirectory, item_bytes};
 
+use crate::laws::members_bytes_law;
 use crate::members::{DeclaredField, Members};
 use crate::method_list::DeclaredMethod;
-use crate::put_laws::members_bytes_law;
 use dexhead::{Encode, Output};
 use std::alloc::AllocError;
 

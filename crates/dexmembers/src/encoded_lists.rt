@@ -5,9 +5,9 @@ ghost use Rattle.dexspec.specs.ClassData.{ShareNone};
 ghost use Rattle.dexmembers.specs.Numbered.{NumbersRise};
 ghost use Rattle.dexmembers.specs.internal.EncodedMembers.{ReadsList, ReadsLists, RefusesList, RefusesLists};
 
-use crate::encodings::{Encoded, Owner};
+use crate::encodings::Encoded;
 use dexhead::Condition;
-use dexpool::ItemFault;
+use dexpool::{ItemFault, Pools};
 use std::alloc::Global;
 use std::cmp::Ordering;
 
@@ -40,15 +40,17 @@ fn are_apart<T: Encoded>(left: &[T], right: &[T]) -> bool
     true
 }
 
-/// Reads the class data of a class from the bytes of a file. It has the allocator for what is read.
+/// Reads the class data of a class, by its number among the types of the pools, from the bytes of a file. It has the
+/// allocator for what is read.
 #[derive(Clone, Copy)]
-pub(crate) struct ClassDataReader<'s, 'a> {
+pub(crate) struct ClassReader<'s, 'a> {
     pub(crate) alloc: Global,
-    pub(crate) owner: Owner<'s, 'a>,
+    pub(crate) pools: &'s Pools<'a>,
+    pub(crate) class: u32,
     pub(crate) bytes: &'s [u8],
 }
 
-impl ClassDataReader<'_, '_> {
+impl ClassReader<'_, '_> {
     // Reads `count` members at an offset, and returns the number of bytes that encode them.
     fn read_list<T: Encoded>(&self, at: usize, count: u32) -> Result<(Vec<T>, usize), ItemFault>
         requires { at ≤ length self.now.bytes.now }
@@ -60,7 +62,7 @@ impl ClassDataReader<'_, '_> {
         let mut size = 0;
         let mut last = None;
         for _ in 0..count {
-            let (member, len) = match T::read(self.owner, self.bytes, at + size, last) {
+            let (member, len) = match T::read(self, at + size, last) {
                 Some(read) => read,
                 None => return Err(ItemFault::Refused(Condition::Members as u8)),
             };

@@ -7,15 +7,9 @@ ghost use Rattle.dexspec.specs.ClassData.{IsNextIndex};
 ghost use Rattle.dexmembers.specs.internal.EncodedMembers.{IsOwnField, IsOwnMethod, HeadAt, FieldAt, MethodAt, HasGreaterIndex, IsMember, IsOneMember, IsOnlyHead, NoMember, NoNextIndex};
 
 use crate::class_data::{EncodedField, EncodedMethod};
+use crate::encoded_lists::ClassReader;
 use dexleb::read_u;
-use dexpool::{Pools, SymbolKind};
-
-/// A class whose members are read: its number among the types of the pools.
-#[derive(Clone, Copy)]
-pub(crate) struct Owner<'p, 'a> {
-    pub(crate) pools: &'p Pools<'a>,
-    pub(crate) class: u32,
-}
+use dexpool::SymbolKind;
 
 /// A member of a list of class data.
 pub(crate) trait Encoded: Copy {
@@ -31,18 +25,13 @@ pub(crate) trait Encoded: Copy {
 
     /// Reads the member at an offset, after a member with the index `last`, if there is one. Returns it with the number
     /// of bytes that encode it, or `None` if there is no member of the class.
-    fn read(
-        owner: Owner<'_, '_>,
-        bytes: &[u8],
-        at: usize,
-        last: Option<u32>,
-    ) -> Option<(Self, usize)>
-        requires { at ≤ length bytes.now }
-        ensures none { IfNone result
-            (NoMember (encodes owner.entry.pools.now owner.entry.class) bytes.now at last) }
-        ensures some { IfSome result
-            (IsMember (encodes owner.entry.pools.now owner.entry.class) bytes.now at last) }
-        ensures within { IfSome result (λ x. at + x.1 ≤ length bytes.now) };
+    fn read(reader: &ClassReader<'_, '_>, at: usize, last: Option<u32>) -> Option<(Self, usize)>
+        requires { at ≤ length reader.now.bytes.now }
+        ensures none { IfNone result (NoMember
+            (encodes reader.now.pools.now reader.now.class) reader.now.bytes.now at last) }
+        ensures some { IfSome result (IsMember
+            (encodes reader.now.pools.now reader.now.class) reader.now.bytes.now at last) }
+        ensures within { IfSome result (λ x. at + x.1 ≤ length reader.now.bytes.now) };
 
     // There is at most one member at an offset, it has one size, and its index is above the one before it.
     fn law()
@@ -61,14 +50,9 @@ impl Encoded for EncodedField {
 
     fn law() {}
 
-    fn read(
-        owner: Owner<'_, '_>,
-        bytes: &[u8],
-        at: usize,
-        last: Option<u32>,
-    ) -> Option<(EncodedField, usize)> {
-        let (index, flags, size) = head_at(bytes, at, last)?;
-        if !owner.has_field(index) {
+    fn read(reader: &ClassReader<'_, '_>, at: usize, last: Option<u32>) -> Option<(Self, usize)> {
+        let (index, flags, size) = head_at(reader.bytes, at, last)?;
+        if !reader.has_field(index) {
             return None;
         }
         Some((EncodedField { index, flags }, size))
@@ -86,17 +70,12 @@ impl Encoded for EncodedMethod {
 
     fn law() {}
 
-    fn read(
-        owner: Owner<'_, '_>,
-        bytes: &[u8],
-        at: usize,
-        last: Option<u32>,
-    ) -> Option<(EncodedMethod, usize)> {
-        let (index, flags, head_size) = head_at(bytes, at, last)?;
-        if !owner.has_method(index) {
+    fn read(reader: &ClassReader<'_, '_>, at: usize, last: Option<u32>) -> Option<(Self, usize)> {
+        let (index, flags, head_size) = head_at(reader.bytes, at, last)?;
+        if !reader.has_method(index) {
             return None;
         }
-        let (code_off, code_size) = number_at(bytes, at + head_size)?;
+        let (code_off, code_size) = number_at(reader.bytes, at + head_size)?;
         let method = EncodedMethod {
             index,
             flags,
@@ -145,7 +124,7 @@ fn next_index(last: Option<u32>, difference: u32) -> Option<u32>
     }
 }
 
-impl<'p, 'a> Owner<'p, 'a> {
+impl ClassReader<'_, '_> {
     // Returns whether the index is that of a field of the class.
     fn has_field(&self, index: u32) -> bool
         ensures { IsTrue result ↔ IsOwnField self.now.pools.now self.now.class index }

@@ -16,11 +16,11 @@ mod class_data_put;
 mod class_def;
 mod code_checking;
 mod codes;
-mod copying;
 mod directory_put;
 mod encoded_lists;
 mod encodings;
 mod field_views;
+mod laws;
 mod marking;
 mod members;
 mod method_codes;
@@ -28,32 +28,22 @@ mod method_list;
 mod method_views;
 mod naming;
 mod places;
-mod put_laws;
 mod reading;
-mod renumbering;
-mod renumbering_laws;
-mod row_annotations;
 mod row_checking;
-mod row_parts;
 mod row_reader;
 mod same;
 mod short_strings;
-mod static_values;
-mod stripping;
-mod uses_laws;
 mod weighing;
 
 pub use checking::{Checks, check_members};
 pub use class_def::ClassDef;
 pub use directory_put::DirectoryOffsets;
 pub use field_views::{Field, Fields};
+pub use laws::{
+    members_bytes_law, members_cut_law, members_joined_law, members_remapped_law, members_same_law,
+    members_stripped_law, members_uses_law,
+};
 pub use members::Members;
 pub use method_views::{Method, Methods, ParameterSets};
-pub use put_laws::members_bytes_law;
 pub use reading::read_members;
-pub use renumbering_laws::{
-    members_cut_law, members_joined_law, members_remapped_law, members_same_law,
-};
-pub use stripping::members_stripped_law;
-pub use uses_laws::members_uses_law;
 pub use weighing::members_weight_law;

@@ -8,9 +8,7 @@ ghost use Rattle.dexmembers.specs.Uses.{field_uses, method_uses, members_uses};
 ghost use Rattle.dexmembers.specs.Borrowed.{ForCode, ForSet};
 ghost use Rattle.dexmembers.specs.internal.Parts.{optional_code_uses};
 
-use crate::field_views::{Field, Fields};
-use crate::members::Members;
-use crate::method_views::{Method, Methods, ParameterSets};
+use crate::{Field, Fields, Members, Method, Methods, ParameterSets};
 use dexcode::Code;
 use dexpool::{Marks, SymbolKind, Symbols, Visitor, mark};
 use dexval::{AnnotationSet, visit_values};

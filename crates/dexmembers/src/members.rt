@@ -1,18 +1,19 @@
 //! What a class declares, with numbers for symbols.
 
-ghost use Rattle.std.specs.Prelude.{◌≡◌, [], MatchOption, length, map};
+ghost use Rattle.std.specs.Prelude.{◌≡◌, [], MatchOption, length, map, IfOk};
 ghost use Rattle.dexval.specs.Code.{set_of, value_of};
 ghost use Rattle.dexval.specs.Numbered.{values_of_list};
 ghost use Rattle.dexmembers.specs.Numbered.{fields_of, methods_of, HasFewMembers};
-ghost use Rattle.dexmembers.specs.Contents.{contents_in, AreHeld};
-ghost use Rattle.dexmembers.specs.Borrowed.{IsBorrowedSet};
+ghost use Rattle.dexmembers.specs.Renumbering.{remapped_field, renumbered_members, IsHeldFieldMapped, MembersHavePlaces};
+ghost use Rattle.dexmembers.specs.Stripped.{stripped_members};
 
-use crate::field_views::Fields;
 use crate::method_list::MethodList;
-use crate::method_views::Methods;
 use crate::places::Place;
+use crate::{Fields, Methods};
 use dexflags::FieldFlags;
-use dexval::{AnnotationSet, SetTable, Value};
+use dexpool::{Remap, Renumber, SymbolKind, renumber_all};
+use dexval::{AnnotationSet, SetTable, Value, copied_values, remapped, renumber_values};
+use std::alloc::AllocError;
 use std::marker::Model;
 
 /// A declared field: its number among the fields, its access flags, and the place of its annotations in a table of
@@ -83,45 +84,14 @@ impl<'a> Model for Members<'a> {
     ghost invariant = { λ x. AreKept x.contents };
 }
 
-impl<'a> Contents<'a> {
-    /// The annotations of the class itself.
-    pub(crate) fn annotations(&self) -> Option<&AnnotationSet>
-        requires { AreHeld self.now }
-        ensures { IsBorrowedSet result (contents_in self.now).annotations }
-    {
-        self.table.set(self.set)
-    }
+impl Renumber for DeclaredField {
+    ghost places = { IsHeldFieldMapped };
 
-    /// The static fields.
-    pub(crate) fn static_fields(&self) -> Fields<'_>
-        requires { AreHeld self.now }
-        ensures { result ≡ (contents_in self.now).static_fields }
-    {
-        Fields::of(&self.table, &self.static_fields)
-    }
+    ghost remapped = { remapped_field };
 
-    /// The instance fields.
-    pub(crate) fn instance_fields(&self) -> Fields<'_>
-        requires { AreHeld self.now }
-        ensures { result ≡ (contents_in self.now).instance_fields }
-    {
-        Fields::of(&self.table, &self.instance_fields)
-    }
-
-    /// The direct methods.
-    pub(crate) fn direct_methods(&self) -> Methods<'_, 'a>
-        requires { AreHeld self.now }
-        ensures { result ≡ (contents_in self.now).direct_methods }
-    {
-        Methods::of(&self.table, &self.direct_methods)
-    }
-
-    /// The virtual methods.
-    pub(crate) fn virtual_methods(&self) -> Methods<'_, 'a>
-        requires { AreHeld self.now }
-        ensures { result ≡ (contents_in self.now).virtual_methods }
-    {
-        Methods::of(&self.table, &self.virtual_methods)
+    // The sets are remapped in their table.
+    fn renumber(&mut self, remap: &Remap) {
+        self.number = remapped(remap, SymbolKind::Field, self.number);
     }
 }
 
@@ -161,7 +131,7 @@ impl<'a> Members<'a> {
         ensures { MatchOption result (self.now.annotations ≡ []) (λ set.
             set_of set.now ≡ self.now.annotations) }
     {
-        self.contents.annotations()
+        self.contents.table.set(self.contents.set)
     }
 
     /// The static fields, by number.
@@ -170,7 +140,7 @@ impl<'a> Members<'a> {
     pub fn static_fields(&self) -> Fields<'_>
         ensures { result ≡ self.now.static_fields }
     {
-        self.contents.static_fields()
+        Fields::of(&self.contents.table, &self.contents.static_fields)
     }
 
     /// The instance fields, by number.
@@ -179,7 +149,7 @@ impl<'a> Members<'a> {
     pub fn instance_fields(&self) -> Fields<'_>
         ensures { result ≡ self.now.instance_fields }
     {
-        self.contents.instance_fields()
+        Fields::of(&self.contents.table, &self.contents.instance_fields)
     }
 
     /// The direct methods, by number.
@@ -188,7 +158,7 @@ impl<'a> Members<'a> {
     pub fn direct_methods(&self) -> Methods<'_, 'a>
         ensures { result ≡ self.now.direct_methods }
     {
-        self.contents.direct_methods()
+        Methods::of(&self.contents.table, &self.contents.direct_methods)
     }
 
     /// The virtual methods, by number.
@@ -197,7 +167,7 @@ impl<'a> Members<'a> {
     pub fn virtual_methods(&self) -> Methods<'_, 'a>
         ensures { result ≡ self.now.virtual_methods }
     {
-        self.contents.virtual_methods()
+        Methods::of(&self.contents.table, &self.contents.virtual_methods)
     }
 
     /// The initial values of the static fields, in their order.
@@ -205,5 +175,51 @@ impl<'a> Members<'a> {
         ensures { values_of_list (map value_of result.now) ≡ self.now.static_values }
     {
         &self.contents.static_values
+    }
+
+    /// Returns a copy of the members, with lists of their own. The units of code are borrowed as before.
+    pub fn copy(&self) -> Result<Members<'a>, AllocError>
+        ensures { IfOk result (λ copy. copy ≡ self.now) }
+    {
+        let alloc = *self.contents.static_fields.allocator();
+        Ok(Members {
+            contents: Contents {
+                table: self.contents.table.copy()?,
+                set: self.contents.set,
+                static_fields: Vec::from_slice(alloc, &self.contents.static_fields)?,
+                instance_fields: Vec::from_slice(alloc, &self.contents.instance_fields)?,
+                direct_methods: self.contents.direct_methods.copy()?,
+                virtual_methods: self.contents.virtual_methods.copy()?,
+                static_values: copied_values(&self.contents.static_values)?,
+            },
+        })
+    }
+
+    /// Maps each number of a symbol in what the class declares to its image.
+    ///
+    /// Condition: each number has an image that fits its place: below 2^16 in an instruction but for
+    /// const-string/jumbo, below 2^32 - 1 in a debug program, and below 2^32 elsewhere.
+    /// [`members_cut_law`](crate::members_cut_law) and [`members_joined_law`](crate::members_joined_law) say when it has.
+    pub fn renumber(&mut self, remap: &Remap)
+        requires { MembersHavePlaces remap.now self.old }
+        ensures { self.new ≡ renumbered_members remap.now self.old }
+    {
+        self.contents.table.renumber(remap);
+        renumber_all(&mut self.contents.static_fields, remap);
+        renumber_all(&mut self.contents.instance_fields, remap);
+        self.contents.direct_methods.renumber(remap);
+        self.contents.virtual_methods.renumber(remap);
+        renumber_values(&mut self.contents.static_values, remap);
+    }
+
+    /// Leaves out the debug programs of all methods. Instructions and tries stay, and so do the texts that a
+    /// const-string names.
+    ///
+    /// Source: "code_item", the field `debug_info_off`, where 0 denotes none.
+    pub fn drop_debug(&mut self)
+        ensures { self.new ≡ stripped_members self.old }
+    {
+        self.contents.direct_methods.drop_debug();
+        self.contents.virtual_methods.drop_debug();
     }
 }

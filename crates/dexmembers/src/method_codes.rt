@@ -19,7 +19,7 @@ pub(crate) struct MethodCodes<'a> {
 impl<'a> Model for MethodCodes<'a> {
     ghost use Rattle.std.specs.Prelude.{List, Option, map};
     ghost use Rattle.dexcode.specs.Numbered.{NumberedItem};
-    ghost use Rattle.dexmembers.specs.Held.{code_at, ArePlacesOf};
+    ghost use Rattle.dexmembers.specs.internal.Stored.{code_at, ArePlacesOf};
 
     ghost Value = { List (Option NumberedItem) };
 

@@ -3,8 +3,8 @@
 ghost use Rattle.std.specs.Prelude.{◌≡◌, IfOk, All, map};
 ghost use Rattle.dexcode.specs.Renumbering.{HasPlaces, renumbered_item};
 ghost use Rattle.dexmembers.specs.Borrowed.{IsBorrowedCode};
-ghost use Rattle.dexmembers.specs.Held.{code_at};
-ghost use Rattle.dexmembers.specs.Renumbering.{remapped_method, remapped_stored, IsHeldMethodMapped, IsStoredMethodMapped};
+ghost use Rattle.dexmembers.specs.internal.Stored.{code_at, remapped_stored, IsStoredMethodMapped};
+ghost use Rattle.dexmembers.specs.Renumbering.{remapped_method, IsHeldMethodMapped};
 ghost use Rattle.dexmembers.specs.Stripped.{stripped_code, stripped_held};
 
 use crate::places::Place;
@@ -32,7 +32,7 @@ pub(crate) struct DeclaredMethod {
 impl Model for DeclaredMethod {
     ghost use Rattle.std.specs.Coded.{codes};
     ghost use Rattle.dexval.specs.Stored.{elements_code};
-    ghost use Rattle.dexmembers.specs.Held.{StoredMethod};
+    ghost use Rattle.dexmembers.specs.internal.Stored.{StoredMethod};
 
     ghost Value = { StoredMethod };
 
@@ -65,7 +65,8 @@ impl<'a> Model for MethodList<'a> {
     ghost use Rattle.std.specs.Prelude.{List, map};
     ghost use Rattle.std.specs.Coded.{codes};
     ghost use Rattle.dexval.specs.Stored.{elements_code};
-    ghost use Rattle.dexmembers.specs.Held.{HeldMethod, held_in, code_places, ArePlacesOf};
+    ghost use Rattle.dexmembers.specs.Held.{HeldMethod};
+    ghost use Rattle.dexmembers.specs.internal.Stored.{held_in, code_places, ArePlacesOf};
 
     ghost Value = { List HeldMethod };
 

@@ -53,7 +53,8 @@ impl<'m, 'a> Model for Method<'m, 'a> {
     ghost use Rattle.std.specs.Coded.{codes};
     ghost use Rattle.dexval.specs.Stored.{elements_code};
     ghost use Rattle.dexmembers.specs.Numbered.{NumberedMethod};
-    ghost use Rattle.dexmembers.specs.Held.{held_in, method_of, IsHeldMethod};
+    ghost use Rattle.dexmembers.specs.Held.{method_of, IsHeldMethod};
+    ghost use Rattle.dexmembers.specs.internal.Stored.{held_in};
 
     ghost Value = { NumberedMethod };
 

@@ -7,13 +7,11 @@ ghost use Rattle.dexmembers.specs.Contents.{contents_in, AreHeld};
 ghost use Rattle.dexmembers.specs.internal.RowParts.{IsPartFault};
 ghost use Rattle.dexmembers.specs.internal.Weighed.{IsWeighedWithin};
 
-use crate::checking::{Checks, check_members};
+use crate::attaching::attach;
 use crate::class_data::read_class_data;
-use crate::class_def::ClassDef;
-use crate::members::{Contents, Members};
-use crate::row_parts::attach;
+use crate::members::Contents;
 use crate::row_reader::{RowReader, too_heavy};
-use crate::weighing::members_weight_law;
+use crate::{Checks, ClassDef, Members, check_members, members_weight_law};
 use dexcode::code_meaning_law;
 use dexhead::{Condition, Frame};
 use dexinsn::Scratch;

@@ -8,7 +8,7 @@ ghost use Rattle.dexmembers.specs.internal.StaticValues.{RefusesValues};
 ghost use Rattle.dexmembers.specs.Checking.{WeighsAnnotations, WeighsValues};
 
 use crate::class_data::ClassData;
-use crate::row_annotations::names_declared;
+use crate::naming::names_declared;
 use dexhead::{Condition, Frame};
 use dexpool::{ItemFault, Pools};
 use dexval::{CheckedSets, check_directory, check_statics};

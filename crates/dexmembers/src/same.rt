@@ -10,9 +10,7 @@ ghost use Rattle.dexdebug.specs.internal.Same.{SameRemapped};
 ghost use Rattle.dexmembers.specs.Renumbering.{renumbered_field, renumbered_method, renumbered_members};
 ghost use Rattle.dexmembers.specs.Borrowed.{IsBorrowedCode, IsBorrowedSet};
 
-use crate::field_views::{Field, Fields};
-use crate::members::Members;
-use crate::method_views::{Method, Methods, ParameterSets};
+use crate::{Field, Fields, Members, Method, Methods, ParameterSets};
 use dexcode::Code;
 use dexpool::{Remap, SymbolKind};
 use dexval::{AnnotationSet, eq_ends, same_values_mapped};

@@ -7,8 +7,7 @@ ghost use Rattle.dexmembers.specs.Fitting.{MethodFits, NumbersFit, method_short_
 ghost use Rattle.dexmembers.specs.Borrowed.{ForCode};
 ghost use Rattle.dexmembers.specs.internal.Parts.{optional_short_strings};
 
-use crate::members::Members;
-use crate::method_views::{Method, Methods};
+use crate::{Members, Method, Methods};
 use dexcode::Code;
 
 // The greater of two numbers, if there are any.
@@ -16,13 +15,7 @@ fn greater(left: Option<u32>, right: Option<u32>) -> Option<u32>
     ensures { (ns ks : List ℕ) → IsGreatest ns left → IsGreatest ks right
         → IsGreatest (ns ++ ks) result }
 {
-    match left {
-        None => right,
-        Some(number) => match right {
-            None => left,
-            Some(other) => Some(number.max(other)),
-        },
-    }
+    left.max(right)
 }
 
 // The greatest such number in the code, if there is some.

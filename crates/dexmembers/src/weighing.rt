@@ -11,9 +11,8 @@ ghost use Rattle.dexmembers.specs.Borrowed.{ForCode, ForSet};
 ghost use Rattle.dexmembers.specs.internal.Parts.{optional_whole_weight};
 ghost use Rattle.dexmembers.specs.Laws.{MembersWeightIsDenoted};
 
-use crate::field_views::{Field, Fields};
-use crate::members::{Contents, Members};
-use crate::method_views::{Method, Methods};
+use crate::members::Contents;
+use crate::{Field, Fields, Members, Method, Methods};
 use dexcode::{Code, code_meaning_law, code_weight_law, debug_meaning_law, debug_unindexed_law};
 use dexval::{AnnotationSet, Value, statics_weight};
 
@@ -152,8 +151,8 @@ impl Contents<'_> {
         requires { AreHeld self.now }
         ensures { result ≡ min (2 ^ 64 - 1) (numbered_members_weight (contents_in self.now)) }
     {
-        let direct = codes_weight(&self.direct_methods());
-        let virtuals = codes_weight(&self.virtual_methods());
+        let direct = codes_weight(&Methods::of(&self.table, &self.direct_methods));
+        let virtuals = codes_weight(&Methods::of(&self.table, &self.virtual_methods));
         self.weight_with(direct.saturating_add(virtuals))
     }
 
@@ -165,11 +164,11 @@ impl Contents<'_> {
         ensures { result ≡ min (2 ^ 64 - 1) (codes + own_members_weight (contents_in self.now)) }
     {
         codes
-            .saturating_add(optional_weight(self.annotations()))
-            .saturating_add(fields_weight(&self.static_fields()))
-            .saturating_add(fields_weight(&self.instance_fields()))
-            .saturating_add(methods_weight(&self.direct_methods()))
-            .saturating_add(methods_weight(&self.virtual_methods()))
+            .saturating_add(optional_weight(self.table.set(self.set)))
+            .saturating_add(fields_weight(&Fields::of(&self.table, &self.static_fields)))
+            .saturating_add(fields_weight(&Fields::of(&self.table, &self.instance_fields)))
+            .saturating_add(methods_weight(&Methods::of(&self.table, &self.direct_methods)))
+            .saturating_add(methods_weight(&Methods::of(&self.table, &self.virtual_methods)))
             .saturating_add(values_weight(&self.static_values))
     }
 }

@@ -13,7 +13,7 @@ use Rattle.dexmembers.specs.declared.class_data.EncodedField.{EncodedField}
 use Rattle.dexmembers.specs.declared.class_data.EncodedMethod.{EncodedMethod}
 use Rattle.dexmembers.specs.declared.class_data.ClassData.{ClassData}
 use Rattle.dexmembers.specs.declared.class_data.Counts.{Counts}
-use Rattle.dexmembers.specs.declared.encoded_lists.ClassDataReader.{ClassDataReader}
+use Rattle.dexmembers.specs.declared.encoded_lists.ClassReader.{ClassReader}
 
 -- the members are refused for this reason; a failed allocation says nothing
 abbrev pub IsDataRefusal : Type 0 → ItemFault → Type 0
@@ -86,23 +86,23 @@ pub record AreListsRead {X : Type 0} (At : Member X) (index : X → ℕ) (b : Li
 abbrev pub NoLists : {X : Type 0} → Member X → (X → ℕ) → List ℕ → ℕ → ℕ → ℕ → Type 0
 NoLists {X} At index b o count other_count = (xs ys : List X) (n : ℕ) → length xs ≡ count → length ys ≡ other_count → ListsAt At index b o xs ys n → ⊥
 
--- ---- lists of members of an owner
+-- ---- lists of members of a class
 
--- `count` members of the owner were read from offset o on, in as many bytes
-abbrev pub ReadsList : {X : Type 0} → OwnMember X → (X → ℕ) → ClassDataReader → ℕ → ℕ → Vec X × ℕ → Type 0
-ReadsList At index reader o count x = IsListRead (At reader.owner.pools.now reader.owner.class) index reader.bytes.now o count x.0.items x.1
+-- `count` members of the class were read from offset o on, in as many bytes
+abbrev pub ReadsList : {X : Type 0} → OwnMember X → (X → ℕ) → ClassReader → ℕ → ℕ → Vec X × ℕ → Type 0
+ReadsList At index reader o count x = IsListRead (At reader.pools.now reader.class) index reader.bytes.now o count x.0.items x.1
 
 -- what is refused are such members
-abbrev pub RefusesList : {X : Type 0} → OwnMember X → (X → ℕ) → ClassDataReader → ℕ → ℕ → ItemFault → Type 0
-RefusesList At index reader o count fault = IsDataRefusal (NoList (At reader.owner.pools.now reader.owner.class) index reader.bytes.now o count) fault
+abbrev pub RefusesList : {X : Type 0} → OwnMember X → (X → ℕ) → ClassReader → ℕ → ℕ → ItemFault → Type 0
+RefusesList At index reader o count fault = IsDataRefusal (NoList (At reader.pools.now reader.class) index reader.bytes.now o count) fault
 
--- two lists of `count` and `other_count` members of the owner were read
-abbrev pub ReadsLists : {X : Type 0} → OwnMember X → (X → ℕ) → ClassDataReader → ℕ → ℕ → ℕ → Vec X × Vec X × ℕ → Type 0
-ReadsLists At index reader o count other_count x = AreListsRead (At reader.owner.pools.now reader.owner.class) index reader.bytes.now o count other_count x.0.items x.1.items x.2
+-- two lists of `count` and `other_count` members of the class were read
+abbrev pub ReadsLists : {X : Type 0} → OwnMember X → (X → ℕ) → ClassReader → ℕ → ℕ → ℕ → Vec X × Vec X × ℕ → Type 0
+ReadsLists At index reader o count other_count x = AreListsRead (At reader.pools.now reader.class) index reader.bytes.now o count other_count x.0.items x.1.items x.2
 
 -- what is refused are such lists
-abbrev pub RefusesLists : {X : Type 0} → OwnMember X → (X → ℕ) → ClassDataReader → ℕ → ℕ → ℕ → ItemFault → Type 0
-RefusesLists At index reader o count other_count fault = IsDataRefusal (NoLists (At reader.owner.pools.now reader.owner.class) index reader.bytes.now o count other_count) fault
+abbrev pub RefusesLists : {X : Type 0} → OwnMember X → (X → ℕ) → ClassReader → ℕ → ℕ → ℕ → ItemFault → Type 0
+RefusesLists At index reader o count other_count fault = IsDataRefusal (NoLists (At reader.pools.now reader.class) index reader.bytes.now o count other_count) fault
 
 -- ---- fields and methods
 
@@ -175,13 +175,13 @@ AreCountsAt b o counts n = Sequence Uleb128At b o (counts.static_fields ∷ coun
 abbrev pub NoData : Mentions → ℕ → List ℕ → ℕ → Type 0
 NoData m class b o = (ss is : List EncodedField) (ds vs : List EncodedMethod) → DataAt m class b o ss is ds vs → ⊥
 
--- the class data of the owner were read at offset o
-abbrev pub ReadsDataAt : ClassDataReader → ℕ → ClassData → Type 0
-ReadsDataAt reader = IsDataAt reader.owner.pools.now reader.owner.class reader.bytes.now
+-- the class data of the class were read at offset o
+abbrev pub ReadsDataAt : ClassReader → ℕ → ClassData → Type 0
+ReadsDataAt reader = IsDataAt reader.pools.now reader.class reader.bytes.now
 
 -- what is refused are such class data
-abbrev pub RefusesDataAt : ClassDataReader → ℕ → ItemFault → Type 0
-RefusesDataAt reader o = IsDataRefusal (NoData reader.owner.pools.now reader.owner.class reader.bytes.now o)
+abbrev pub RefusesDataAt : ClassReader → ℕ → ItemFault → Type 0
+RefusesDataAt reader o = IsDataRefusal (NoData reader.pools.now reader.class reader.bytes.now o)
 
 -- ---- two lists in one pass
 

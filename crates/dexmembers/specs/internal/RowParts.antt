@@ -26,7 +26,7 @@ use Rattle.dexmembers.specs.Reading.{AreHeavyMembers, IsMembersFault}
 use Rattle.dexmembers.specs.Weighing.{codes_weight}
 use Rattle.dexmembers.specs.declared.class_def.ClassDef.{ClassDef}
 use Rattle.dexmembers.specs.declared.members.Contents.{Contents}
-use Rattle.dexmembers.specs.declared.row_parts.Parts.{Parts}
+use Rattle.dexmembers.specs.declared.row_reader.Parts.{Parts}
 use Rattle.dexmembers.specs.declared.row_reader.RowReader.{RowReader}
 use Rattle.dexmembers.specs.internal.RowReaders.{IsFile}
 

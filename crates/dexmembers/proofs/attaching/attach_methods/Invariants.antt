@@ -1,6 +1,6 @@
 use Rattle.dexmembers.proofs.Common.{◌≡◌, ◌<◌, ℕ, All, IfSome, map, take, zip_with}
-use Rattle.dexmembers.specs.{code_at, code_places, held_in}
 use Rattle.dexmembers.specs.internal.Attaching.{EntriesRise, held_method}
+use Rattle.dexmembers.specs.{code_at, code_places, held_in}
 use Rattle.dexmembers.proofs.attaching.attach_methods.Given as goal
 
 abbrev pub invariant-loop-i : goal.invariant-loop-i

@@ -7,5 +7,5 @@ returns-in_err-index-clause-none c = rw c.from_residual.ensures (λ x n h. let e
 
 pub returns-then-not-has_field-clause-none : goal.returns-then-not-has_field-clause-none
 returns-then-not-has_field-clause-none c =
-    other_field c.args.owner.pools.now c.args.owner.class c.args.bytes.now c.args.at c.args.last c.in_ok-index.index c.in_ok-index.flags c.in_ok-index.size c.in_ok-index.ensures.some
+    other_field c.args.reader.now.pools.now c.args.reader.now.class c.args.reader.now.bytes.now c.args.at c.args.last c.in_ok-index.index c.in_ok-index.flags c.in_ok-index.size c.in_ok-index.ensures.some
     (λ own. let e : false ≡ true = sym c.if-not-has_field.true ∙ c.has_field.ensures.1 own in absurd cc)

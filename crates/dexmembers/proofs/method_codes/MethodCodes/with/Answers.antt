@@ -1,6 +1,6 @@
 use Rattle.dexmembers.proofs.Common.{◌∙◌, ◌++◌, ◌∷◌, [], ap, map, sym, subst}
-use Rattle.dexmembers.specs.{ArePlacesOf, code_at}
 use Rattle.dexmembers.proofs.MethodLists.{places_more, codes_more}
+use Rattle.dexmembers.specs.{ArePlacesOf, code_at}
 use Rattle.dexmembers.proofs.method_codes.MethodCodes.with.Goals as goal
 
 pub invariant_of-result : goal.invariant_of-result

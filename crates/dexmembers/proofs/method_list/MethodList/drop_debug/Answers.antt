@@ -1,5 +1,5 @@
 use Rattle.dexmembers.proofs.Common.{◌∙◌, ap, map}
-use Rattle.dexmembers.specs.{code_places, held_in, stripped_code, stripped_held}
+use Rattle.dexmembers.specs.{stripped_code, stripped_held, code_places, held_in}
 use Rattle.dexmembers.proofs.MethodLists.{list_stripped, codes_replaced}
 use Rattle.dexmembers.proofs.method_list.MethodList.drop_debug.Goals as goal
 

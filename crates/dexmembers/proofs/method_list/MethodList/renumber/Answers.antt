@@ -1,5 +1,5 @@
 use Rattle.dexmembers.proofs.Common.{◌∙◌, sym, ap, subst, All, map, renumbered_item}
-use Rattle.dexmembers.specs.{code_places, IsHeldMethodMapped, held_in, remapped_method}
+use Rattle.dexmembers.specs.{IsHeldMethodMapped, remapped_method, code_places, held_in}
 use Rattle.dexmembers.proofs.MethodLists.{codes_mapped, numbers_mapped, list_remapped, codes_replaced, methods_replaced}
 use Rattle.dexmembers.proofs.method_list.MethodList.renumber.Goals as goal
 

@@ -1,5 +1,5 @@
 use Rattle.dexmembers.proofs.Common.{◌∙◌, ◌<◌, get_or, length, map, sym, ap, subst, arith, All, length-map, get_or-map}
-use Rattle.dexmembers.specs.{held_in, method_of, IsHeldMethod}
+use Rattle.dexmembers.specs.{method_of, IsHeldMethod, held_in}
 use Rattle.dexmembers.proofs.RenumberingLists.{all_seen}
 use Rattle.dexmembers.proofs.method_views.Methods.get.Goals as goal
 

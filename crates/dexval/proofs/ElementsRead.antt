@@ -219,13 +219,6 @@ module _ (b : List ℕ) (o depth : ℕ) (m : Mentions) (p : ArePools b m) where
   pub nothing_after : length b ≤ o → NoValueAt b o depth
   nothing_after le v n h d = omega (arith, value_within b o m v n p h)
 
-  -- without depth there is no value that holds other values
-  pub no_deep_array : slice_index b o ≡ 28 → depth ≡ 0 → NoValueAt b o depth
-  no_deep_array is none v n h d = omega (arith, subst (λ (x : Value). value_depth x ≤ depth) (array_only b o m v n p is h).1 d)
-
-  pub no_deep_annotation : slice_index b o ≡ 29 → depth ≡ 0 → NoValueAt b o depth
-  no_deep_annotation is none v n h d = omega (arith, subst (λ (x : Value). value_depth x ≤ depth) (annotation_only b o m v n p is h).2 d)
-
   -- an array after its first byte
   pub array_encoded : (xs : NumberedValues) (n : ℕ) → o < length b → slice_index b o ≡ 28 → depth ≢ 0 → AreReadAt b (o + 1) m (depth - 1) xs n → IsReadAt b o m depth (Array xs) (1 + n)
   array_encoded xs n lt is some r = record { known = r.known; encodes = (is_at_byte b o 28 lt is, n, r.encodes, refl); shallow = omega (arith, r.shallow, some) }

@@ -5,7 +5,7 @@ use Rattle.dexval.specs.declared.annotation.Annotation.{Annotation}
 use Rattle.dexval.specs.declared.set.AnnotationSet.{AnnotationSet}
 use Rattle.dexval.specs.declared.value.Element.{Element}
 use Rattle.dexval.specs.declared.value.Value.{Value}
-use Rattle.dexval.specs.Code.{value_of, values_of, element_of, elements_of, annotation_of, set_from, set_of}
+use Rattle.dexval.specs.Code.{value_of, values_of, element_of, elements_of, annotation_of, set_of}
 use Rattle.dexval.specs.Renumbering.{renumbered, renumbered_values, renumbered_element, renumbered_elements, renumbered_annotation, renumbered_set}
 
 -- two values
@@ -27,10 +27,6 @@ SameElements r ds s es = renumbered_elements r (elements_of ds) ≡ renumbered_e
 -- two annotations: visibilities, types and elements
 abbrev pub SameAnnotation : Maps → Annotation → Maps → Annotation → Type 0
 SameAnnotation r x s y = renumbered_annotation r (annotation_of x) ≡ renumbered_annotation s (annotation_of y)
-
--- two lists of annotations, one for one
-abbrev pub SameAnnotations : Maps → List Annotation → Maps → List Annotation → Type 0
-SameAnnotations r xs s ys = renumbered_set r (set_from xs) ≡ renumbered_set s (set_from ys)
 
 -- two sets
 abbrev pub SameSet : Maps → AnnotationSet → Maps → AnnotationSet → Type 0

@@ -1,7 +1,7 @@
 //! Copies of values and of sets of annotations.
 
 ghost use Rattle.std.specs.Prelude.{◌≡◌, IfOk, map};
-ghost use Rattle.dexval.specs.Code.{value_of, element_of, encoded_of, annotation_of, set_of};
+ghost use Rattle.dexval.specs.Code.{value_of, element_of, encoded_of, set_of};
 
 use crate::{Annotation, AnnotationSet, Element, EncodedAnnotation, Value};
 use std::alloc::AllocError;
@@ -76,21 +76,6 @@ fn copied_annotation(annotation: &EncodedAnnotation) -> Result<EncodedAnnotation
     })
 }
 
-// The same annotations.
-fn copied_annotations(annotations: &Vec<Annotation>) -> Result<Vec<Annotation>, AllocError>
-    ensures { IfOk result (λ copy.
-        map annotation_of copy.items ≡ map annotation_of annotations.now.items) }
-{
-    let mut copy = Vec::with_capacity(*annotations.allocator(), annotations.len())?;
-    for annotation in annotations {
-        copy.push(Annotation {
-            visibility: annotation.visibility,
-            annotation: copied_annotation(&annotation.annotation)?,
-        })?;
-    }
-    Ok(copy)
-}
-
 impl Value {
     /// The same value, with a copy of its contents.
     pub fn copy(&self) -> Result<Self, AllocError>
@@ -105,8 +90,14 @@ impl AnnotationSet {
     pub fn copy(&self) -> Result<Self, AllocError>
         ensures { IfOk result (λ copy. set_of copy ≡ set_of self.now) }
     {
-        Ok(AnnotationSet {
-            annotations: copied_annotations(&self.annotations)?,
-        })
+        let alloc = *self.annotations.allocator();
+        let mut annotations = Vec::with_capacity(alloc, self.annotations.len())?;
+        for annotation in &self.annotations {
+            annotations.push(Annotation {
+                visibility: annotation.visibility,
+                annotation: copied_annotation(&annotation.annotation)?,
+            })?;
+        }
+        Ok(AnnotationSet { annotations })
     }
 }

@@ -62,10 +62,8 @@ pub(crate) fn value_measure(
         return None;
     }
     match bytes[at] {
+        ARRAY | ANNOTATION if depth == 0 => None,
         ARRAY => {
-            if depth == 0 {
-                return None;
-            }
             let (_, values) = array_measure(bytes, pools, at + 1, depth - 1)?;
             Some(Measure {
                 size: 1 + values.size,
@@ -73,9 +71,6 @@ pub(crate) fn value_measure(
             })
         }
         ANNOTATION => {
-            if depth == 0 {
-                return None;
-            }
             let (_, annotation) = annotation_measure(bytes, pools, at + 1, depth - 1)?;
             Some(Measure {
                 size: 1 + annotation.size,

@@ -67,17 +67,12 @@ impl<'r, 'p> ValueReader<'r, 'p> {
             return Err(self.refusal());
         }
         match self.bytes[at] {
+            ARRAY | ANNOTATION if depth == 0 => Err(self.refusal()),
             ARRAY => {
-                if depth == 0 {
-                    return Err(self.refusal());
-                }
                 let (values, size) = self.array_at(at + 1, depth - 1)?;
                 Ok((Value::Array(Box::new(self.alloc, values)?), 1 + size))
             }
             ANNOTATION => {
-                if depth == 0 {
-                    return Err(self.refusal());
-                }
                 let (annotation, size) = self.annotation_at(at + 1, depth - 1)?;
                 Ok((
                     Value::Annotation(Box::new(self.alloc, annotation)?),

@@ -2,7 +2,7 @@
 
 ghost use Rattle.std.specs.Prelude.{◌≡◌, map};
 ghost use Rattle.dexpool.specs.declared.symbols.SymbolKind.TheVariants as kinds;
-ghost use Rattle.dexval.specs.Code.{value_of, element_of, encoded_of, annotation_of, set_of, values_of, elements_of, set_from};
+ghost use Rattle.dexval.specs.Code.{value_of, element_of, encoded_of, annotation_of, set_of, values_of, elements_of};
 ghost use Rattle.dexval.specs.Numbered.{values_of_list, elements_of_list};
 ghost use Rattle.dexval.specs.Renumbering.{remapped, renumbered, renumbered_values, renumbered_elements, renumbered_element, renumbered_annotation, renumbered_set, HasPlaces, HavePlaces, ElementHasPlaces, ElementsHavePlaces, AnnotationHasPlaces, SetHasPlaces};
 ghost use Rattle.dexpool.specs.Images.{IsMapped};
@@ -112,17 +112,6 @@ impl Annotation {
     }
 }
 
-// Replaces each number of annotations by the one that it maps to.
-fn renumber_annotations(annotations: &mut Vec<Annotation>, remap: &Remap)
-    requires { SetHasPlaces remap.now (map annotation_of annotations.old.items) }
-    ensures { set_from annotations.new.items
-        ≡ renumbered_set remap.now (set_from annotations.old.items) }
-{
-    for i in 0..annotations.len() {
-        annotations[i].renumber(remap);
-    }
-}
-
 impl AnnotationSet {
     /// Replaces each number of a symbol in the annotations by the one that it maps to.
     ///
@@ -131,7 +120,9 @@ impl AnnotationSet {
         requires { SetHasPlaces remap.now (set_of self.old) }
         ensures { set_of self.new ≡ renumbered_set remap.now (set_of self.old) }
     {
-        renumber_annotations(&mut self.annotations, remap);
+        for i in 0..self.annotations.len() {
+            self.annotations[i].renumber(remap);
+        }
     }
 }
 

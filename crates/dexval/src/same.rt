@@ -3,7 +3,7 @@
 ghost use Rattle.std.specs.Prelude.{◌≡◌, ◌↔◌, IsTrue, map};
 ghost use Rattle.dexpool.specs.declared.symbols.SymbolKind.TheVariants as kinds;
 ghost use Rattle.dexval.specs.Renumbering.{remapped, renumbered};
-ghost use Rattle.dexval.specs.Same.{SameValue, SameValues, SameElement, SameElements, SameAnnotation, SameAnnotations, SameSet};
+ghost use Rattle.dexval.specs.Same.{SameValue, SameValues, SameElement, SameElements, SameAnnotation, SameSet};
 ghost use Rattle.dexval.specs.Code.{value_of, element_of};
 ghost use Rattle.dexval.specs.internal.Heads.{head_of, held_values, held_elements, mapped_head};
 ghost use Rattle.dexval.specs.Numbered.{values_of_list, elements_of_list};
@@ -109,33 +109,21 @@ impl Annotation {
     }
 }
 
-// Whether the annotations are equal, one for one, once their numbers are remapped.
-fn same_annotations(
-    mine: &Remap,
-    annotations: &[Annotation],
-    theirs: &Remap,
-    others: &[Annotation],
-) -> bool
-    ensures { IsTrue result ↔ SameAnnotations mine.now annotations.now theirs.now others.now }
-{
-    if annotations.len() != others.len() {
-        return false;
-    }
-    for (i, annotation) in annotations.iter().enumerate() {
-        if !annotation.same_mapped(mine, &others[i], theirs) {
-            return false;
-        }
-    }
-    true
-}
-
 impl AnnotationSet {
     /// Whether this and another set are equal, once the numbers of each are remapped by its own map. A number without
     /// an image is unchanged.
     pub fn same_mapped(&self, mine: &Remap, other: &AnnotationSet, theirs: &Remap) -> bool
         ensures { IsTrue result ↔ SameSet mine.now self.now theirs.now other.now }
     {
-        same_annotations(mine, &self.annotations, theirs, &other.annotations)
+        if self.annotations.len() != other.annotations.len() {
+            return false;
+        }
+        for (i, annotation) in self.annotations.iter().enumerate() {
+            if !annotation.same_mapped(mine, &other.annotations[i], theirs) {
+                return false;
+            }
+        }
+        true
     }
 }
 

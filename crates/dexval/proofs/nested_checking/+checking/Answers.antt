@@ -1,5 +1,5 @@
 use Rattle.dexval.proofs.Common.{◌≡◌, ◌+◌, ℕ, refl, ap, subst, arith}
-use Rattle.dexval.proofs.ElementsRead.{nothing_after, no_deep_array, no_deep_annotation, no_array, no_annotation, no_such_name, no_such_type, no_name, no_value, no_type, no_element_count, no_elements}
+use Rattle.dexval.proofs.ElementsRead.{nothing_after, no_array, no_annotation, no_such_name, no_such_type, no_name, no_value, no_type, no_element_count, no_elements}
 use Rattle.dexval.proofs.ValuesRead.{no_count}
 use Rattle.dexval.proofs.NestedChecked.{array_checked, annotation_checked, no_value_yet, one_value_checked, no_value_next, values_checked, no_element_yet, one_element_checked, no_element_next, elements_checked, annotation_of_elements, ElementsChecked}
 use Rattle.dexval.proofs.nested_checking.+checking.Goals.{element_measure-then-from-least-via-then-from-least, element_measure-then-from-least-via-else-from-least+then-name-len}
@@ -8,20 +8,14 @@ use Rattle.dexval.proofs.nested_checking.+checking.Goals as goal
 pub value_measure-returns-then-at-bytes-clause-checked : goal.value_measure-returns-then-at-bytes-clause-checked
 value_measure-returns-then-at-bytes-clause-checked t c = λ p. nothing_after c.args.bytes.now c.args.at c.args.depth c.args.pools.now p.pools (omega arith)
 
-pub value_measure-returns-then-depth-eq0-clause-checked : goal.value_measure-returns-then-depth-eq0-clause-checked
-value_measure-returns-then-depth-eq0-clause-checked t c = λ p. no_deep_array c.args.bytes.now c.args.at c.args.depth c.args.pools.now p.pools c.in-28.is c.if-depth-eq0.true
+pub value_measure-returns-in_ok-values-in-28-2-clause-checked : goal.value_measure-returns-in_ok-values-in-28-2-clause-checked
+value_measure-returns-in_ok-values-in-28-2-clause-checked t c = λ p. array_checked c.args.bytes.now c.args.at c.args.pools.now c.args.depth p.pools c.in_ok-values-in-28-2.field-0-0 c.in_ok-values-in-28-2.values.size c.in_ok-values-in-28-2.values.weight (omega arith) c.in-28-2.is c.if-depth-eq0.false (c.in_ok-values-in-28-2.ensures.checked p)
 
-pub value_measure-returns-then-depth-eq0-2-clause-checked : goal.value_measure-returns-then-depth-eq0-2-clause-checked
-value_measure-returns-then-depth-eq0-2-clause-checked t c = λ p. no_deep_annotation c.args.bytes.now c.args.at c.args.depth c.args.pools.now p.pools c.in-29.is c.if-depth-eq0-2.true
-
-pub value_measure-returns-in_ok-values-in-28-clause-checked : goal.value_measure-returns-in_ok-values-in-28-clause-checked
-value_measure-returns-in_ok-values-in-28-clause-checked t c = λ p. array_checked c.args.bytes.now c.args.at c.args.pools.now c.args.depth p.pools c.in_ok-values-in-28.field-0-0 c.in_ok-values-in-28.values.size c.in_ok-values-in-28.values.weight (omega arith) c.in-28.is c.if-depth-eq0.false (c.in_ok-values-in-28.ensures.checked p)
-
-pub value_measure-returns-in_err-values-in-28-clause-checked : goal.value_measure-returns-in_err-values-in-28-clause-checked
-value_measure-returns-in_err-values-in-28-clause-checked t c = rw c.from_residual.ensures (λ p. no_array c.args.bytes.now c.args.at c.args.depth c.args.pools.now p.pools c.in-28.is (c.in_err-values-in-28.ensures.checked p))
+pub value_measure-returns-in_err-values-in-28-2-clause-checked : goal.value_measure-returns-in_err-values-in-28-2-clause-checked
+value_measure-returns-in_err-values-in-28-2-clause-checked t c = rw c.from_residual.ensures (λ p. no_array c.args.bytes.now c.args.at c.args.depth c.args.pools.now p.pools c.in-28-2.is (c.in_err-values-in-28-2.ensures.checked p))
 
 pub value_measure-returns-in_ok-annotation-in-29-clause-checked : goal.value_measure-returns-in_ok-annotation-in-29-clause-checked
-value_measure-returns-in_ok-annotation-in-29-clause-checked t c = λ p. annotation_checked c.args.bytes.now c.args.at c.args.pools.now c.args.depth p.pools c.in_ok-annotation-in-29.field-0-0 c.in_ok-annotation-in-29.annotation.size c.in_ok-annotation-in-29.annotation.weight (omega arith) c.in-29.is c.if-depth-eq0-2.false (c.in_ok-annotation-in-29.ensures.checked p)
+value_measure-returns-in_ok-annotation-in-29-clause-checked t c = λ p. annotation_checked c.args.bytes.now c.args.at c.args.pools.now c.args.depth p.pools c.in_ok-annotation-in-29.field-0-0 c.in_ok-annotation-in-29.annotation.size c.in_ok-annotation-in-29.annotation.weight (omega arith) c.in-29.is c.if-depth-eq0.false (c.in_ok-annotation-in-29.ensures.checked p)
 
 pub value_measure-returns-in_err-annotation-in-29-clause-checked : goal.value_measure-returns-in_err-annotation-in-29-clause-checked
 value_measure-returns-in_err-annotation-in-29-clause-checked t c = rw c.from_residual-in_err-annotation-in-29.ensures (λ p. no_annotation c.args.bytes.now c.args.at c.args.depth c.args.pools.now p.pools c.in-29.is (c.in_err-annotation-in-29.ensures.checked p))

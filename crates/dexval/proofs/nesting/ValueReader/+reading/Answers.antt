@@ -2,7 +2,7 @@ use Rattle.dexval.proofs.Common.{◌≡◌, ◌∙◌, ◌+◌, ◌∷◌, ◌++
 use Rattle.dexval.specs.Numbered as numbered
 use Rattle.dexval.proofs.Members.{array_is, annotation_is, element_is}
 use Rattle.dexval.proofs.Refusals.{err_is, refuses_so, found_or, refused_or}
-use Rattle.dexval.proofs.ElementsRead.{nothing_after, no_deep_array, no_deep_annotation, array_encoded, no_array, annotation_encoded, no_annotation, deeper, HaveReadOf, no_such_name, no_such_type, one_element_more, no_next_element, all_elements_read, no_name, no_value, no_type, no_element_count, no_elements, annotation_read}
+use Rattle.dexval.proofs.ElementsRead.{nothing_after, array_encoded, no_array, annotation_encoded, no_annotation, deeper, HaveReadOf, no_such_name, no_such_type, one_element_more, no_next_element, all_elements_read, no_name, no_value, no_type, no_element_count, no_elements, annotation_read}
 use Rattle.dexval.proofs.ValuesRead.{HaveRead, one_more, no_next, no_count, no_values, all_read}
 use Rattle.dexval.proofs.nesting.ValueReader.+reading.Goals.{element_at-then-from-least-via-then-from-least, element_at-then-from-least-via-else-from-least+then-name-len}
 use Rattle.dexval.proofs.nesting.ValueReader.+reading.Goals as goal
@@ -77,25 +77,19 @@ elements_at-returns-clause-read t c = λ p.
 pub value_at-returns-then-at-self-clause-refused : goal.value_at-returns-then-at-self-clause-refused
 value_at-returns-then-at-self-clause-refused t c = λ p. rw c.refusal.ensures (refl, nothing_after c.args.self.now.bytes.now c.args.at c.args.depth c.args.self.now.pools.now p.pools (omega arith))
 
-pub value_at-returns-then-depth-eq0-clause-refused : goal.value_at-returns-then-depth-eq0-clause-refused
-value_at-returns-then-depth-eq0-clause-refused t c = λ p. rw c.refusal-then-depth-eq0.ensures (refl, no_deep_array c.args.self.now.bytes.now c.args.at c.args.depth c.args.self.now.pools.now p.pools c.in-28.is c.if-depth-eq0.true)
+pub value_at-returns-in_ok-new-in-28-2-clause-read : goal.value_at-returns-in_ok-new-in-28-2-clause-read
+value_at-returns-in_ok-new-in-28-2-clause-read t c = λ p.
+    subst (λ (x : NumberedValue). IsReadAt c.args.self.now.bytes.now c.args.at c.args.self.now.pools.now c.args.depth x (1 + c.in_ok-values-in-28-2.size)) (sym (array_is c.in_ok-new-in-28-2.field-0 ∙ ap (λ vs. numbered.Array (values_of_list (map value_of vs.items))) c.in_ok-new-in-28-2.ensures.ok))
+    (array_encoded c.args.self.now.bytes.now c.args.at c.args.depth c.args.self.now.pools.now p.pools (values_of_list (map value_of c.in_ok-values-in-28-2.values.items)) c.in_ok-values-in-28-2.size (omega arith) c.in-28-2.is c.if-depth-eq0.false (c.in_ok-values-in-28-2.ensures.read p))
 
-pub value_at-returns-then-depth-eq0-2-clause-refused : goal.value_at-returns-then-depth-eq0-2-clause-refused
-value_at-returns-then-depth-eq0-2-clause-refused t c = λ p. rw c.refusal-then-depth-eq0-2.ensures (refl, no_deep_annotation c.args.self.now.bytes.now c.args.at c.args.depth c.args.self.now.pools.now p.pools c.in-29.is c.if-depth-eq0-2.true)
-
-pub value_at-returns-in_ok-new-in-28-clause-read : goal.value_at-returns-in_ok-new-in-28-clause-read
-value_at-returns-in_ok-new-in-28-clause-read t c = λ p.
-    subst (λ (x : NumberedValue). IsReadAt c.args.self.now.bytes.now c.args.at c.args.self.now.pools.now c.args.depth x (1 + c.in_ok-values-in-28.size)) (sym (array_is c.in_ok-new-in-28.field-0 ∙ ap (λ vs. numbered.Array (values_of_list (map value_of vs.items))) c.in_ok-new-in-28.ensures.ok))
-    (array_encoded c.args.self.now.bytes.now c.args.at c.args.depth c.args.self.now.pools.now p.pools (values_of_list (map value_of c.in_ok-values-in-28.values.items)) c.in_ok-values-in-28.size (omega arith) c.in-28.is c.if-depth-eq0.false (c.in_ok-values-in-28.ensures.read p))
-
-pub value_at-returns-in_err-values-in-28-clause-refused : goal.value_at-returns-in_err-values-in-28-clause-refused
-value_at-returns-in_err-values-in-28-clause-refused t c = λ p. rw (err_is c.from_residual.result c.from_residual.ensures.1) (refuses_so c.args.self.now.number (λ none. no_array c.args.self.now.bytes.now c.args.at c.args.depth c.args.self.now.pools.now p.pools c.in-28.is none) c.in_err-values-in-28.field-0.0 (c.in_err-values-in-28.ensures.refused p))
+pub value_at-returns-in_err-values-in-28-2-clause-refused : goal.value_at-returns-in_err-values-in-28-2-clause-refused
+value_at-returns-in_err-values-in-28-2-clause-refused t c = λ p. rw (err_is c.from_residual.result c.from_residual.ensures.1) (refuses_so c.args.self.now.number (λ none. no_array c.args.self.now.bytes.now c.args.at c.args.depth c.args.self.now.pools.now p.pools c.in-28-2.is none) c.in_err-values-in-28-2.field-0.0 (c.in_err-values-in-28-2.ensures.refused p))
 
 pub value_at-returns-in_ok-new-in-29-clause-read : goal.value_at-returns-in_ok-new-in-29-clause-read
 value_at-returns-in_ok-new-in-29-clause-read t c = λ p.
     let a = c.in_ok-annotation-in-29.annotation in
     subst (λ (x : NumberedValue). IsReadAt c.args.self.now.bytes.now c.args.at c.args.self.now.pools.now c.args.depth x (1 + c.in_ok-annotation-in-29.size)) (sym (annotation_is c.in_ok-new-in-29.field-0 ∙ ap encoded_of c.in_ok-new-in-29.ensures.ok))
-    (annotation_encoded c.args.self.now.bytes.now c.args.at c.args.depth c.args.self.now.pools.now p.pools (encoded_type a) (encoded_elements a) c.in_ok-annotation-in-29.size (omega arith) c.in-29.is c.if-depth-eq0-2.false (c.in_ok-annotation-in-29.ensures.read p))
+    (annotation_encoded c.args.self.now.bytes.now c.args.at c.args.depth c.args.self.now.pools.now p.pools (encoded_type a) (encoded_elements a) c.in_ok-annotation-in-29.size (omega arith) c.in-29.is c.if-depth-eq0.false (c.in_ok-annotation-in-29.ensures.read p))
 
 pub value_at-returns-in_err-annotation-in-29-clause-refused : goal.value_at-returns-in_err-annotation-in-29-clause-refused
 value_at-returns-in_err-annotation-in-29-clause-refused t c = λ p. rw (err_is c.from_residual-in_err-annotation-in-29.result c.from_residual-in_err-annotation-in-29.ensures.1) (refuses_so c.args.self.now.number (λ none. no_annotation c.args.self.now.bytes.now c.args.at c.args.depth c.args.self.now.pools.now p.pools c.in-29.is none) c.in_err-annotation-in-29.field-0.0 (c.in_err-annotation-in-29.ensures.refused p))

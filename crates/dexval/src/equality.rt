@@ -4,7 +4,7 @@ ghost use Rattle.std.specs.Cmp.{partial_equiv_from_equiv};
 ghost use Rattle.dexval.specs.Equality.{equal_sets, equal_sets_equiv, set_input, equal_sets_agree, IsSetEquality, DependsOnSet, value_input, values_input, elements_input, encoded_input, annotation_input};
 ghost use Rattle.std.specs.Prelude.{◌≡◌, ◌++◌, fold, map};
 ghost use Rattle.std.specs.Hash as fed;
-ghost use Rattle.dexval.specs.Code.{value_of, encoded_type, encoded_elements, annotation_of, elements_of, set_from};
+ghost use Rattle.dexval.specs.Code.{value_of, encoded_type, encoded_elements, elements_of, set_from};
 ghost use Rattle.dexval.specs.Numbered.{values_of_list};
 
 use crate::type_codes::{
@@ -120,14 +120,6 @@ fn hash_elements<H: Hasher>(elements: &[Element], state: &mut H)
     }
 }
 
-// Feeds an annotation.
-fn hash_annotation<H: Hasher>(annotation: &Annotation, state: &mut H)
-    ensures { state.new ≡ fold H.write state.old (annotation_input (annotation_of annotation.now)) }
-{
-    state.write_u8(annotation.visibility.number());
-    hash_encoded(&annotation.annotation, state);
-}
-
 /// Feeds annotations, after their count.
 pub(crate) fn hash_annotations<H: Hasher>(annotations: &[Annotation], state: &mut H)
     ensures { state.new
@@ -135,6 +127,7 @@ pub(crate) fn hash_annotations<H: Hasher>(annotations: &[Annotation], state: &mu
 {
     annotations.len().hash(state);
     for annotation in annotations {
-        hash_annotation(annotation, state);
+        state.write_u8(annotation.visibility.number());
+        hash_encoded(&annotation.annotation, state);
     }
 }

@@ -1,12 +1,15 @@
-use Rattle.dexval.proofs.Common.{length, arith}
+use Rattle.dexval.proofs.Common.{ℕ, ◌++◌, ap, length, arith, encoded_type, encoded_elements, encoded_input}
 use Rattle.std.specs.Hash as fed
 use Rattle.dexval.proofs.Hashed.{annotation_fed, annotations_are_fed, fed_more, fed_all}
 use Rattle.dexval.proofs.equality.hash_annotations.Goals as goal
 
 pub loop-annotation-preserved : goal.loop-annotation-preserved
 loop-annotation-preserved g c =
-    fed_more g.H.Hasher.write annotation_fed (fed.usize (length c.args.annotations.now)) c.args.annotations.now c.loop-annotation.annotation-index c.annotation-item.result c.args.state.now c.loop-annotation.state c.hash_annotation.new.state c.loop-annotation-test.true c.annotation-item.is
-    c.loop-annotation.invariant c.hash_annotation.ensures
+    let x = c.annotation-item.result in
+    let input = encoded_input (encoded_type x.annotation) (encoded_elements x.annotation) in
+    let one = fed.fed_along g.H.Hasher.write c.loop-annotation.state c.hash_encoded.new.state (ap (λ (n : ℕ). fed.u8 n ++ input) c.number.ensures) (fed.fed_then g.H.Hasher.write c.loop-annotation.state c.write_u8.new.self c.hash_encoded.new.state (fed.u8 c.number.result) input c.write_u8.ensures c.hash_encoded.ensures) in
+    fed_more g.H.Hasher.write annotation_fed (fed.usize (length c.args.annotations.now)) c.args.annotations.now c.loop-annotation.annotation-index c.annotation-item.result c.args.state.now c.loop-annotation.state c.hash_encoded.new.state c.loop-annotation-test.true c.annotation-item.is
+    c.loop-annotation.invariant one
 
 pub returns : goal.returns
 returns g c =

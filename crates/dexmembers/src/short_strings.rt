@@ -1,29 +1,11 @@
 //! Texts that a const-string names in the code of what classes declare, and numbers that fit their places.
 
-ghost use Rattle.std.specs.Prelude.{◌++◌, ℕ, List, All};
+ghost use Rattle.std.specs.Prelude.{All};
 ghost use Rattle.std.specs.List.{flat_map};
 ghost use Rattle.dexinsn.specs.Fitting.{IsGreatest};
 ghost use Rattle.dexmembers.specs.Fitting.{MethodFits, NumbersFit, method_short_strings, members_short_strings};
-ghost use Rattle.dexmembers.specs.Borrowed.{ForCode};
-ghost use Rattle.dexmembers.specs.internal.Parts.{optional_short_strings};
 
 use crate::{Members, Method, Methods};
-use dexcode::Code;
-
-// The greater of two numbers, if there are any.
-fn greater(left: Option<u32>, right: Option<u32>) -> Option<u32>
-    ensures { (ns ks : List ℕ) → IsGreatest ns left → IsGreatest ks right
-        → IsGreatest (ns ++ ks) result }
-{
-    left.max(right)
-}
-
-// The greatest such number in the code, if there is some.
-fn greatest_of_code(code: Option<&Code<'_>>) -> Option<u32>
-    ensures { ForCode code.entry (λ known. IsGreatest (optional_short_strings known) result) }
-{
-    code?.greatest_short_string()
-}
 
 // The greatest such number in the code of methods.
 fn greatest_of_methods(methods: &Methods<'_, '_>) -> Option<u32>
@@ -31,7 +13,7 @@ fn greatest_of_methods(methods: &Methods<'_, '_>) -> Option<u32>
 {
     let mut greatest = None;
     for i in 0..methods.len() {
-        greatest = greater(greatest, methods.get(i).greatest_short_string());
+        greatest = greatest.max(methods.get(i).greatest_short_string());
     }
     greatest
 }
@@ -50,7 +32,7 @@ impl Method<'_, '_> {
     fn greatest_short_string(&self) -> Option<u32>
         ensures { IsGreatest (method_short_strings self.now) result }
     {
-        greatest_of_code(self.code())
+        self.code()?.greatest_short_string()
     }
 
     // Each number in the method's code fits its place.
@@ -71,10 +53,9 @@ impl Members<'_> {
     pub fn greatest_short_string(&self) -> Option<u32>
         ensures { IsGreatest (members_short_strings self.now) result }
     {
-        greater(
-            greatest_of_methods(&self.direct_methods()),
-            greatest_of_methods(&self.virtual_methods()),
-        )
+        greatest_of_methods(&self.direct_methods()).max(greatest_of_methods(
+            &self.virtual_methods(),
+        ))
     }
 
     /// Each number in the code of the methods fits its place: it is below 2^16 in an instruction but for

@@ -1,35 +1,27 @@
 //! The weight of members of classes.
 
 ghost use Rattle.std.specs.Prelude.{◌≡◌, ◌+◌, ◌-◌, ◌^◌, min, map, sum_by};
-ghost use Rattle.dexval.specs.Code.{set_of, value_of};
+ghost use Rattle.dexval.specs.Code.{value_of};
 ghost use Rattle.dexval.specs.Numbered.{values_of_list};
 ghost use Rattle.dexval.specs.Spelled.{numbered_set_weight, numbered_statics_weight};
 ghost use Rattle.dexmembers.specs.Weight.{ForKnown, weight_in};
 ghost use Rattle.dexmembers.specs.Contents.{contents_in, AreHeld};
 ghost use Rattle.dexmembers.specs.Weighing.{numbered_field_weight, numbered_members_weight, method_code_weight, own_method_weight, own_members_weight};
-ghost use Rattle.dexmembers.specs.Borrowed.{ForCode, ForSet};
-ghost use Rattle.dexmembers.specs.internal.Parts.{optional_whole_weight};
+ghost use Rattle.dexmembers.specs.Borrowed.{ForSet};
 ghost use Rattle.dexmembers.specs.Laws.{MembersWeightIsDenoted};
 
 use crate::members::Contents;
 use crate::{Field, Fields, Members, Method, Methods};
-use dexcode::{Code, code_meaning_law, code_weight_law, debug_meaning_law, debug_unindexed_law};
+use dexcode::{code_meaning_law, code_weight_law, debug_meaning_law, debug_unindexed_law};
 use dexval::{AnnotationSet, Value, statics_weight};
 
-// Returns the weight of a set, or 2^64 - 1 where that is more.
-fn set_weight(set: &AnnotationSet) -> u64
-    ensures { result ≡ min (2 ^ 64 - 1) (numbered_set_weight (set_of set.now)) }
-{
-    set.weight()
-}
-
-// Returns the weight of a set, if there is one, likewise.
+// Returns the weight of a set, if there is one, or 2^64 - 1 where that is more.
 fn optional_weight(set: Option<&AnnotationSet>) -> u64
     ensures { ForSet set.entry (λ weighed.
         result ≡ min (2 ^ 64 - 1) (numbered_set_weight weighed)) }
 {
     match set {
-        Some(set) => set_weight(set),
+        Some(set) => set.weight(),
         None => 0,
     }
 }
@@ -40,20 +32,6 @@ fn values_weight(values: &[Value]) -> u64
         ≡ min (2 ^ 64 - 1) (numbered_statics_weight (values_of_list (map value_of values.now))) }
 {
     statics_weight(values)
-}
-
-// Returns the weight of code with its debug program, if there is some.
-fn code_weight(code: Option<&Code<'_>>) -> u64
-    ensures { ForCode code.entry (λ weighed.
-        result ≡ min (2 ^ 64 - 1) (optional_whole_weight weighed)) }
-{
-    let Some(code) = code else {
-        return 0;
-    };
-    match code.debug() {
-        Some(debug) => code.weight().saturating_add(debug.weight()),
-        None => code.weight(),
-    }
 }
 
 // Returns the weight of fields.
@@ -108,11 +86,17 @@ impl Method<'_, '_> {
             .saturating_add(self.parameters_weight())
     }
 
-    // Returns the weight of the method's code.
+    // Returns the weight of the method's code with its debug program.
     fn code_weight(&self) -> u64
         ensures { result ≡ min (2 ^ 64 - 1) (method_code_weight self.now) }
     {
-        code_weight(self.code())
+        let Some(code) = self.code() else {
+            return 0;
+        };
+        match code.debug() {
+            Some(debug) => code.weight().saturating_add(debug.weight()),
+            None => code.weight(),
+        }
     }
 }
 

@@ -1,5 +1,6 @@
 use Rattle.dexmembers.proofs.Common.{◌≡◌, ◌+◌, ◌<◌, ◌++◌, ◌∷◌, [], ℕ, List, take, get_or, length, sym, ap, subst, ◌∙◌, arith, flat_map, take_more, append-nil, flat_map-append, IsGreatest}
 use Rattle.dexmembers.specs.{NumberedMethod, method_short_strings}
+use Rattle.dexmembers.proofs.Placed.{greater_of}
 use Rattle.dexmembers.proofs.short_strings.greatest_of_methods.Goals as goal
 
 -- the short strings of one method more
@@ -13,5 +14,5 @@ loop-i-preserved c =
     let xs = c.args.methods.now in
     let i = c.loop-i.i in
     let x = c.get.result in
-    subst (λ ns. IsGreatest ns c.greater-greatest.result) (sym (one_more xs i x (omega arith) c.get.ensures))
-    (c.greater-greatest.ensures (flat_map method_short_strings (take i xs)) (method_short_strings x) c.loop-i.invariant c.greatest_short_string.ensures)
+    subst (λ ns. IsGreatest ns c.max-greatest.result) (sym (one_more xs i x (omega arith) c.get.ensures))
+    (rw c.max-greatest.ensures (greater_of (flat_map method_short_strings (take i xs)) (method_short_strings x) c.loop-i.greatest c.greatest_short_string.result c.loop-i.invariant c.greatest_short_string.ensures))

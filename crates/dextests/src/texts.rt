@@ -1,16 +1,20 @@
 //! The order and the equality of texts are those of their units.
 
-use dexstr::{Name, Text};
+use dexstr::{KeyedText, Name, Text};
 use std::alloc::Global;
 
 /// Texts in ascending order by units, as items, which begin with the number of units: unit 0 is the least, and a
 /// surrogate is less than e000.
-const RISING: [&str; 7] = [
+const RISING: [&str; 11] = [
     "0000",
     "01c08000",
     "02c0804100",
     "014100",
     "02414200",
+    "0841424344454647c08000",
+    "08414243444546474800",
+    "0941424344454647484100",
+    "0a4142434445464748414200",
     "02eda080edb08000",
     "01ee808000",
 ];
@@ -22,18 +26,21 @@ fn are_ordered(alloc: Global, i: usize, j: usize) -> Option<bool> {
     let left = Text::read(&left, 0).ok()?.0;
     let right = Text::read(&right, 0).ok()?.0;
     let copy = Name::of(alloc, &left).ok()?.copy().ok()?;
+    let (keyed, other) = (KeyedText::of(&left).clone(), KeyedText::of(&right));
     Some(
         left.cmp(&right) == i.cmp(&j)
             && left.partial_cmp(&right) == Some(i.cmp(&j))
             && (left == right) == (i == j)
-            && (copy.text() == right) == (i == j),
+            && (copy.text() == right) == (i == j)
+            && keyed.compare(&other) == i.cmp(&j)
+            && keyed.text() == left,
     )
 }
 
 #[test]
 fn texts_are_ordered_by_units(rt: HostRuntime) {
-    for i in 0..7 {
-        for j in 0..7 {
+    for i in 0..RISING.len() {
+        for j in 0..RISING.len() {
             assert!(rt;
                 are_ordered(rt.alloc(), i, j) == Some(true),
                 "at {i} and {j}"

@@ -1,5 +1,6 @@
 -- Marked members of a list: which they are, where they are, and what more marks keep.
-use Rattle.dexpool.proofs.Common.{◌≡◌, ◌≢◌, ◌⊎◌, ℕ, zero, suc, ◌+◌, ◌<◌, Bool, true, false, List, [], ◌∷◌, ◌++◌, length, get_or, map, set, drop, replicate, refl, sym, ap, ◌∙◌, arith, inl, inr, Ordering, Option, Some, None, slice_index, slice_index_or, All, Contains, flat_map, IsTotalOrder, cases_eq, cases_order, length-set, length-map, get_or-map, get_or-set_same, get_or-set_other, get_or_default, drop_more, Contains-nil, Contains-first, Contains-later, Contains-cons_cases, All-among, Rises, AreDistinct-from_Rises, kept, places, MapsTo, image, KeepsOrder, IsMarked, mark_all, number_or_none, new_numbers}
+use Rattle.dexpool.proofs.Common.{◌≡◌, ◌≢◌, ◌⊎◌, ℕ, zero, suc, ◌+◌, ◌<◌, Bool, true, false, List, [], ◌∷◌, ◌++◌, length, get_or, map, set, drop, replicate, refl, sym, ap, ◌∙◌, arith, inl, inr, Ordering, Option, Some, None, slice_index, slice_index_or, All, Contains, flat_map, IsTotalOrder, cases_eq, cases_order, length-set, length-map, get_or-map, get_or-set_same, get_or-set_other, get_or_default, drop_more, Contains-nil, Contains-first, Contains-later, Contains-cons_cases, All-among, All-head, All-tail, Rises, AreDistinct-from_Rises, kept, places, MapsTo, image, KeepsOrder, IsMarked, mark_all, number_or_none, new_numbers}
+use Rattle.std.proofs.lemmas.List.{set-get_or}
 use Rattle.dexpool.proofs.KeptPlaces.{kept_among, length_places, marked_has, is_at, places_rise}
 use Rattle.dexpool.proofs.Moved.{Keeps}
 
@@ -155,6 +156,13 @@ mark_from marks (k ∷ ns) n e = elim (mark_from (set marks k true) ns n e) [
   ]
   | inr c ↦ inr (Contains-later k n ns c)
 ]
+
+-- marks that are there already change nothing
+pub marked_before : (marks : List Bool) (ns : List ℕ) → All (IsMarked marks) ns → mark_all marks ns ≡ marks
+marked_before marks [] h = refl
+marked_before marks (n ∷ ns) h =
+    let same : set marks n true ≡ marks = ap (set marks n) (sym (All-head (IsMarked marks) n ns h)) ∙ set-get_or marks n false in
+    ap (λ l. mark_all l ns) same ∙ marked_before marks ns (All-tail (IsMarked marks) n ns h)
 
 -- marks on two lists of numbers, one after the other
 pub mark_all-append : (marks : List Bool) (ms ns : List ℕ) → mark_all marks (ms ++ ns) ≡ mark_all (mark_all marks ms) ns

@@ -10,7 +10,7 @@ ghost use Rattle.dexpool.specs.internal.Closing.{mark_all, field_types, AreClosu
 
 use crate::lists::Parameters;
 use crate::marks::Marks;
-use crate::rows::ProtoEntry;
+use crate::rows::{ProtoEntry, Span};
 use crate::tables::Tables;
 use dexrows::{FieldRow, MethodRow, TypeNumbers};
 use std::alloc::AllocError;
@@ -117,7 +117,8 @@ fn mark_by_fields(fields: &[FieldRow], marks: &[bool], strings: &mut [bool], typ
     }
 }
 
-// Marks the shorties, return types and parameters of marked protos.
+// Marks the shorties, return types and parameters of marked protos. The longest list of parameters so far is not walked
+// again where further protos share it.
 fn mark_by_protos(
     protos: &[ProtoEntry],
     parameters: &Parameters<'_>,
@@ -133,11 +134,15 @@ fn mark_by_protos(
     ensures types { types.new
         ≡ mark_all types.old (protos_types parameters.now protos.now marks.now) }
 {
+    let mut longest = Span { start: 0, end: 0 };
     for (i, proto) in protos.iter().enumerate() {
         if marks[i] {
             strings[proto.shorty] = true;
             types[proto.return_type] = true;
-            mark_numbers(&parameters.part(proto.parameters), types);
+            if !longest.is(proto.parameters) {
+                mark_numbers(&parameters.part(proto.parameters), types);
+                longest = longest.longer(proto.parameters);
+            }
         }
     }
 }

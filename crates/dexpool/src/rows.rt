@@ -1,7 +1,7 @@
 //! The rows of protos as a table keeps them. Those of fields and methods are `dexrows`', and a row of types is
 //! the number of its text.
 
-ghost use Rattle.std.specs.Prelude.{◌≡◌, ◌-◌, ◌<◌, ◌≤◌, length, take, drop, slice_index};
+ghost use Rattle.std.specs.Prelude.{◌≡◌, ◌⊎◌, ◌-◌, ◌<◌, ◌≤◌, length, take, drop, slice_index, IsTrue};
 
 /// A row of protos.
 ///
@@ -45,6 +45,24 @@ pub struct Span {
 }
 
 impl Span {
+    /// Whether it is that part.
+    pub(crate) fn is(self, other: Span) -> bool
+        ensures { IsTrue result → self ≡ other }
+    {
+        self.start == other.start && self.end == other.end
+    }
+
+    /// The longer of the two.
+    pub(crate) fn longer(self, other: Span) -> Span
+        ensures { (result ≡ self) ⊎ (result ≡ other) }
+    {
+        if self.end.saturating_sub(self.start) < other.end.saturating_sub(other.start) {
+            other
+        } else {
+            self
+        }
+    }
+
     /// This part of a list.
     pub(crate) fn of<T>(self, items: &[T]) -> &[T]
         requires ordered { self.start ≤ self.end }

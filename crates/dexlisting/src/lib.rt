@@ -4,16 +4,12 @@
 //! access flags follow the page "Dalvik Executable format", "access_flags definitions".
 #![tactic(auto)]
 
-mod classes;
-mod codes;
 mod faults;
 mod flags;
+mod lines;
 mod listing;
 mod listing_buffer;
-mod members;
-mod number_format;
-mod symbols;
-mod texts;
+mod parts;
 
 pub use faults::ListingFault;
 pub use listing::write_listing;

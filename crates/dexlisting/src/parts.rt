@@ -1,4 +1,5 @@
-//! Symbols, by the texts of their names and types.
+//! The parts of a line: texts, with units that are not printed spelled out; numbers, in decimal and in hexadecimal; and
+//! symbols, by the texts of their names and types.
 
 ghost use Rattle.std.specs.Prelude.{◌≡◌, ◌<◌, length, false};
 ghost use Rattle.dexpool.specs.Pools.{count_of};
@@ -7,8 +8,64 @@ ghost use Rattle.dexlisting.specs.internal.Going.{GoesOn};
 use crate::listing_buffer::Listing;
 use dexhead::{DeviceFault, Sink};
 use dexpool::SymbolKind;
+use dexstr::{Text, escaped, hexadecimal_digit};
+use itoa::Buffer;
 
 impl<W: Sink> Listing<'_, '_, '_, W> {
+    /// Puts a text: the units 0x20 to 0x7e as they are, `"` and `\` after a `\`, and each other unit as `\u` and four
+    /// hexadecimal digits.
+    pub(crate) fn put_text(&mut self, text: &Text<'_>) -> Result<(), DeviceFault>
+        requires { W.has_failed self.old.out.now ≡ false }
+        ensures { GoesOn W.has_failed self.old self.new result }
+    {
+        for unit in text.units() {
+            self.put_unit(unit)?;
+        }
+        Ok(())
+    }
+
+    /// Puts a text between quotation marks.
+    pub(crate) fn put_quoted(&mut self, text: &Text<'_>) -> Result<(), DeviceFault>
+        requires { W.has_failed self.old.out.now ≡ false }
+        ensures { GoesOn W.has_failed self.old self.new result }
+    {
+        self.put_byte(b'"')?;
+        self.put_text(text)?;
+        self.put_byte(b'"')
+    }
+
+    // Puts a unit of a text.
+    fn put_unit(&mut self, unit: u16) -> Result<(), DeviceFault>
+        requires { W.has_failed self.old.out.now ≡ false }
+        ensures { GoesOn W.has_failed self.old self.new result }
+    {
+        match u8::try_from(unit) {
+            Ok(byte @ (b'"' | b'\\')) => self.put(&[b'\\', byte]),
+            Ok(byte @ 0x20..=0x7e) => self.put_byte(byte),
+            _ => self.put(&escaped(unit)),
+        }
+    }
+
+    /// Puts words, and a number in decimal after them.
+    pub(crate) fn put_count(&mut self, words: &[u8], count: usize) -> Result<(), DeviceFault>
+        requires { W.has_failed self.old.out.now ≡ false }
+        ensures { GoesOn W.has_failed self.old self.new result }
+    {
+        self.put(words)?;
+        let mut buffer = Buffer::new();
+        self.put(buffer.format(count).as_bytes())
+    }
+
+    /// Puts a number in lower-case hexadecimal, in four digits at least.
+    pub(crate) fn put_hexadecimal(&mut self, number: u32) -> Result<(), DeviceFault>
+        requires { W.has_failed self.old.out.now ≡ false }
+        ensures { GoesOn W.has_failed self.old self.new result }
+    {
+        let digits = eight_digits(number);
+        let zeros = number.leading_zeros() as usize / 4;
+        self.put(&digits[zeros.min(4)..])
+    }
+
     /// Puts a type: its descriptor.
     pub(crate) fn put_type(&mut self, typ: usize) -> Result<(), DeviceFault>
         requires works { W.has_failed self.old.out.now ≡ false }
@@ -94,4 +151,15 @@ impl<W: Sink> Listing<'_, '_, '_, W> {
         self.put_byte(b')')?;
         self.put_type(row.return_type())
     }
+}
+
+// The eight digits of a number in lower-case hexadecimal.
+fn eight_digits(number: u32) -> [u8; 8] {
+    let mut digits = [b'0'; 8];
+    let mut rest = number;
+    for i in 0..8 {
+        digits[7 - i] = hexadecimal_digit((rest % 16) as u16);
+        rest /= 16;
+    }
+    digits
 }

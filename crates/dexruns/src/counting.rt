@@ -10,8 +10,8 @@ ghost use Rattle.dexruns.specs.Merges.{IsAppended, IsPrefixAppended, IsOfDevices
 ghost use Rattle.dexruns.specs.Runs.{AllWork, IsLeft};
 
 use crate::faults::RunFault;
+use crate::inputs::write_output;
 use crate::merging::{places, read_each};
-use crate::outputs::write_output;
 use dexclass::Program;
 use dexhead::{Sink, Source};
 use dexmerge::{Caps, Counts, measure};

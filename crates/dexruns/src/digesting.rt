@@ -10,20 +10,15 @@ ghost use Rattle.dexruns.specs.Inputs.{bytes_read, IsReadNoFurther};
 ghost use Rattle.dexruns.specs.Runs.{IsOfInput, IsLeftWith};
 ghost use Rattle.dexruns.specs.declared.faults.RunFault.TheVariants.{Read, Write};
 
-use crate::explaining::{push_sign, push_text};
 use crate::faults::RunFault;
-use crate::inputs::{read_input, read_program};
-use crate::outputs::write_output;
+use crate::inputs::{read_input, read_program, write_output};
+use crate::lines::{push_sign, push_text};
 use dexcanon::digests;
 use dexclass::Program;
 use dexhead::{Sink, Source};
 use dexlaws::denotes::collections::one_collection;
 use dexstr::{Text, hexadecimal_digit};
 use std::alloc::{AllocError, Global};
-
-const TAB: u8 = 0x09;
-
-const NEWLINE: u8 = 0x0a;
 
 // Appends bytes, each in two hexadecimal digits.
 fn push_hexadecimal(bytes: &[u8], text: &mut String) -> Result<(), AllocError>
@@ -48,11 +43,11 @@ fn push_digest_line(
         ++ digest_line file.now digest.now name.now) }
 {
     push_hexadecimal(digest, text)?;
-    push_sign(TAB, text)?;
+    push_sign(b'\t', text)?;
     push_text(name, text)?;
-    push_sign(TAB, text)?;
+    push_sign(b'\t', text)?;
     text.push_str(file)?;
-    push_sign(NEWLINE, text)
+    push_sign(b'\n', text)
 }
 
 // The name of a class of a program, by the number of its type.

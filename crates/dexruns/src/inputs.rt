@@ -1,14 +1,16 @@
-//! Inputs, read whole and as programs.
+//! Inputs, read whole and as programs, and outputs, written whole.
 
 ghost use Rattle.std.specs.Prelude.{◌≡◌, ◌<◌, ◌≤◌, ◌+◌, ◌++◌, max, [], true, false, length, take, drop, OnOk, OnErr, IfOk, IfErr, vec_len};
 ghost use Rattle.dexclass.specs.Programs.{IsReadAs};
+ghost use Rattle.dexhead.specs.Prefixes.{TakesPrefix};
 ghost use Rattle.dexruns.specs.Inputs.{bytes_read, IsReadNoFurther, IsUnread, ReportsOf};
 ghost use Rattle.dexruns.specs.internal.Unread.{AreUnread, IsNoProgram, fault_of_input};
+ghost use Rattle.dexruns.specs.declared.faults.RunFault.TheVariants.{Write};
 ghost use Rattle.dexruns.specs.declared.inputs.InputFault.TheVariants.{Memory};
 
 use crate::faults::RunFault;
 use dexclass::Program;
-use dexhead::{DeviceFault, Source};
+use dexhead::{DeviceFault, Sink, Source, write_whole};
 use dexpool::ReadFault;
 use std::alloc::{AllocError, Global};
 
@@ -188,5 +190,23 @@ pub(crate) fn read_program<'a>(
     match dexclass::read(alloc, bytes) {
         Ok(program) => Ok(program),
         Err(fault) => Err(fault_of_input(number, fault)),
+    }
+}
+
+/// Writes all the bytes as [`write_whole`] does, with its fault as one of the run.
+pub(crate) fn write_output<W: Sink>(out: &mut W, bytes: &[u8]) -> Result<(), RunFault>
+    requires { W.has_failed out.old ≡ false }
+    ensures reports { W.reports out.old → W.reports out.new }
+    ensures written { OnOk result (W.reports out.old
+        → W.taken out.new ≡ W.taken out.old ++ bytes.now) }
+    ensures prefix { OnErr result (W.reports out.old
+        → TakesPrefix (W.taken out.old) (W.taken out.new) bytes.now) }
+    ensures works { OnOk result (W.has_failed out.new ≡ false) }
+    ensures fails { OnErr result (W.has_failed out.new ≡ true) }
+    ensures fault { IfErr result (λ fault. fault ≡ Write) }
+{
+    match write_whole(out, bytes) {
+        Ok(()) => Ok(()),
+        Err(_) => Err(RunFault::Write),
     }
 }

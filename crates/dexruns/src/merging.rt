@@ -4,10 +4,9 @@ ghost use Rattle.std.specs.Prelude.{◌≡◌, true, false, length, IfOk, OnOk, 
 ghost use Rattle.std.specs.List.{AllZip};
 ghost use Rattle.dexspec.specs.Canonical.{canonical};
 ghost use Rattle.dexspec.specs.Stripping.{strip_collection};
-ghost use Rattle.dexmerge.specs.Faults.{IsPlanned};
 ghost use Rattle.dexmerge.specs.Plans.{plan_of};
 ghost use Rattle.dexruns.specs.Inputs.{IsReadNoFurther};
-ghost use Rattle.dexruns.specs.Merges.{AreReadFrom, IsReadEachFault, IsUnionFault, IsUnited, IsUnitedFault, IsFileOf, IsAppended, IsPrefixAppended, IsMergedFile, IsMergeFault, IsWriteFault, AreUncalled, IsOfWriter, IsOfDevices, kept};
+ghost use Rattle.dexruns.specs.Merges.{AreReadFrom, IsReadEachFault, IsUnited, IsUnitedFault, IsFileOf, IsAppended, IsPrefixAppended, IsMergedFile, IsMergeFault, IsWriteFault, AreUncalled, IsOfWriter, IsOfDevices, kept};
 ghost use Rattle.dexruns.specs.Runs.{AllWork, IsLeft};
 
 use crate::faults::RunFault;
@@ -23,11 +22,7 @@ use std::alloc::{AllocError, Global};
 pub(crate) fn places(alloc: Global, count: usize) -> Result<Vec<Vec<u8>>, AllocError>
     ensures { IfOk result (λ places. length places.items ≡ count) }
 {
-    let mut places = Vec::new(alloc);
-    for _ in 0..count {
-        places.push(Vec::new(alloc))?;
-    }
-    Ok(places)
+    (0..count).map(|_| Vec::new(alloc)).collect(alloc)
 }
 
 /// Reads one input after the other, and checks it. The programs borrow from the bytes.
@@ -55,20 +50,6 @@ pub(crate) fn read_each<'a, R: Source>(
     Ok(programs)
 }
 
-// The collection of what a plan names.
-fn united<'a>(
-    alloc: Global,
-    programs: Vec<Program<'a>>,
-    plan: &Plan,
-    caps: &Caps,
-) -> Result<Program<'a>, RunFault>
-    ensures united { IfOk result (IsPlanned caps.now programs.entry.items (plan_of plan.now)) }
-    ensures fault { IfErr result (IsUnionFault caps.now programs.entry.items (plan_of plan.now)) }
-{
-    let program = merge_files(alloc, programs, plan, caps)?;
-    Ok(program)
-}
-
 // The collection of what a plan names, of inputs that are read into the places.
 fn read_united<'a, R: Source>(
     alloc: Global,
@@ -93,7 +74,8 @@ fn read_united<'a, R: Source>(
         return Err(RunFault::Plan);
     }
     let programs = read_each(alloc, inputs, places)?;
-    united(alloc, programs, plan, caps)
+    let program = merge_files(alloc, programs, plan, caps)?;
+    Ok(program)
 }
 
 // Writes the canonical file of a program, which is accepted as just what the program holds.

@@ -1,6 +1,6 @@
 use Rattle.dexruns.proofs.Common.{◌≡◌, ◌++◌, take, string_bytes}
 use Rattle.dexstr.specs.Escapes.{escaped}
-use Rattle.dexruns.proofs.explaining.push_escaped.Given as goal
+use Rattle.dexruns.proofs.lines.push_escaped.Given as goal
 
 -- the signs so far are appended
 abbrev pub invariant-loop-sign : goal.invariant-loop-sign

@@ -1,6 +1,6 @@
 use Rattle.dexruns.proofs.Common.{◌∙◌, err_from_is_err_and, bytes_read}
 use Rattle.dexruns.proofs.Unread.{of_input}
-use Rattle.dexruns.proofs.dumping.dump_run.Goals as goal
+use Rattle.dexruns.proofs.one_input.dump_run.Goals as goal
 
 pub returns-in_err-program-clause-fault : goal.returns-in_err-program-clause-fault
 returns-in_err-program-clause-fault g c =

@@ -6,7 +6,7 @@ ghost use Rattle.dexargs.specs.Words.{IsSound, IsSoundMerge};
 ghost use Rattle.dexcmd.specs.Jobs.{HasChecked, HasDumped, HasNormalised, HasMerged, HasCounted, HasRepaired, IsDone};
 
 use crate::devices::Devices;
-use crate::each_file::{Task, run_over_each};
+use crate::each_file::Task;
 use crate::outcome_report::{Report, STANDARD_OUTPUT, done, report_of};
 use dexargs::Job;
 use dexhead::{Sink, Source};
@@ -29,72 +29,6 @@ fn texts<'a>(alloc: Global, names: &'a [String]) -> Result<Vec<&'a str>, AllocEr
     Ok(texts)
 }
 
-// The input of each name.
-fn inputs_of<'a, D: Devices<'a>>(
-    alloc: Global,
-    devices: &D,
-    names: &[&'a str],
-) -> Result<Vec<D::Input>, AllocError>
-    ensures named { IfOk result (λ inputs.
-        AllZip (D.is_input devices.now) (map (λ name. name.now) names.now) inputs.items) }
-    ensures count { IfOk result (λ inputs. length inputs.items ≡ length names.now) }
-    ensures works { IfOk result (λ inputs.
-        All (λ input. D.Input.has_failed input ≡ false) inputs.items) }
-{
-    let mut inputs = Vec::with_capacity(alloc, names.len())?;
-    for name in names {
-        inputs.push(devices.input(name))?;
-    }
-    Ok(inputs)
-}
-
-fn check<'a, D: Devices<'a>>(
-    alloc: Global,
-    devices: &D,
-    files: &'a [String],
-) -> Result<Report, AllocError>
-    ensures { IfOk result (HasChecked (D.is_input devices.now) (D.is_output devices.now)
-        (D.is_standard devices.now) D.is_closed D.Input.reports D.Input.to_come D.Input.has_failed
-        D.Output.reports D.Output.taken D.Output.has_failed (map string_bytes files.now)) }
-{
-    let texts = texts(alloc, files)?;
-    let names = texts.as_slice();
-    let mut inputs = inputs_of(alloc, devices, names)?;
-    let mut out = devices.standard();
-    let outcome = check_run(alloc, names, inputs.as_mut_slice(), &mut out);
-    let is_closed = devices.close(out);
-    report_of(alloc, outcome, names, STANDARD_OUTPUT, is_closed)
-}
-
-fn dump<'a, D: Devices<'a>>(alloc: Global, devices: &D, file: &'a str) -> Result<Report, AllocError>
-    ensures { IfOk result (HasDumped (D.is_input devices.now) (D.is_output devices.now)
-        (D.is_standard devices.now) D.is_closed D.Input.reports D.Input.to_come D.Input.has_failed
-        D.Output.reports D.Output.taken D.Output.has_failed file.now) }
-{
-    let mut input = devices.input(file);
-    let mut out = devices.standard();
-    let outcome = done(dump_run(alloc, &mut input, &mut out));
-    let is_closed = devices.close(out);
-    report_of(alloc, outcome, &[file], STANDARD_OUTPUT, is_closed)
-}
-
-fn normalise<'a, D: Devices<'a>>(
-    alloc: Global,
-    devices: &D,
-    file: &'a str,
-    target: &'a str,
-) -> Result<Report, AllocError>
-    ensures { IfOk result (HasNormalised (D.is_input devices.now) (D.is_output devices.now)
-        (D.is_standard devices.now) D.is_closed D.Input.reports D.Input.to_come D.Input.has_failed
-        D.Output.reports D.Output.taken D.Output.has_failed file.now target.now) }
-{
-    let mut input = devices.input(file);
-    let mut out = devices.output(target);
-    let outcome = done(normalise_run(alloc, &mut input, &mut out));
-    let is_closed = devices.close(out);
-    report_of(alloc, outcome, &[file], target, is_closed)
-}
-
 // What a merge is asked for: the files and the name of the merged file, how many files are merged at a time, or all at
 // once, the caps, and whether debug programs and source texts are left out.
 #[derive(Clone, Copy)]
@@ -106,66 +40,120 @@ struct MergeJob<'a> {
     files: &'a [String],
 }
 
-fn merge<'a, D: Devices<'a>>(
-    alloc: Global,
-    devices: &D,
-    job: &MergeJob<'a>,
-) -> Result<Report, AllocError>
-    requires files { 1 ≤ length job.now.files.now }
-    requires fan { IfSome job.now.fan (λ fan. 2 ≤ fan) }
-    ensures { IfOk result (HasMerged (D.is_input devices.now) (D.is_output devices.now)
-        (D.is_standard devices.now) D.is_closed D.Input.reports D.Input.to_come D.Input.has_failed
-        D.Output.reports D.Output.taken D.Output.has_failed job.now.target.now job.now.fan
-        job.now.caps.now job.now.is_stripped (map string_bytes job.now.files.now)) }
-{
-    let plan = fan_plan(alloc, job.files.len(), job.fan)?;
-    let texts = texts(alloc, job.files)?;
-    let names = texts.as_slice();
-    let mut inputs = inputs_of(alloc, devices, names)?;
-    let mut out = devices.output(job.target);
-    let options = MergeOptions {
-        plan: &plan,
-        caps: job.caps,
-        is_stripped: job.is_stripped,
-    };
-    let outcome = done(merge_or_strip_run(alloc, inputs.as_mut_slice(), &options, &mut out));
-    let is_closed = devices.close(out);
-    report_of(alloc, outcome, names, job.target, is_closed)
+// What every job is done with.
+#[derive(Clone, Copy)]
+pub(crate) struct Runner<'d, D> {
+    pub(crate) alloc: Global,
+    pub(crate) devices: &'d D,
 }
 
-fn count<'a, D: Devices<'a>>(
-    alloc: Global,
-    devices: &D,
-    files: &'a [String],
-) -> Result<Report, AllocError>
-    ensures { IfOk result (HasCounted (D.is_input devices.now) (D.is_output devices.now)
-        (D.is_standard devices.now) D.is_closed D.Input.reports D.Input.to_come D.Input.has_failed
-        D.Output.reports D.Output.taken D.Output.has_failed (map string_bytes files.now)) }
-{
-    let texts = texts(alloc, files)?;
-    let names = texts.as_slice();
-    let mut inputs = inputs_of(alloc, devices, names)?;
-    let mut out = devices.standard();
-    let outcome = done(count_run(alloc, inputs.as_mut_slice(), &mut out));
-    let is_closed = devices.close(out);
-    report_of(alloc, outcome, names, STANDARD_OUTPUT, is_closed)
-}
+impl<'a, D: Devices<'a>> Runner<'_, D> {
+    // The input of each name.
+    fn inputs_of(&self, names: &[&'a str]) -> Result<Vec<D::Input>, AllocError>
+        ensures named { IfOk result (λ inputs.
+            AllZip (D.is_input self.now.devices.now) (map (λ name. name.now) names.now) inputs.items) }
+        ensures count { IfOk result (λ inputs. length inputs.items ≡ length names.now) }
+        ensures works { IfOk result (λ inputs.
+            All (λ input. D.Input.has_failed input ≡ false) inputs.items) }
+    {
+        let mut inputs = Vec::with_capacity(self.alloc, names.len())?;
+        for name in names {
+            inputs.push(self.devices.input(name))?;
+        }
+        Ok(inputs)
+    }
 
-fn repair<'a, D: Devices<'a>>(
-    alloc: Global,
-    devices: &D,
-    file: &'a str,
-    target: &'a str,
-) -> Result<Report, AllocError>
-    ensures { IfOk result (HasRepaired (D.is_input devices.now) (D.is_output devices.now)
-        (D.is_standard devices.now) D.is_closed D.Input.reports D.Input.to_come D.Input.has_failed
-        D.Output.reports D.Output.taken D.Output.has_failed file.now target.now) }
-{
-    let mut input = devices.input(file);
-    let mut out = devices.output(target);
-    let outcome = done(repair_run(alloc, &mut input, &mut out));
-    let is_closed = devices.close(out);
-    report_of(alloc, outcome, &[file], target, is_closed)
+    fn check(&self, files: &'a [String]) -> Result<Report, AllocError>
+        ensures { IfOk result (HasChecked (D.is_input self.now.devices.now) (D.is_output self.now.devices.now)
+            (D.is_standard self.now.devices.now) D.is_closed D.Input.reports D.Input.to_come D.Input.has_failed
+            D.Output.reports D.Output.taken D.Output.has_failed (map string_bytes files.now)) }
+    {
+        let texts = texts(self.alloc, files)?;
+        let names = texts.as_slice();
+        let mut inputs = self.inputs_of(names)?;
+        let mut out = self.devices.standard();
+        let outcome = check_run(self.alloc, names, inputs.as_mut_slice(), &mut out);
+        let is_closed = self.devices.close(out);
+        report_of(self.alloc, outcome, names, STANDARD_OUTPUT, is_closed)
+    }
+
+    fn dump(&self, file: &'a str) -> Result<Report, AllocError>
+        ensures { IfOk result (HasDumped (D.is_input self.now.devices.now) (D.is_output self.now.devices.now)
+            (D.is_standard self.now.devices.now) D.is_closed D.Input.reports D.Input.to_come D.Input.has_failed
+            D.Output.reports D.Output.taken D.Output.has_failed file.now) }
+    {
+        let mut input = self.devices.input(file);
+        let mut out = self.devices.standard();
+        let outcome = done(dump_run(self.alloc, &mut input, &mut out));
+        let is_closed = self.devices.close(out);
+        report_of(self.alloc, outcome, &[file], STANDARD_OUTPUT, is_closed)
+    }
+
+    fn normalise(&self, file: &'a str, target: &'a str) -> Result<Report, AllocError>
+        ensures { IfOk result (HasNormalised (D.is_input self.now.devices.now) (D.is_output self.now.devices.now)
+            (D.is_standard self.now.devices.now) D.is_closed D.Input.reports D.Input.to_come D.Input.has_failed
+            D.Output.reports D.Output.taken D.Output.has_failed file.now target.now) }
+    {
+        let mut input = self.devices.input(file);
+        let mut out = self.devices.output(target);
+        let outcome = done(normalise_run(self.alloc, &mut input, &mut out));
+        let is_closed = self.devices.close(out);
+        report_of(self.alloc, outcome, &[file], target, is_closed)
+    }
+
+    fn merge(&self, job: &MergeJob<'a>) -> Result<Report, AllocError>
+        requires files { 1 ≤ length job.now.files.now }
+        requires fan { IfSome job.now.fan (λ fan. 2 ≤ fan) }
+        ensures { IfOk result (HasMerged (D.is_input self.now.devices.now) (D.is_output self.now.devices.now)
+            (D.is_standard self.now.devices.now) D.is_closed D.Input.reports D.Input.to_come D.Input.has_failed
+            D.Output.reports D.Output.taken D.Output.has_failed job.now.target.now job.now.fan
+            job.now.caps.now job.now.is_stripped (map string_bytes job.now.files.now)) }
+    {
+        let plan = fan_plan(self.alloc, job.files.len(), job.fan)?;
+        let texts = texts(self.alloc, job.files)?;
+        let names = texts.as_slice();
+        let mut inputs = self.inputs_of(names)?;
+        let mut out = self.devices.output(job.target);
+        let options = MergeOptions {
+            plan: &plan,
+            caps: job.caps,
+            is_stripped: job.is_stripped,
+        };
+        let outcome = done(merge_or_strip_run(
+            self.alloc,
+            inputs.as_mut_slice(),
+            &options,
+            &mut out,
+        ));
+        let is_closed = self.devices.close(out);
+        report_of(self.alloc, outcome, names, job.target, is_closed)
+    }
+
+    fn count(&self, files: &'a [String]) -> Result<Report, AllocError>
+        ensures { IfOk result (HasCounted (D.is_input self.now.devices.now) (D.is_output self.now.devices.now)
+            (D.is_standard self.now.devices.now) D.is_closed D.Input.reports D.Input.to_come D.Input.has_failed
+            D.Output.reports D.Output.taken D.Output.has_failed (map string_bytes files.now)) }
+    {
+        let texts = texts(self.alloc, files)?;
+        let names = texts.as_slice();
+        let mut inputs = self.inputs_of(names)?;
+        let mut out = self.devices.standard();
+        let outcome = done(count_run(self.alloc, inputs.as_mut_slice(), &mut out));
+        let is_closed = self.devices.close(out);
+        report_of(self.alloc, outcome, names, STANDARD_OUTPUT, is_closed)
+    }
+
+    fn repair(&self, file: &'a str, target: &'a str) -> Result<Report, AllocError>
+        ensures { IfOk result (HasRepaired (D.is_input self.now.devices.now) (D.is_output self.now.devices.now)
+            (D.is_standard self.now.devices.now) D.is_closed D.Input.reports D.Input.to_come D.Input.has_failed
+            D.Output.reports D.Output.taken D.Output.has_failed file.now target.now) }
+    {
+        let mut input = self.devices.input(file);
+        let mut out = self.devices.output(target);
+        let outcome = done(repair_run(self.alloc, &mut input, &mut out));
+        let is_closed = self.devices.close(out);
+        report_of(self.alloc, outcome, &[file], target, is_closed)
+    }
 }
 
 /// Does a job over the devices of its names, and returns what is to be reported of it: the exit status, and for each
@@ -182,10 +170,11 @@ pub fn run_job<'a, D: Devices<'a>>(
         (D.is_standard devices.now) D.is_closed D.Input.reports D.Input.to_come D.Input.has_failed
         D.Output.reports D.Output.taken D.Output.has_failed job.now) }
 {
+    let runner = Runner { alloc, devices };
     match job {
-        Job::Check(files) => check(alloc, devices, files.as_slice()),
-        Job::Dump(file) => dump(alloc, devices, file.as_str()),
-        Job::Normalise(file, out) => normalise(alloc, devices, file.as_str(), out.as_str()),
+        Job::Check(files) => runner.check(files.as_slice()),
+        Job::Dump(file) => runner.dump(file.as_str()),
+        Job::Normalise(file, out) => runner.normalise(file.as_str(), out.as_str()),
         Job::Merge(out, fan, caps, is_stripped, files) => {
             let merge_job = MergeJob {
                 target: out.as_str(),
@@ -194,11 +183,11 @@ pub fn run_job<'a, D: Devices<'a>>(
                 is_stripped: *is_stripped,
                 files: files.as_slice(),
             };
-            merge(alloc, devices, &merge_job)
+            runner.merge(&merge_job)
         }
-        Job::KeepChecking(files) => run_over_each(alloc, devices, Task::Check, files.as_slice()),
-        Job::Digest(files) => run_over_each(alloc, devices, Task::Digest, files.as_slice()),
-        Job::Count(files) => count(alloc, devices, files.as_slice()),
-        Job::Repair(file, out) => repair(alloc, devices, file.as_str(), out.as_str()),
+        Job::KeepChecking(files) => runner.run_over_each(Task::Check, files.as_slice()),
+        Job::Digest(files) => runner.run_over_each(Task::Digest, files.as_slice()),
+        Job::Count(files) => runner.count(files.as_slice()),
+        Job::Repair(file, out) => runner.repair(file.as_str(), out.as_str()),
     }
 }

@@ -1,2 +1,0 @@
--- Words of the contracts of private functions: no public contract reaches them.
-pub mod RunDevices

@@ -256,49 +256,23 @@ fn merge_of(alloc: Global, matches: &ArgMatches<'_>) -> Result<Option<Job>, Allo
     Ok(Some(Job::Merge(out, fan, caps, strip, files)))
 }
 
-fn digest_of(alloc: Global, matches: &ArgMatches<'_>) -> Result<Option<Job>, AllocError>
-    ensures { IfOk result (λ job. IfSome job IsSound) }
-{
-    let Some(files) = files_of(alloc, matches)? else {
-        return Ok(None);
-    };
-    Ok(Some(Job::Digest(files)))
-}
-
-fn count_of(alloc: Global, matches: &ArgMatches<'_>) -> Result<Option<Job>, AllocError>
-    ensures { IfOk result (λ job. IfSome job IsSound) }
-{
-    let Some(files) = files_of(alloc, matches)? else {
-        return Ok(None);
-    };
-    Ok(Some(Job::Count(files)))
-}
-
-fn normalise_of(alloc: Global, matches: &ArgMatches<'_>) -> Result<Option<Job>, AllocError>
-    ensures { IfOk result (λ job. IfSome job IsSound) }
-{
-    let (file, out) = file_and_out_of(alloc, matches)?;
-    Ok(Some(Job::Normalise(file, out)))
-}
-
-fn repair_of(alloc: Global, matches: &ArgMatches<'_>) -> Result<Option<Job>, AllocError>
-    ensures { IfOk result (λ job. IfSome job IsSound) }
-{
-    let (file, out) = file_and_out_of(alloc, matches)?;
-    Ok(Some(Job::Repair(file, out)))
-}
-
 fn job_of(alloc: Global, matches: &ArgMatches<'_>) -> Result<Option<Job>, AllocError>
     ensures { IfOk result (λ job. IfSome job IsSound) }
 {
     match matches.subcommand() {
         Some(("check", found)) => check_of(alloc, found),
         Some(("merge", found)) => merge_of(alloc, found),
-        Some(("normalise", found)) => normalise_of(alloc, found),
-        Some(("digest", found)) => digest_of(alloc, found),
-        Some(("count", found)) => count_of(alloc, found),
+        Some(("normalise", found)) => {
+            let (file, out) = file_and_out_of(alloc, found)?;
+            Ok(Some(Job::Normalise(file, out)))
+        }
+        Some(("digest", found)) => Ok(files_of(alloc, found)?.map(Job::Digest)),
+        Some(("count", found)) => Ok(files_of(alloc, found)?.map(Job::Count)),
         Some(("dump", found)) => Ok(Some(Job::Dump(text_of(alloc, found, "file")?))),
-        Some(("repair", found)) => repair_of(alloc, found),
+        Some(("repair", found)) => {
+            let (file, out) = file_and_out_of(alloc, found)?;
+            Ok(Some(Job::Repair(file, out)))
+        }
         _ => Ok(None),
     }
 }

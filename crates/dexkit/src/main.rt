@@ -27,51 +27,22 @@ fn print(rt: &impl Eprint, report: &Report) -> u8 {
     report.status
 }
 
-// Prints the help, the version, or the fault of a usage, and returns the exit status.
-fn print_usage<R: Print + Eprint>(rt: &R, error: &Error) -> u8 {
-    let printed = error.print(rt);
-    if error.use_stderr() {
-        return ExitStatus::Usage as u8;
-    }
-    match printed {
-        Ok(()) => ExitStatus::Done as u8,
-        Err(error) => {
-            if error.kind() != io::ErrorKind::BrokenPipe {
-                let _ = eprintln!(rt; "dexkit: standard output: cannot be written");
-            }
-            ExitStatus::Device as u8
-        }
-    }
-}
-
-// Prints why there is no job, and returns the exit status.
+// Prints why there is no job, the help, the version or the fault of a usage, and returns the exit status.
 fn explain<R: Print + Eprint>(rt: &R, error: &Error) -> Result<u8, AllocError> {
     if error.kind() == ErrorKind::OutOfMemory {
         return Err(AllocError);
     }
-    Ok(print_usage(rt, error))
-}
-
-// Does the job that the words ask for, and returns the exit status.
-fn run_words<R: Files + Print + Eprint + Input>(
-    rt: &R,
-    alloc: Global,
-    words: &[&str],
-) -> Result<u8, AllocError> {
-    match read_words(alloc, words) {
-        Ok(job) => Ok(print(rt, &run_job(alloc, &SystemDevices::new(rt), &job)?)),
-        Err(error) => explain(rt, &error),
+    let printed = error.print(rt);
+    if error.use_stderr() {
+        return Ok(ExitStatus::Usage as u8);
     }
-}
-
-// Does what the arguments ask for once lists are expanded, and returns the exit status.
-fn run_expanded<R: Files + Print + Eprint + Input>(
-    rt: &R,
-    alloc: Global,
-    arguments: &[String],
-) -> Result<u8, AllocError> {
-    let words: Vec<&str> = arguments.iter().map(String::as_str).collect(alloc)?;
-    run_words(rt, alloc, &words)
+    if let Err(error) = printed {
+        if error.kind() != io::ErrorKind::BrokenPipe {
+            let _ = eprintln!(rt; "dexkit: standard output: cannot be written");
+        }
+        return Ok(ExitStatus::Device as u8);
+    }
+    Ok(ExitStatus::Done as u8)
 }
 
 // Does what the arguments ask for, and returns the exit status.
@@ -80,9 +51,15 @@ fn start<R: Files + Print + Eprint + Input>(
     alloc: Global,
     arguments: &[String],
 ) -> Result<u8, AllocError> {
-    match expand_arguments(alloc, &SystemDevices::new(rt), arguments) {
-        Ok(expanded) => run_expanded(rt, alloc, &expanded),
-        Err(fault) => Ok(print(rt, &explain_lists(alloc, fault)?)),
+    let devices = SystemDevices::new(rt);
+    let expanded = match expand_arguments(alloc, &devices, arguments) {
+        Ok(expanded) => expanded,
+        Err(fault) => return Ok(print(rt, &explain_lists(alloc, fault)?)),
+    };
+    let words: Vec<&str> = expanded.iter().map(String::as_str).collect(alloc)?;
+    match read_words(alloc, &words) {
+        Ok(job) => Ok(print(rt, &run_job(alloc, &devices, &job)?)),
+        Err(error) => explain(rt, &error),
     }
 }
 

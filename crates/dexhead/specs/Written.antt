@@ -3,7 +3,7 @@ use Rattle.std.specs.Prelude.{◌≡◌, ℕ, ◌-◌, List, ◌++◌, map}
 use Rattle.std.specs.List.{flat_map}
 use Rattle.dexspec.specs.Bytes.{uint}
 use Rattle.dexspec.specs.Header.{header_length}
-use Rattle.dexspec.specs.Sections.{Section, type_code}
+use Rattle.dexspec.specs.Sections.{Section}
 use Rattle.dexspec.specs.Placing.{Ordered}
 use Rattle.dexspec.specs.Canonical.{magic, map_bytes, placed_tables, data_start}
 use Rattle.dexhead.specs.declared.head.Head.{Head}

@@ -166,12 +166,8 @@ fn check_start(bytes: &[u8]) -> Result<(), Refusal>
     ensures accepted { OnOk result (HoldBelow 4 bytes.now) }
     ensures refused { IfErr result (IsEarly bytes.now) }
 {
-    if !header::has_size(bytes) {
-        return Err(whole(Condition::Size));
-    }
-    if !header::has_magic(bytes) {
-        return Err(whole(Condition::Magic));
-    }
+    require(header::has_size(bytes), Condition::Size)?;
+    require(header::has_magic(bytes), Condition::Magic)?;
     let version = header::version(bytes);
     if version != 35 {
         return Err(Refusal {
@@ -188,15 +184,9 @@ fn check_fields(bytes: &[u8]) -> Result<(), Refusal>
     ensures accepted { OnOk result (HoldBelow 7 bytes.now) }
     ensures refused { IfErr result (IsEarly bytes.now) }
 {
-    if !header::has_lengths(bytes) {
-        return Err(whole(Condition::Lengths));
-    }
-    if !header::has_endian(bytes) {
-        return Err(whole(Condition::Endian));
-    }
-    if !header::has_no_link(bytes) {
-        return Err(whole(Condition::Link));
-    }
+    require(header::has_lengths(bytes), Condition::Lengths)?;
+    require(header::has_endian(bytes), Condition::Endian)?;
+    require(header::has_no_link(bytes), Condition::Link)?;
     Ok(())
 }
 
@@ -206,12 +196,8 @@ fn check_sums(bytes: &[u8]) -> Result<(), Refusal>
     ensures accepted { OnOk result (HoldBelow 7 bytes.now → HoldBelow 9 bytes.now) }
     ensures refused { IfErr result (λ refusal. HoldBelow 7 bytes.now → IsEarly bytes.now refusal) }
 {
-    if !header::has_checksum(bytes) {
-        return Err(whole(Condition::Checksum));
-    }
-    if !header::has_signature(bytes) {
-        return Err(whole(Condition::Signature));
-    }
+    require(header::has_checksum(bytes), Condition::Checksum)?;
+    require(header::has_signature(bytes), Condition::Signature)?;
     Ok(())
 }
 
@@ -221,21 +207,22 @@ fn check_places(bytes: &[u8]) -> Result<(), Refusal>
     ensures accepted { OnOk result (HoldBelow 9 bytes.now → IsFrame bytes.now) }
     ensures refused { IfErr result (λ refusal. HoldBelow 9 bytes.now → IsEarly bytes.now refusal) }
 {
-    if !header::has_layout(bytes) {
-        return Err(whole(Condition::Layout));
-    }
-    if !map::has_map(bytes) {
-        return Err(whole(Condition::Map));
-    }
+    require(header::has_layout(bytes), Condition::Layout)?;
+    require(map::has_map(bytes), Condition::Map)?;
     Ok(())
 }
 
-// The refusal by a condition on the whole file.
-fn whole(condition: Condition) -> Refusal
-    ensures { result ≡ record { number = number (condition_meant condition); place = 0 } }
+// Refuses the whole file by a condition that does not hold.
+fn require(holds: bool, condition: Condition) -> Result<(), Refusal>
+    ensures accepted { IsOk result ↔ IsTrue holds }
+    ensures refused { IfErr result (λ refusal.
+        refusal ≡ record { number = number (condition_meant condition); place = 0 }) }
 {
-    Refusal {
+    if holds {
+        return Ok(());
+    }
+    Err(Refusal {
         number: condition.number(),
         place: 0,
-    }
+    })
 }

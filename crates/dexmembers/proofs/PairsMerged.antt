@@ -1,5 +1,6 @@
 -- Pairs of two lists that rise, merged, are all of them in their order.
-use Rattle.dexmembers.proofs.Common.{◌≡◌, ◌≢◌, ℕ, ◌+◌, ◌*◌, ◌^◌, ◌<◌, ◌≤◌, nat_lt, Bool, true, false, List, [], ◌∷◌, ◌++◌, length, refl, sym, ap, ◌∙◌, arith, inl, inr, All, Ordering, Less, slice_index, slice_index_or, drop, take, if◌then◌else◌, ◌==◌, flat_map, zip, nat_cmp, by_order, cases_lt, cond_both, lt-ltb, le-ltb, length-append, length-drop, drop_more, drop_all, get_or-drop, take_more, All-nil, All-cons, All-head, All-tail, in_order, add_in_order, uint, pair_cmp, pairs_bytes, length-uint}
+use Rattle.dexmembers.proofs.Common.{◌≡◌, ◌≢◌, ℕ, not, cond, sum_by-cons, ◌+◌, ◌*◌, ◌^◌, ◌<◌, ◌≤◌, nat_lt, Bool, true, false, List, [], ◌∷◌, ◌++◌, length, refl, sym, ap, ◌∙◌, arith, inl, inr, All, Ordering, Less, slice_index, slice_index_or, drop, take, if◌then◌else◌, ◌==◌, flat_map, zip, nat_cmp, by_order, cases_lt, cond_both, lt-ltb, le-ltb, length-append, length-drop, drop_more, drop_all, get_or-drop, take_more, All-nil, All-cons, All-head, All-tail, in_order, add_in_order, uint, pair_cmp, pairs_bytes, length-uint}
+use Rattle.std.specs.Prelude.{count_by}
 use Rattle.dexspec.proofs.lists.RankOrder.{nat_more}
 use Rattle.dexmembers.specs.{put_among, merged, kept_pair, pair_bytes, count_placed}
 
@@ -258,9 +259,21 @@ second_there i n j k one other there end le few left = elim (cases_lt j k) [
   | inr ge ↦ absurd (elim (cases_lt i n) [ inl lt ↦ let a = there lt in let b = end ge in omega (arith, a, b, le) | inr past ↦ omega (arith, past, ge, left) ])
 ]
 
--- one offset more
-pub placed_more : (os : List ℕ) (i : ℕ) → i < length os → count_placed (take (i + 1) os) ≡ count_placed (take i os) + (if slice_index os i == 0 then 0 else 1)
-placed_more os i lt =
-    let last : ℕ = slice_index os i in
-    let one : count_placed (take (i + 1) os) ≡ count_placed (take i os ++ last ∷ []) = ap count_placed (take_more os i 0 lt) in
-    omega (arith, one, placed_append (take i os) (last ∷ []))
+-- one more is counted, or none
+one_counted : (b : Bool) (n m : ℕ) → n ≡ m → cond (not b) 1 0 + n ≡ (if b then 0 else 1) + m
+one_counted true n m e = ap (λ (k : ℕ). 0 + k) e
+one_counted false n m e = ap (λ (k : ℕ). 1 + k) e
+
+-- as many as are counted
+pub placed_counted : (os : List ℕ) → count_by (λ o. not (o == 0)) os ≡ count_placed os
+placed_counted [] = refl
+placed_counted (o ∷ os) = sum_by-cons (λ (p : ℕ). cond (not (p == 0)) 1 0) o os ∙ one_counted (o == 0) _ _ (placed_counted os)
+
+one_or_none : (b : Bool) (n m : ℕ) → n ≤ m → (if b then 0 else 1) + n ≤ 1 + m
+one_or_none true n m le = omega (arith, le)
+one_or_none false n m le = omega (arith, le)
+
+-- no more than there are
+pub placed_few : (os : List ℕ) → count_placed os ≤ length os
+placed_few [] = omega arith
+placed_few (o ∷ os) = let le = one_or_none (o == 0) (count_placed os) (length os) (placed_few os) in omega (arith, le)

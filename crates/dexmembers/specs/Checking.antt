@@ -21,7 +21,7 @@ use Rattle.dexmembers.specs.internal.StaticValues.{HasValuesFor}
 use Rattle.dexmembers.specs.Reading.{MembersRow}
 use Rattle.dexmembers.specs.declared.class_data.EncodedMethod.{EncodedMethod}
 use Rattle.dexmembers.specs.declared.class_data.ClassData.{ClassData as DataRead}
-use Rattle.dexmembers.specs.declared.code_checking.CheckedCodes.{CheckedCodes}
+use Rattle.dexmembers.specs.declared.codes.CheckedCodes.{CheckedCodes}
 use Rattle.dexmembers.specs.declared.checking.Checks.{Checks}
 use Rattle.dexpool.specs.Pools.{ArePools}
 use Rattle.dexpool.specs.declared.faults.ItemFault.{ItemFault}

@@ -4,7 +4,6 @@ use Rattle.std.specs.List.{flat_map, zip}
 use Rattle.std.specs.Global.{Vec}
 use Rattle.dexspec.specs.Bytes.{uint}
 use Rattle.dexmembers.specs.Numbered.{NumberedField, NumberedMethod, NumberedMembers}
-use Rattle.dexmembers.specs.declared.directory_put.EntryCounts.{EntryCounts}
 
 -- a pair in its place among others, and the rest of its list after it
 abbrev pub put_among : ℕ × ℕ → (List (ℕ × ℕ) → List (ℕ × ℕ)) → List (ℕ × ℕ) → List (ℕ × ℕ)
@@ -58,10 +57,6 @@ numbered_directory_bytes x own field_offs method_offs parameter_offs =
     ++ (both_bytes (method_numbers x.direct_methods) (method_numbers x.virtual_methods) method_offs ++ both_bytes (method_numbers x.direct_methods) (method_numbers x.virtual_methods) parameter_offs)))))
 
 -- ---- its parts
-
--- what is before the pairs: the offset of the class's own set, and how many pairs there are of each kind
-abbrev pub directory_head_bytes : ℕ → EntryCounts → List ℕ
-directory_head_bytes own counts = uint own ++ (uint counts.fields ++ (uint counts.methods ++ uint counts.parameters))
 
 -- the pairs of the fields
 abbrev pub field_pairs_bytes : NumberedMembers → List ℕ → List ℕ

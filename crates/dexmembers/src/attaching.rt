@@ -1,8 +1,8 @@
 //! Fields and methods put together: what class data says of them, with their code and the places of the sets of a
 //! directory.
 
-ghost use Rattle.std.specs.Prelude.{◌≡◌, ℕ, ◌<◌, length, IfOk, IfSome, MatchOption};
-ghost use Rattle.dexmembers.specs.internal.Attaching.{place_for, EntriesRise, HasNumberAt, AreHeldFields, AttachesMethods, HaveFieldSetsBelow, HaveListsBelow, HaveSetsBelow, LacksNumber, PlacesBelow};
+ghost use Rattle.std.specs.Prelude.{◌≡◌, ℕ, ◌<◌, length, IfOk, IfSome};
+ghost use Rattle.dexmembers.specs.internal.Attaching.{place_for, EntriesRise, AreHeldFields, AttachesMethods, HaveFieldSetsBelow, HaveListsBelow, HaveSetsBelow, PlacesBelow};
 ghost use Rattle.dexmembers.specs.Contents.{AreHeld};
 ghost use Rattle.dexmembers.specs.internal.RowParts.{IsHeldDirectory, CanAttach, HaveCodes, IsAttached};
 
@@ -16,21 +16,17 @@ use dexflags::{FieldFlags, MethodFlags};
 use dexval::SharedDirectory;
 use std::alloc::{AllocError, Global};
 
-// Returns the index of the entry of a number, if there is one.
-fn entry_of(entries: &[(u32, u32)], number: u32) -> Option<usize>
-    ensures { MatchOption result (LacksNumber entries.now number) (HasNumberAt entries.now number) }
-{
-    entries.binary_search_by_key(&number, |entry| entry.0).ok()
-}
-
 // Returns the place in the entry of a number, if there is one.
-fn place_for(entries: &[(u32, u32)], number: u32) -> Option<u32>
-    ensures found { EntriesRise entries.now → result ≡ place_for entries.now number }
+fn place_for(entries: &[(u32, u32)], number: u32) -> Result<Place, AllocError>
+    ensures found { EntriesRise entries.now
+        → IfOk result (λ place. place ≡ place_for entries.now number) }
     ensures held { (limit : ℕ) → PlacesBelow limit entries.now
-        → IfSome result (λ place. place < limit) }
+        → IfOk result (λ place. IfSome place (λ p. p < limit)) }
 {
-    let at = entry_of(entries, number)?;
-    Some(entries[at].1)
+    match entries.binary_search_by_key(&number, |entry| entry.0) {
+        Ok(at) => Place::of(Some(entries[at].1)),
+        Err(_) => Place::of(None),
+    }
 }
 
 // The fields of a list of class data, with the places of their sets in a directory.
@@ -47,11 +43,10 @@ fn attach_fields(
 {
     let mut fields = Vec::with_capacity(alloc, listed.len())?;
     for field in listed {
-        let set = Place::of(place_for(sets, field.index))?;
         fields.push(DeclaredField {
             number: field.index,
             flags: FieldFlags::from_bits_retain(field.flags),
-            set,
+            set: place_for(sets, field.index)?,
         })?;
     }
     Ok(fields)
@@ -79,14 +74,12 @@ fn attach_methods<'a>(
     let MethodCodes { places, code_items } = codes;
     let mut methods = Vec::with_capacity(alloc, listed.len())?;
     for (i, method) in listed.iter().enumerate() {
-        let set = Place::of(place_for(sets, method.index))?;
-        let list = Place::of(place_for(lists, method.index))?;
         methods.push(DeclaredMethod {
             number: method.index,
             flags: MethodFlags::from_bits_retain(method.flags),
             code: places[i],
-            set,
-            list,
+            set: place_for(sets, method.index)?,
+            list: place_for(lists, method.index)?,
         })?;
     }
     Ok(MethodList {

@@ -10,8 +10,8 @@ ghost use Rattle.dexmembers.specs.internal.ClassData.{count_fields};
 
 use crate::class_data::{ClassData, read_class_data};
 use crate::class_def::ClassDef;
-use crate::code_checking::{CheckedCodes, check_codes};
-use crate::row_checking::{check_annotations, check_static_values};
+use crate::codes::CheckedCodes;
+use crate::row_reader::RowReader;
 use dexhead::Frame;
 use dexpool::{ItemFault, Pools};
 use dexval::CheckedSets;
@@ -73,18 +73,19 @@ pub fn check_members(
 {
     pools.numbering().is_numbering();
     let declared = read_class_data(alloc, frame, pools, row)?;
-    let off = row.annotations_off;
-    let annotations = check_annotations(frame, pools, off, &declared, &mut checks.sets)?;
-    let codes = &mut checks.codes;
-    let direct = check_codes(frame, pools, &declared.direct_methods, codes)?;
-    let virtuals = check_codes(frame, pools, &declared.virtual_methods, codes)?;
-    let (off, fields) = (row.static_values_off, declared.static_fields.len());
-    let values = check_static_values(frame, pools, off, fields)?;
-    Ok(
-        fields_weight(&declared)
-            .saturating_add(annotations)
-            .saturating_add(direct)
-            .saturating_add(virtuals)
-            .saturating_add(values),
-    )
+    let reader = RowReader {
+        alloc,
+        frame,
+        pools,
+        row,
+        declared: &declared,
+        most: u64::MAX,
+    };
+    let annotations = reader.check_annotations(&mut checks.sets)?;
+    let direct = reader.check_codes(&declared.direct_methods, &mut checks.codes)?;
+    let virtuals = reader.check_codes(&declared.virtual_methods, &mut checks.codes)?;
+    let values = reader.check_static_values()?;
+    let fields = fields_weight(&declared).saturating_add(annotations);
+    let codes = direct.saturating_add(virtuals);
+    Ok(fields.saturating_add(codes).saturating_add(values))
 }

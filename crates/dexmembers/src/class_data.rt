@@ -43,14 +43,8 @@ pub(crate) struct ClassData {
     pub(crate) virtual_methods: Vec<EncodedMethod>,
 }
 
-// How many members each of the four lists has.
-#[derive(Clone, Copy)]
-struct Counts {
-    static_fields: u32,
-    instance_fields: u32,
-    direct_methods: u32,
-    virtual_methods: u32,
-}
+// How many static fields, instance fields, direct and virtual methods there are.
+type Counts = (u32, u32, u32, u32);
 
 // The four counts at a place, and how many bytes spell them.
 fn read_counts(bytes: &[u8], at: usize) -> Option<(Counts, usize)>
@@ -60,16 +54,11 @@ fn read_counts(bytes: &[u8], at: usize) -> Option<(Counts, usize)>
     ensures some { IfSome result (λ x. AreCountsAt bytes.now at x.0 x.1) }
     ensures within { IfSome result (λ x. at + x.1 ≤ length bytes.now) }
 {
-    let (static_fields, first) = number_at(bytes, at)?;
-    let (instance_fields, second) = number_at(bytes, at + first)?;
-    let (direct_methods, third) = number_at(bytes, at + first + second)?;
-    let (virtual_methods, fourth) = number_at(bytes, at + first + second + third)?;
-    let counts = Counts {
-        static_fields,
-        instance_fields,
-        direct_methods,
-        virtual_methods,
-    };
+    let (statics, first) = number_at(bytes, at)?;
+    let (instances, second) = number_at(bytes, at + first)?;
+    let (directs, third) = number_at(bytes, at + first + second)?;
+    let (virtuals, fourth) = number_at(bytes, at + first + second + third)?;
+    let counts = (statics, instances, directs, virtuals);
     Some((counts, first + second + third + fourth))
 }
 
@@ -80,16 +69,14 @@ impl ClassReader<'_, '_> {
         ensures data { IfOk result (ReadsDataAt self.now at) }
         ensures fault { IfErr result (RefusesDataAt self.now at) }
     {
-        let (counts, counts_size) = match read_counts(self.bytes, at) {
-            Some(read) => read,
-            None => return Err(ItemFault::Refused(Condition::Members as u8)),
+        let Some((counts, counts_size)) = read_counts(self.bytes, at) else {
+            return Err(ItemFault::Refused(Condition::Members as u8));
         };
-        let (statics, instances) = (counts.static_fields, counts.instance_fields);
+        let (statics, instances, directs, virtuals) = counts;
         let fields_at = at + counts_size;
         let (static_fields, instance_fields, fields_size) = self.read_lists::<EncodedField>(
             fields_at, statics, instances,
         )?;
-        let (directs, virtuals) = (counts.direct_methods, counts.virtual_methods);
         let methods_at = fields_at + fields_size;
         let (direct_methods, virtual_methods, _) = self.read_lists::<EncodedMethod>(
             methods_at, directs, virtuals,

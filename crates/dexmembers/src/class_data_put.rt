@@ -82,8 +82,12 @@ impl Encode for ClassDataItem<'_, '_> {
     }
 }
 
-// Appends an item of at most `most` bytes. It is measured only if there is no room for `most` bytes.
-fn put_within<T: Encode>(item: &T, most: usize, out: &mut Vec<u8>) -> Result<(), AllocError>
+/// Appends an item of at most `most` bytes. It is measured only if there is no room for `most` bytes.
+pub(crate) fn put_within<T: Encode>(
+    item: &T,
+    most: usize,
+    out: &mut Vec<u8>,
+) -> Result<(), AllocError>
     requires formed { T.formed item.now }
     requires most { length (T.bytes item.now) ≤ most }
     ensures { Puts (T.bytes item.now) out.old out.new result }

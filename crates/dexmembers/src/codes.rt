@@ -1,26 +1,32 @@
-//! The code of methods.
+//! The code of methods, read or only checked.
 
-ghost use Rattle.std.specs.Prelude.{◌≡◌, ◌+◌, [], ◌∷◌, length, IfOk, IfErr, IfSome};
-ghost use Rattle.dexcode.specs.Checking.{one_code_weight};
-ghost use Rattle.dexcode.specs.Numbered.{ForDenoted};
-ghost use Rattle.dexmembers.specs.Weighing.{numbered_whole_weight, codes_weight};
+ghost use Rattle.std.specs.Prelude.{◌≡◌, ◌+◌, ℕ, List, [], ◌∷◌, length, IfOk, IfErr, IfSome, OnOk};
+ghost use Rattle.dexmembers.specs.Checking.{AreCheckedCodes, HasCodeOrNoneOf, HaveCodesOf};
+ghost use Rattle.dexmembers.specs.Weighing.{codes_weight};
 ghost use Rattle.dexmembers.specs.internal.RowReaders.{IsFile};
-ghost use Rattle.dexmembers.specs.internal.MethodCodes.{IsCodeOrNone, IsCodeOrNoneFault, IsCodesFaultWithin, optional_code_weight, CodesWithin, ForDenotedOrNone, IsTaken};
+ghost use Rattle.dexmembers.specs.internal.MethodCodes.{IsCodeOrNone, IsCodeOrNoneFault, IsCodesFault, IsCodesFaultWithin, optional_code_weight, CodesWithin, ForDenotedOrNone, IsTaken};
 
 use crate::class_data::EncodedMethod;
 use crate::encoded_lists::room;
 use crate::method_codes::MethodCodes;
 use crate::row_reader::{RowReader, too_heavy};
-use dexcode::{Code, debug_unindexed_law, read_code_in};
+use dexcode::{CheckedDebugs, Code, check_code_once, debug_unindexed_law, read_code_in};
 use dexinsn::Scratch;
 use dexpool::ItemFault;
+use std::alloc::Global;
+use std::collections::HashMap;
 
-// Returns what is left of a weight after the code with its debug program, or `None` if the code weighs more.
-fn left_after(left: u64, code: &Code<'_>) -> Option<u64>
-    ensures symbolic { ForDenoted code.now (λ m x. IsTaken left (one_code_weight x) result) }
-    ensures numbered { IfSome result (λ rest. rest + numbered_whole_weight code.now ≡ left) }
+// Returns what is left of a weight after the code of a method that may have none, with its debug program, or `None` if
+// the code weighs more.
+fn left_after(left: u64, code: &Option<Code<'_>>) -> Option<u64>
+    ensures symbolic { ForDenotedOrNone code.now (λ m x.
+        IsTaken left (optional_code_weight x) result) }
+    ensures numbered { IfSome result (λ rest. rest + codes_weight (code.now ∷ []) ≡ left) }
 {
     debug_unindexed_law();
+    let Some(code) = code else {
+        return Some(left);
+    };
     let rest = left.checked_sub(code.weight())?;
     match code.debug() {
         Some(debug) => rest.checked_sub(debug.weight()),
@@ -28,15 +34,28 @@ fn left_after(left: u64, code: &Code<'_>) -> Option<u64>
     }
 }
 
-// Returns what is left after the code of a method that may have none.
-fn left_after_any(left: u64, code: &Option<Code<'_>>) -> Option<u64>
-    ensures symbolic { ForDenotedOrNone code.now (λ m x.
-        IsTaken left (optional_code_weight x) result) }
-    ensures numbered { IfSome result (λ rest. rest + codes_weight (code.now ∷ []) ≡ left) }
-{
-    match code {
-        Some(code) => left_after(left, code),
-        None => Some(left),
+/// The code of a file that was checked, each code_item by its offset with its weight. Each is checked once, however
+/// many methods name it.
+#[derive(Drop)]
+pub(crate) struct CheckedCodes {
+    // The weight of each with its debug program.
+    weights: HashMap<u32, u64>,
+    // Their debug programs: each is checked once, however many code items name it.
+    debugs: CheckedDebugs,
+    // Room for the bits of the one that is checked.
+    scratch: Scratch,
+}
+
+impl CheckedCodes {
+    /// Returns an empty cache.
+    pub(crate) fn none(alloc: Global) -> CheckedCodes
+        ensures { (b : List ℕ) → AreCheckedCodes b result }
+    {
+        CheckedCodes {
+            weights: HashMap::new(alloc),
+            debugs: CheckedDebugs::none(alloc),
+            scratch: Scratch::new(alloc),
+        }
     }
 }
 
@@ -83,12 +102,63 @@ impl<'f> RowReader<'_, 'f, '_> {
         let mut left = self.most;
         for method in methods {
             let code = self.code_or_none(method.code_off, scratch)?;
-            match left_after_any(left, &code) {
+            match left_after(left, &code) {
                 Some(rest) => left = rest,
                 None => return Err(too_heavy()),
             }
             codes = codes.with(code)?;
         }
         Ok((codes, self.most - left))
+    }
+
+    // Returns the weight of the code at an offset with its debug program; at 0 there is no code, and the weight is 0.
+    fn check_code(&self, off: u32, checked: &mut CheckedCodes) -> Result<u64, ItemFault>
+        requires { IsFile self.now → AreCheckedCodes self.now.frame.now checked.old }
+        ensures checked { IsFile self.now
+            → OnOk result (AreCheckedCodes self.now.frame.now checked.new) }
+        ensures weight { IsFile self.now
+            → IfOk result (HasCodeOrNoneOf self.now.frame.now off) }
+        ensures refused { IsFile self.now
+            → IfErr result (IsCodeOrNoneFault self.now.frame.now off) }
+    {
+        if off == 0 {
+            return Ok(0);
+        }
+        if let Some(weight) = checked.weights.get(&off) {
+            return Ok(*weight);
+        }
+        let (scratch, debugs) = (&mut checked.scratch, &mut checked.debugs);
+        let shape = check_code_once(self.frame, self.pools, off, scratch, debugs)?;
+        checked.weights.insert(off, shape.weight)?;
+        Ok(shape.weight)
+    }
+
+    /// Checks the code of the methods, each with its debug program; a method whose offset is 0 has none. It returns the
+    /// weight of the methods with their code and without their annotations, or 2^64 - 1 where that is more. Code that
+    /// was checked before is not checked again.
+    ///
+    /// Condition: what was checked before is of this file. Error: `Refused` with 18, 19 or 20, a condition that fails
+    /// for the code of one of the methods; `Memory` where an allocation failed.
+    ///
+    /// Source: "encoded_method format", the field `code_off`, and "code_item"; the weight is this project's rule.
+    pub(crate) fn check_codes(
+        &self,
+        methods: &[EncodedMethod],
+        checked: &mut CheckedCodes,
+    ) -> Result<u64, ItemFault>
+        requires { IsFile self.now → AreCheckedCodes self.now.frame.now checked.old }
+        ensures checked { IsFile self.now
+            → OnOk result (AreCheckedCodes self.now.frame.now checked.new) }
+        ensures weight { IsFile self.now
+            → IfOk result (HaveCodesOf self.now.frame.now methods.now) }
+        ensures refused { IsFile self.now
+            → IfErr result (IsCodesFault self.now.frame.now methods.now) }
+    {
+        let mut weight: u64 = 0;
+        for method in methods {
+            let code = self.check_code(method.code_off, checked)?;
+            weight = weight.saturating_add(31).saturating_add(code);
+        }
+        Ok(weight)
     }
 }

@@ -1,6 +1,6 @@
 //! Annotations directories written.
 
-ghost use Rattle.std.specs.Prelude.{⊤, ◌≡◌, ℕ, ◌*◌, List, Some, IsOk, map, slice_index, ◌+◌, ◌^◌, ◌<◌, ◌≤◌, ◌==◌, if◌then◌else◌, length, slice_index_or};
+ghost use Rattle.std.specs.Prelude.{⊤, ◌≡◌, ℕ, ◌*◌, List, Some, IsOk, map, slice_index, ◌+◌, ◌^◌, ◌<◌, ◌≤◌, length, slice_index_or};
 ghost use Rattle.dexspec.specs.Texts.{Text};
 ghost use Rattle.dexspec.specs.Classes.{Body};
 ghost use Rattle.dexspec.specs.Mentions.{Mentions};
@@ -8,9 +8,10 @@ ghost use Rattle.dexspec.specs.Placing.{SetOffsets, directory_bytes};
 ghost use Rattle.dexspec.specs.internal.Writing.{Puts};
 ghost use Rattle.dexpool.specs.Numberings.{AreRising};
 ghost use Rattle.dexmembers.specs.Numbered.{fields_of, methods_of, members_in, members_of, AreKnownMembers, AreOrdered, AreOfClass};
-ghost use Rattle.dexmembers.specs.DirectoryPut.{pair_bytes, count_placed, numbered_directory_bytes, both_bytes_by, directory_head_bytes, field_pairs_bytes, method_pairs_bytes, HasDirectoryRoom, IsDirectoryLen};
-ghost use Rattle.dexmembers.specs.FormedDirectory.{IsFormedDirectory, item_bytes};
+ghost use Rattle.dexmembers.specs.DirectoryPut.{pair_bytes, count_placed, numbered_directory_bytes, both_bytes_by, field_pairs_bytes, method_pairs_bytes, HasDirectoryRoom, IsDirectoryLen};
+ghost use Rattle.dexmembers.specs.FormedDirectory.{IsFormedDirectory};
 
+use crate::class_data_put::put_within;
 use crate::laws::members_bytes_law;
 use crate::members::{DeclaredField, Members};
 use crate::method_list::DeclaredMethod;
@@ -24,31 +25,18 @@ const NONE_LEFT: u64 = 0x1_0000_0000;
 fn encode_pair<O: Output>(index: u32, offset: u32, out: &mut O)
     ensures { O.gives (pair_bytes (index, offset)) out.old out.new }
 {
-    if offset == 0 {
-        return;
+    if offset != 0 {
+        out.u32(index);
+        out.u32(offset);
     }
-    out.u32(index);
-    out.u32(offset);
-}
-
-// Returns 1 for an offset that is not 0, and else 0.
-fn one_if_placed(offset: u32) -> u32
-    ensures one { result ≡ (if offset == 0 then 0 else 1) }
-    ensures few { result ≤ 1 }
-{
-    if offset == 0 { 0 } else { 1 }
 }
 
 // Returns the number of offsets that are not 0.
-fn placed(offsets: &[u32]) -> u32
-    requires { length offsets.now < 2 ^ 32 }
-    ensures { result ≡ count_placed offsets.now }
+fn placed(offsets: &[u32]) -> usize
+    ensures is { result ≡ count_placed offsets.now }
+    ensures few { result ≤ length offsets.now }
 {
-    let mut count = 0;
-    for offset in offsets {
-        count += one_if_placed(*offset);
-    }
-    count
+    offsets.iter().filter(|offset| **offset != 0).count()
 }
 
 // A member of a class, which has a number.
@@ -125,51 +113,6 @@ pub struct DirectoryOffsets<'o> {
     pub parameters: &'o [u32],
 }
 
-// The number of members of each kind that have a set or a list.
-#[derive(Clone, Copy)]
-struct EntryCounts {
-    fields: u32,
-    methods: u32,
-    parameters: u32,
-}
-
-impl DirectoryOffsets<'_> {
-    // Returns the number of offsets of each kind that are not 0.
-    fn entry_counts(&self) -> EntryCounts
-        requires fields { length self.now.fields.now < 2 ^ 32 }
-        requires methods { length self.now.methods.now < 2 ^ 32 }
-        requires parameters { length self.now.parameters.now < 2 ^ 32 }
-        ensures fields { result.fields ≡ count_placed self.now.fields.now }
-        ensures methods { result.methods ≡ count_placed self.now.methods.now }
-        ensures parameters { result.parameters ≡ count_placed self.now.parameters.now }
-    {
-        EntryCounts {
-            fields: placed(self.fields),
-            methods: placed(self.methods),
-            parameters: placed(self.parameters),
-        }
-    }
-}
-
-impl EntryCounts {
-    // Returns the length of the directory.
-    fn directory_len(&self) -> usize
-        ensures { result ≡ 16 + 8 * (self.now.fields + self.now.methods + self.now.parameters) }
-    {
-        16 + 8 * (self.fields as usize + self.methods as usize + self.parameters as usize)
-    }
-}
-
-// Writes what is before the pairs: the offset of the class's own set, and the number of pairs of each kind.
-fn encode_head<O: Output>(own_off: u32, counts: &EntryCounts, out: &mut O)
-    ensures { O.gives (directory_head_bytes own_off counts.now) out.old out.new }
-{
-    out.u32(own_off);
-    out.u32(counts.fields);
-    out.u32(counts.methods);
-    out.u32(counts.parameters);
-}
-
 impl Members<'_> {
     // Writes the pairs of the fields.
     fn encode_field_pairs<O: Output>(&self, offsets: &[u32], out: &mut O)
@@ -196,7 +139,6 @@ impl Members<'_> {
 struct DirectoryItem<'i, 'a> {
     members: &'i Members<'a>,
     offs: DirectoryOffsets<'i>,
-    counts: EntryCounts,
 }
 
 impl Encode for DirectoryItem<'_, '_> {
@@ -206,22 +148,14 @@ impl Encode for DirectoryItem<'_, '_> {
 
     fn encode<O: Output>(&self, out: &mut O) {
         let (members, offs) = (self.members, self.offs);
-        encode_head(offs.own, &self.counts, out);
+        members.are_few();
+        out.u32(offs.own);
+        out.u32(placed(offs.fields) as u32);
+        out.u32(placed(offs.methods) as u32);
+        out.u32(placed(offs.parameters) as u32);
         members.encode_field_pairs(offs.fields, out);
         members.encode_method_pairs(offs.methods, out);
         members.encode_method_pairs(offs.parameters, out);
-    }
-}
-
-impl DirectoryItem<'_, '_> {
-    // Appends the annotations_directory_item.
-    fn put(&self, out: &mut Vec<u8>) -> Result<(), AllocError>
-        requires { IsFormedDirectory self.now }
-        ensures { Puts (item_bytes self.now) out.old out.new result }
-    {
-        out.reserve(self.counts.directory_len())?;
-        self.encode(out);
-        Ok(())
     }
 }
 
@@ -240,7 +174,7 @@ impl Members<'_> {
             offs.now.parameters.now result }
     {
         self.are_few();
-        offs.entry_counts().directory_len()
+        16 + 8 * (placed(offs.fields) + placed(offs.methods) + placed(offs.parameters))
     }
 
     /// Appends the annotations_directory_item: the offset of the class's own set, the counts of annotated fields, of
@@ -277,11 +211,11 @@ impl Members<'_> {
     {
         members_bytes_law();
         self.are_few();
+        let most = 16 + 8 * (self.field_count() + 2 * self.method_count());
         let item = DirectoryItem {
             members: self,
             offs: *offs,
-            counts: offs.entry_counts(),
         };
-        item.put(out)
+        put_within(&item, most, out)
     }
 }

@@ -29,34 +29,27 @@ impl<'a> Model for MethodCodes<'a> {
 }
 
 // Puts the code, if there is some, at the end of the others, and returns its place.
-fn keep_code<'a>(
-    code: Option<Code<'a>>,
-    code_items: &mut Vec<Code<'a>>,
-) -> Result<Place, AllocError>
-    ensures { IfOk result (IsKept code.entry code_items.old.items code_items.new.items) }
+fn keep_code<'a>(code: Option<Code<'a>>, kept: &mut Vec<Code<'a>>) -> Result<Place, AllocError>
+    ensures { IfOk result (IsKept code.entry kept.old.items kept.new.items) }
 {
     let Some(code) = code else {
         return Place::of(None);
     };
-    let Ok(place) = u32::try_from(code_items.len()) else {
+    let Ok(place) = u32::try_from(kept.len()) else {
         return Err(AllocError);
     };
-    code_items.push(code)?;
+    kept.push(code)?;
     Place::of(Some(place))
 }
 
 impl<'a> MethodCodes<'a> {
-    /// The code of no method, with memory for that of `methods`, of which `with_code` have some.
-    pub(crate) fn with_room(
-        alloc: Global,
-        methods: usize,
-        with_code: usize,
-    ) -> Result<MethodCodes<'a>, AllocError>
-        ensures { IfOk result (λ codes. codes ≡ []) }
+    /// The code of no method, with memory for that of `methods`, of which `codes` have some.
+    pub(crate) fn with_room(alloc: Global, methods: usize, codes: usize) -> Result<Self, AllocError>
+        ensures { IfOk result (λ none. none ≡ []) }
     {
         Ok(MethodCodes {
             places: Vec::with_capacity(alloc, methods)?,
-            code_items: Vec::with_capacity(alloc, with_code)?,
+            code_items: Vec::with_capacity(alloc, codes)?,
         })
     }
 

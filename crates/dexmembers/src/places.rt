@@ -38,13 +38,10 @@ impl Place {
     pub(crate) fn of(place: Option<u32>) -> Result<Place, AllocError>
         ensures { IfOk result (λ stored. stored ≡ place) }
     {
-        let number = match place {
-            Some(number) => number,
-            None => return Ok(Place { number: NO_PLACE }),
-        };
-        if number == NO_PLACE {
+        if place == Some(NO_PLACE) {
             return Err(AllocError);
         }
+        let number = place.unwrap_or(NO_PLACE);
         Ok(Place { number })
     }
 
@@ -52,10 +49,6 @@ impl Place {
     pub(crate) fn get(self) -> Option<u32>
         ensures { result ≡ self }
     {
-        if self.number == NO_PLACE {
-            None
-        } else {
-            Some(self.number)
-        }
+        (self.number != NO_PLACE).then_some(self.number)
     }
 }

@@ -21,18 +21,16 @@ use std::alloc::Global;
 // The members, whose code weighs `codes`, and what they weigh. Error: it is more than `most`.
 //
 // Condition: their places are their table's.
-fn within(unweighed: Contents<'_>, codes: u64, most: u32) -> Result<(Members<'_>, u32), ItemFault>
-    requires { AreHeld unweighed }
-    ensures { IsWeighedWithin (contents_in unweighed.entry) codes most result }
+fn within(contents: Contents<'_>, codes: u64, most: u32) -> Result<(Members<'_>, u32), ItemFault>
+    requires { AreHeld contents }
+    ensures { IsWeighedWithin (contents_in contents.entry) codes most result }
 {
     members_weight_law();
-    let weight = unweighed.weight_with(codes);
+    let weight = contents.weight_with(codes);
     if weight > u64::from(most) {
         return Err(too_heavy());
     }
-    let members = Members {
-        contents: unweighed,
-    };
+    let members = Members { contents };
     Ok((members, weight as u32))
 }
 
@@ -57,9 +55,11 @@ fn read_row<'a>(
         alloc,
         frame,
         pools,
+        row,
+        declared: &declared,
         most: u64::from(most),
     };
-    let parts = reader.read_parts(row, &declared, &mut scratch)?;
+    let parts = reader.read_parts(&mut scratch)?;
     let codes = parts.codes_weight;
     let unweighed = attach(alloc, &declared, parts)?;
     within(unweighed, codes, most)

@@ -1,21 +1,25 @@
-//! The parts of class rows beside their class data, as they are read: annotations, code and static values.
+//! The parts of class rows beside their class data, read or only checked: annotations, code and static values.
 
-ghost use Rattle.std.specs.Prelude.{◌≡◌, [], IfOk};
+ghost use Rattle.std.specs.Prelude.{◌≡◌, [], length, IfOk, OnOk};
 ghost use Rattle.dexpool.specs.declared.faults.ItemFault.TheVariants.{Refused};
+ghost use Rattle.dexval.specs.CheckedSets.{AreChecked};
 ghost use Rattle.dexval.specs.Shared.{shared_directory_of};
 ghost use Rattle.dexmembers.specs.internal.RowReaders.{IsFile};
-ghost use Rattle.dexmembers.specs.internal.RowParts.{AreEntered, IsHeldDirectory, ReadsAnnotations, RefusesAnnotationsWithin, IsLight, HaveCodes, HasCodesWeight, ReadsParts, RefusesParts};
-ghost use Rattle.dexmembers.specs.internal.StaticValues.{ReadsValues, RefusesValuesWithin};
+ghost use Rattle.dexmembers.specs.Checking.{WeighsAnnotations, WeighsValues};
+ghost use Rattle.dexmembers.specs.internal.RowParts.{AreEntered, IsHeldDirectory, ReadsAnnotations, RefusesAnnotations, RefusesAnnotationsWithin, IsLight, HaveCodes, HasCodesWeight, ReadsParts, RefusesParts};
+ghost use Rattle.dexmembers.specs.internal.StaticValues.{ReadsValues, RefusesValues, RefusesValuesWithin};
 
 use crate::class_data::ClassData;
 use crate::class_def::ClassDef;
 use crate::method_codes::MethodCodes;
 use crate::naming::names_declared;
-use crate::row_checking::check_static_values;
 use dexhead::{Condition, Frame};
 use dexinsn::Scratch;
 use dexpool::{ItemFault, Pools};
-use dexval::{SetTable, SharedDirectory, Value, read_shared_directory_within, read_statics};
+use dexval::{
+    CheckedSets, SetTable, SharedDirectory, Value, check_directory, check_statics,
+    read_shared_directory_within, read_statics,
+};
 use std::alloc::Global;
 
 /// The fault of a row, or of a part of it, that weighs more than it may.
@@ -25,13 +29,15 @@ pub(crate) fn too_heavy() -> ItemFault
     ItemFault::Refused(Condition::Weight as u8)
 }
 
-/// Reads the parts of the class rows of a file. It has the file's frame and pools, the allocator for what is read, and
-/// the most that a part may weigh.
+/// Reads or checks the parts of a class row of a file. It has the file's frame and pools, the members that the row
+/// declares, the allocator for what is read, and the most that a part that is read may weigh.
 #[derive(Clone, Copy)]
 pub(crate) struct RowReader<'s, 'f, 'p> {
     pub(crate) alloc: Global,
     pub(crate) frame: &'s Frame<'f>,
     pub(crate) pools: &'s Pools<'p>,
+    pub(crate) row: &'s ClassDef,
+    pub(crate) declared: &'s ClassData,
     pub(crate) most: u64,
 }
 
@@ -64,55 +70,108 @@ fn no_directory(alloc: Global) -> SharedDirectory
 }
 
 impl<'f> RowReader<'_, 'f, '_> {
-    /// Reads the annotations of a class and of its members at the offset of its row, or none at 0.
+    /// Checks the annotations of the class and of its members, and returns what their sets weigh, or 2^64 - 1 where that
+    /// is more: 0 where the row's offset is 0. What is checked already is not checked again.
     ///
-    /// Condition: the row declares these members. Error: `Refused(22)` if no annotations_directory_item is there, or it
+    /// Condition: the row declares the members; what is checked already is of this file. Error: `Refused(22)` exactly
+    /// where no annotations_directory_item is there, or it names a member that is not declared; `Memory` where an
+    /// allocation failed.
+    ///
+    /// Source: "class_def_item", the field `annotations_off`, and "annotations_directory_item".
+    pub(crate) fn check_annotations(&self, checked: &mut CheckedSets) -> Result<u64, ItemFault>
+        requires checked { IsFile self.now
+            → AreChecked self.now.frame.now self.now.pools.now checked.old }
+        ensures checked { IsFile self.now
+            → OnOk result (AreChecked self.now.frame.now self.now.pools.now checked.new) }
+        ensures weight { WeighsAnnotations self.now.frame.now self.now.pools.now
+            self.now.row.now.annotations_off self.now.declared.now result }
+        ensures refused { RefusesAnnotations self.now.frame.now self.now.pools.now
+            self.now.row.now.annotations_off self.now.declared.now result }
+    {
+        self.pools.numbering().is_numbering();
+        let off = self.row.annotations_off;
+        if off == 0 {
+            return Ok(0);
+        }
+        let shape = check_directory(self.frame, self.pools, off, checked)?;
+        if !names_declared(self.frame, off, self.declared) {
+            return Err(ItemFault::Refused(Condition::Annotations as u8));
+        }
+        Ok(shape.weight)
+    }
+
+    /// Reads the annotations of the class and of its members, or none where the row's offset is 0.
+    ///
+    /// Condition: the row declares the members. Error: `Refused(22)` if no annotations_directory_item is there, or it
     /// names a member that is not declared; `Refused(23)` if its sets weigh more than `most`, and what comes after the
     /// set by which they do is not looked at; `Memory` where an allocation failed.
     ///
     /// Source: "class_def_item", the field `annotations_off`, and "annotations_directory_item".
-    pub(crate) fn read_annotations(
-        &self,
-        off: u32,
-        declared: &ClassData,
-    ) -> Result<SharedDirectory, ItemFault>
-        ensures read { ReadsAnnotations self.now off declared.now result }
+    fn read_annotations(&self) -> Result<SharedDirectory, ItemFault>
+        ensures read { ReadsAnnotations self.now
+            self.now.row.now.annotations_off self.now.declared.now result }
         ensures within { IsFile self.now → IfOk result (IsLight self.now) }
         ensures held { IfOk result IsHeldDirectory }
-        ensures refused { RefusesAnnotationsWithin self.now off declared.now result }
+        ensures refused { RefusesAnnotationsWithin self.now
+            self.now.row.now.annotations_off self.now.declared.now result }
     {
         self.pools.numbering().is_numbering();
+        let off = self.row.annotations_off;
         if off == 0 {
             return Ok(no_directory(self.alloc));
         }
         let directory = read_shared_directory_within(
             self.alloc, self.frame, self.pools, off, self.most,
         )?;
-        if !names_declared(self.frame, off, declared) {
+        if !names_declared(self.frame, off, self.declared) {
             return Err(ItemFault::Refused(Condition::Annotations as u8));
         }
         Ok(directory)
     }
 
-    /// Reads the values that the static fields of a class begin with at the offset of its row, or none at 0.
+    /// Checks the values that the static fields of the class begin with, and returns what they weigh: 0 where the row's
+    /// offset is 0.
     ///
-    /// Error: `Refused(21)` exactly where no encoded_array_item is there, or it has more values than `fields`, the
-    /// number of static fields; `Refused(23)` exactly where they weigh more than `most`; `Memory` where an allocation
-    /// failed.
+    /// Error: `Refused(21)` exactly where no encoded_array_item is there, or it has more values than the row declares
+    /// static fields.
     ///
     /// Source: "class_def_item", the field `static_values_off`, and "encoded_array_item".
-    pub(crate) fn read_static_values(
-        &self,
-        off: u32,
-        fields: usize,
-    ) -> Result<Vec<Value>, ItemFault>
-        ensures read { ReadsValues self.now off fields result }
-        ensures refused { RefusesValuesWithin self.now off fields result }
+    pub(crate) fn check_static_values(&self) -> Result<u64, ItemFault>
+        ensures weight { WeighsValues self.now.frame.now self.now.pools.now
+            self.now.row.now.static_values_off
+            (length self.now.declared.now.static_fields.items) result }
+        ensures refused { RefusesValues self.now.frame.now self.now.pools.now
+            self.now.row.now.static_values_off
+            (length self.now.declared.now.static_fields.items) result }
     {
-        let weight = check_static_values(self.frame, self.pools, off, fields)?;
+        let off = self.row.static_values_off;
+        if off == 0 {
+            return Ok(0);
+        }
+        let shape = check_statics(self.frame, self.pools, off)?;
+        if shape.count as usize > self.declared.static_fields.len() {
+            return Err(ItemFault::Refused(Condition::Values as u8));
+        }
+        Ok(shape.weight)
+    }
+
+    /// Reads the values that the static fields of the class begin with, or none where the row's offset is 0.
+    ///
+    /// Error: `Refused(21)` exactly where no encoded_array_item is there, or it has more values than the row declares
+    /// static fields; `Refused(23)` exactly where they weigh more than `most`; `Memory` where an allocation failed.
+    ///
+    /// Source: "class_def_item", the field `static_values_off`, and "encoded_array_item".
+    fn read_static_values(&self) -> Result<Vec<Value>, ItemFault>
+        ensures read { ReadsValues self.now self.now.row.now.static_values_off
+            (length self.now.declared.now.static_fields.items) result }
+        ensures refused { RefusesValuesWithin self.now self.now.row.now.static_values_off
+            (length self.now.declared.now.static_fields.items) result }
+    {
+        let weight = self.check_static_values()?;
         if weight > self.most {
             return Err(too_heavy());
         }
+        let off = self.row.static_values_off;
         if off == 0 {
             return Ok(Vec::new(self.alloc));
         }
@@ -120,32 +179,27 @@ impl<'f> RowReader<'_, 'f, '_> {
         Ok(values)
     }
 
-    /// Reads what is at a class row beside its class data. All code is read in the same `scratch`.
+    /// Reads what is at the class row beside its class data. All code is read in the same `scratch`.
     ///
-    /// Condition: the row declares these members. Error: `Refused` with a number from 18 to 22, a condition that fails
+    /// Condition: the row declares the members. Error: `Refused` with a number from 18 to 22, a condition that fails
     /// at the row; `Refused(23)` at the part that weighs more than `most`, and what comes after it is not looked at;
     /// `Memory` where an allocation failed.
     ///
     /// Source: "class_def_item", the fields `annotations_off` and `static_values_off`, and "encoded_method format", the
     /// field `code_off`.
-    pub(crate) fn read_parts(
-        &self,
-        row: &ClassDef,
-        declared: &ClassData,
-        scratch: &mut Scratch,
-    ) -> Result<Parts<'f>, ItemFault>
-        ensures read { ReadsParts self.now row.now declared.now result }
+    pub(crate) fn read_parts(&self, scratch: &mut Scratch) -> Result<Parts<'f>, ItemFault>
+        ensures read { ReadsParts self.now self.now.row.now self.now.declared.now result }
         ensures held { IfOk result (λ x. IsHeldDirectory x.directory) }
-        ensures codes { IfOk result (HaveCodes declared.now) }
+        ensures codes { IfOk result (HaveCodes self.now.declared.now) }
         ensures weight { IfOk result HasCodesWeight }
-        ensures refused { RefusesParts self.now row.now declared.now result }
+        ensures refused { RefusesParts self.now self.now.row.now self.now.declared.now result }
     {
         self.pools.numbering().is_numbering();
-        let directory = self.read_annotations(row.annotations_off, declared)?;
+        let directory = self.read_annotations()?;
+        let declared = self.declared;
         let direct = self.read_codes(&declared.direct_methods, scratch)?;
         let virtuals = self.read_codes(&declared.virtual_methods, scratch)?;
-        let fields = declared.static_fields.len();
-        let static_values = self.read_static_values(row.static_values_off, fields)?;
+        let static_values = self.read_static_values()?;
         let (direct_codes, direct_weight) = direct;
         let (virtual_codes, virtual_weight) = virtuals;
         Ok(Parts {

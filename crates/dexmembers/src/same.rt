@@ -2,7 +2,7 @@
 
 ghost use Rattle.std.specs.Prelude.{◌≡◌, ◌↔◌, IsTrue, Option};
 ghost use Rattle.std.specs.Option.{option_map};
-ghost use Rattle.dexval.specs.Renumbering.{renumbered_set};
+ghost use Rattle.dexval.specs.Renumbering.{remapped, renumbered_set};
 ghost use Rattle.dexval.specs.Numbered.{NumberedSet};
 ghost use Rattle.dexcode.specs.Numbered.{NumberedItem};
 ghost use Rattle.dexcode.specs.Renumbering.{renumbered_item};
@@ -15,141 +15,117 @@ use dexcode::Code;
 use dexpool::{Remap, SymbolKind};
 use dexval::{AnnotationSet, eq_ends, same_values_mapped};
 
-// Returns whether the code of two methods, if there is some, is the same once remapped.
-fn same_code(
-    mine: &Remap,
-    code: Option<&Code<'_>>,
-    theirs: &Remap,
-    other: Option<&Code<'_>>,
-) -> bool
-    ensures { (x y : Option NumberedItem)
-        → IsBorrowedCode code.entry x → IsBorrowedCode other.entry y → IsTrue result
-        ↔ (option_map (renumbered_item mine.now) x ≡ option_map (renumbered_item theirs.now) y) }
-{
-    match (code, other) {
-        (Some(code), Some(other)) => code.same_mapped(mine, other, theirs),
-        (None, None) => true,
-        _ => false,
-    }
+// The maps of the numbers of two things that are compared.
+#[derive(Clone, Copy)]
+struct Maps<'r> {
+    mine: &'r Remap,
+    theirs: &'r Remap,
 }
 
-// Returns whether two sets are the same once remapped. None is an empty one.
-fn same_set(
-    mine: &Remap,
-    set: Option<&AnnotationSet>,
-    theirs: &Remap,
-    other: Option<&AnnotationSet>,
-) -> bool
-    ensures { (x y : NumberedSet) → IsBorrowedSet set.entry x → IsBorrowedSet other.entry y
-        → IsTrue result ↔ (renumbered_set mine.now x ≡ renumbered_set theirs.now y) }
-{
-    match (set, other) {
-        (Some(set), Some(other)) => set.same_mapped(mine, other, theirs),
-        (Some(set), None) => set.is_empty(),
-        (None, Some(other)) => other.is_empty(),
-        (None, None) => true,
+impl Maps<'_> {
+    // Returns whether two numbers of symbols of a kind are the same once remapped.
+    fn same_number(&self, kind: SymbolKind, number: u32, other: u32) -> bool
+        ensures { IsTrue result
+            ↔ (remapped self.now.mine.now kind number ≡ remapped self.now.theirs.now kind other) }
+    {
+        eq_ends(kind, self.mine, number, self.theirs, other)
     }
-}
 
-// Returns whether two lists of sets are the same, one for one, once remapped.
-fn same_sets(
-    mine: &Remap,
-    sets: &ParameterSets<'_>,
-    theirs: &Remap,
-    others: &ParameterSets<'_>,
-) -> bool
-    ensures { IsTrue result ↔ SameRemapped renumbered_set mine.now theirs.now sets.now others.now }
-{
-    if sets.len() != others.len() {
-        return false;
-    }
-    for i in 0..sets.len() {
-        if !same_set(mine, sets.get(i), theirs, others.get(i)) {
-            return false;
+    // Returns whether the code of two methods, if there is some, is the same once remapped.
+    fn same_code(&self, code: Option<&Code<'_>>, other: Option<&Code<'_>>) -> bool
+        ensures { (x y : Option NumberedItem) → IsBorrowedCode code.entry x
+            → IsBorrowedCode other.entry y → IsTrue result
+            ↔ (option_map (renumbered_item self.now.mine.now) x
+            ≡ option_map (renumbered_item self.now.theirs.now) y) }
+    {
+        match (code, other) {
+            (Some(code), Some(other)) => code.same_mapped(self.mine, other, self.theirs),
+            (None, None) => true,
+            _ => false,
         }
     }
-    true
-}
 
-// Returns whether two lists of fields are the same, one for one, once remapped.
-fn same_fields(mine: &Remap, fields: &Fields<'_>, theirs: &Remap, others: &Fields<'_>) -> bool
-    ensures { IsTrue result
-        ↔ SameRemapped renumbered_field mine.now theirs.now fields.now others.now }
-{
-    if fields.len() != others.len() {
-        return false;
-    }
-    for i in 0..fields.len() {
-        if !fields.get(i).same_mapped(mine, &others.get(i), theirs) {
-            return false;
+    // Returns whether two sets are the same once remapped. None is an empty one.
+    fn same_set(&self, set: Option<&AnnotationSet>, other: Option<&AnnotationSet>) -> bool
+        ensures { (x y : NumberedSet) → IsBorrowedSet set.entry x → IsBorrowedSet other.entry y
+            → IsTrue result
+            ↔ (renumbered_set self.now.mine.now x ≡ renumbered_set self.now.theirs.now y) }
+    {
+        match (set, other) {
+            (Some(set), Some(other)) => set.same_mapped(self.mine, other, self.theirs),
+            (Some(set), None) | (None, Some(set)) => set.is_empty(),
+            (None, None) => true,
         }
     }
-    true
-}
 
-// Returns whether two lists of methods are the same, one for one, once remapped.
-fn same_methods(
-    mine: &Remap,
-    methods: &Methods<'_, '_>,
-    theirs: &Remap,
-    others: &Methods<'_, '_>,
-) -> bool
-    ensures { IsTrue result
-        ↔ SameRemapped renumbered_method mine.now theirs.now methods.now others.now }
-{
-    if methods.len() != others.len() {
-        return false;
-    }
-    for i in 0..methods.len() {
-        if !methods.get(i).same_mapped(mine, &others.get(i), theirs) {
+    // Returns whether two lists of sets are the same, one for one, once remapped.
+    fn same_sets(&self, sets: ParameterSets<'_>, others: ParameterSets<'_>) -> bool
+        ensures { IsTrue result ↔ SameRemapped renumbered_set
+            self.now.mine.now self.now.theirs.now sets.entry others.entry }
+    {
+        if sets.len() != others.len() {
             return false;
         }
+        for i in 0..sets.len() {
+            if !self.same_set(sets.get(i), others.get(i)) {
+                return false;
+            }
+        }
+        true
     }
-    true
-}
 
-impl Field<'_> {
     // Returns whether two fields are the same once remapped.
-    fn same_mapped(&self, mine: &Remap, other: &Field<'_>, theirs: &Remap) -> bool
-        ensures { IsTrue result
-            ↔ (renumbered_field mine.now self.now ≡ renumbered_field theirs.now other.now) }
+    fn same_field(&self, own: &Field<'_>, other: &Field<'_>) -> bool
+        ensures { IsTrue result ↔ (renumbered_field self.now.mine.now own.now
+            ≡ renumbered_field self.now.theirs.now other.now) }
     {
-        let number = other.number();
-        if !eq_ends(SymbolKind::Field, mine, self.number(), theirs, number) {
-            return false;
-        }
-        if self.flags() != other.flags() {
-            return false;
-        }
-        same_set(mine, self.annotations(), theirs, other.annotations())
+        self.same_number(SymbolKind::Field, own.number(), other.number())
+            && own.flags() == other.flags()
+            && self.same_set(own.annotations(), other.annotations())
     }
-}
 
-impl Method<'_, '_> {
-    // Returns whether two methods are the same once remapped.
-    fn same_mapped(&self, mine: &Remap, other: &Method<'_, '_>, theirs: &Remap) -> bool
-        ensures { IsTrue result
-            ↔ (renumbered_method mine.now self.now ≡ renumbered_method theirs.now other.now) }
+    // Returns whether two lists of fields are the same, one for one, once remapped.
+    fn same_fields(&self, fields: Fields<'_>, others: Fields<'_>) -> bool
+        ensures { IsTrue result ↔ SameRemapped renumbered_field
+            self.now.mine.now self.now.theirs.now fields.entry others.entry }
     {
-        let number = other.number();
-        if !eq_ends(SymbolKind::Method, mine, self.number(), theirs, number) {
+        if fields.len() != others.len() {
             return false;
         }
-        if self.flags() != other.flags() {
+        for i in 0..fields.len() {
+            if !self.same_field(&fields.get(i), &others.get(i)) {
+                return false;
+            }
+        }
+        true
+    }
+
+    // Returns whether two methods are the same once remapped.
+    fn same_method(&self, own: &Method<'_, '_>, other: &Method<'_, '_>) -> bool
+        ensures { IsTrue result ↔ (renumbered_method self.now.mine.now own.now
+            ≡ renumbered_method self.now.theirs.now other.now) }
+    {
+        self.same_number(SymbolKind::Method, own.number(), other.number())
+            && own.flags() == other.flags()
+            && self.same_code(own.code(), other.code())
+            && self.same_set(own.annotations(), other.annotations())
+            && self.same_sets(own.parameter_annotations(), other.parameter_annotations())
+    }
+
+    // Returns whether two lists of methods are the same, one for one, once remapped.
+    fn same_methods(&self, methods: Methods<'_, '_>, others: Methods<'_, '_>) -> bool
+        ensures { IsTrue result ↔ SameRemapped renumbered_method
+            self.now.mine.now self.now.theirs.now methods.entry others.entry }
+    {
+        if methods.len() != others.len() {
             return false;
         }
-        if !same_code(mine, self.code(), theirs, other.code()) {
-            return false;
+        for i in 0..methods.len() {
+            if !self.same_method(&methods.get(i), &others.get(i)) {
+                return false;
+            }
         }
-        if !same_set(mine, self.annotations(), theirs, other.annotations()) {
-            return false;
-        }
-        same_sets(
-            mine,
-            &self.parameter_annotations(),
-            theirs,
-            &other.parameter_annotations(),
-        )
+        true
     }
 }
 
@@ -160,26 +136,12 @@ impl<'a> Members<'a> {
         ensures { IsTrue result
             ↔ (renumbered_members mine.now self.now ≡ renumbered_members theirs.now other.now) }
     {
-        let fields = self.static_fields();
-        if !same_fields(mine, &fields, theirs, &other.static_fields()) {
-            return false;
-        }
-        let fields = self.instance_fields();
-        if !same_fields(mine, &fields, theirs, &other.instance_fields()) {
-            return false;
-        }
-        let own = self.annotations();
-        if !same_set(mine, own, theirs, other.annotations()) {
-            return false;
-        }
-        if !same_values_mapped(self.static_values(), mine, other.static_values(), theirs) {
-            return false;
-        }
-        let methods = self.direct_methods();
-        if !same_methods(mine, &methods, theirs, &other.direct_methods()) {
-            return false;
-        }
-        let methods = self.virtual_methods();
-        same_methods(mine, &methods, theirs, &other.virtual_methods())
+        let maps = Maps { mine, theirs };
+        maps.same_fields(self.static_fields(), other.static_fields())
+            && maps.same_fields(self.instance_fields(), other.instance_fields())
+            && maps.same_set(self.annotations(), other.annotations())
+            && same_values_mapped(self.static_values(), mine, other.static_values(), theirs)
+            && maps.same_methods(self.direct_methods(), other.direct_methods())
+            && maps.same_methods(self.virtual_methods(), other.virtual_methods())
     }
 }

@@ -12,7 +12,6 @@ use Rattle.dexval.specs.Numbered.{field_at, method_at}
 use Rattle.dexmembers.specs.declared.class_data.EncodedField.{EncodedField}
 use Rattle.dexmembers.specs.declared.class_data.EncodedMethod.{EncodedMethod}
 use Rattle.dexmembers.specs.declared.class_data.ClassData.{ClassData}
-use Rattle.dexmembers.specs.declared.class_data.Counts.{Counts}
 use Rattle.dexmembers.specs.declared.encoded_lists.ClassReader.{ClassReader}
 
 -- the members are refused for this reason; a failed allocation says nothing
@@ -168,8 +167,8 @@ abbrev pub IsDataAt : Mentions → ℕ → List ℕ → ℕ → ClassData → Ty
 IsDataAt m class b o d = DataAt m class b o d.static_fields.items d.instance_fields.items d.direct_methods.items d.virtual_methods.items
 
 -- the four counts are at offset o, in n bytes
-abbrev pub AreCountsAt : List ℕ → ℕ → Counts → ℕ → Type 0
-AreCountsAt b o counts n = Sequence Uleb128At b o (counts.static_fields ∷ counts.instance_fields ∷ counts.direct_methods ∷ counts.virtual_methods ∷ []) n
+abbrev pub AreCountsAt : List ℕ → ℕ → ℕ × ℕ × ℕ × ℕ → ℕ → Type 0
+AreCountsAt b o counts n = Sequence Uleb128At b o (counts.0 ∷ counts.1 ∷ counts.2 ∷ counts.3 ∷ []) n
 
 -- there is no class data of the class at offset o
 abbrev pub NoData : Mentions → ℕ → List ℕ → ℕ → Type 0

@@ -18,22 +18,22 @@ loop-i-preserved c =
     let many : length places ≡ length xs = omega (arith, c.requires, ap length c.codes.view_is, length-map places (code_at codes)) in
     let h = c.loop-i.invariant in
     let before = c.loop-i.methods.items in
-    let method : StoredMethod = record { number = x.index; flags = c.from_bits_retain.result.0; code = place; set = c.in_ok-set.set; list = c.in_ok-list.list } in
+    let method : StoredMethod = record { number = x.index; flags = c.from_bits_retain.result.0; code = place; set = c.in_ok-place_for.field-0; list = c.in_ok-place_for-2.field-0 } in
     let grown = c.in_ok-push.ensures.items in
     record {
       at = ap code_places grown ∙ map-append (λ (y : StoredMethod). y.code) before (method ∷ []) ∙ (λ k. h.at k ++ c.index.ensures k ∷ []) ∙ sym (take_more places i place (omega (arith, many, lt)));
       done = λ rise rise'.
-          let set = c.in_ok-set.ensures ∙ c.place_for.ensures.found rise in
-          let list = c.in_ok-list.ensures ∙ c.place_for-in-loop-i.ensures.found rise' in
+          let set = c.in_ok-place_for.ensures.found rise in
+          let list = c.in_ok-place_for-2.ensures.found rise' in
           ap (map (held_in codes)) grown ∙ map-append (held_in codes) before (method ∷ [])
           ∙ (λ k. h.done rise rise' k ++ record { number = x.index; flags = c.from_bits_retain.ensures k; code = code_at codes place; set = set k; list = list k } ∷ [])
           ∙ sym (zip_more (held_method c.args.sets.now c.args.lists.now) xs (map (code_at codes) places) i x (code_at codes place) lt (omega (arith, many, lt, length-map places (code_at codes))) (λ d. get_or_default xs i d none lt) (λ d. get_or-map (code_at codes) places i place d (omega (arith, many, lt)) ∙ ap (code_at codes) (sym c.index.ensures)));
       sets_held = λ limit held.
           let P = λ (y : StoredMethod). IfSome y.set (λ n. n < limit) in
-          subst (All P) (sym grown) (All-push P before method (h.sets_held limit held) (rw c.in_ok-set.ensures (c.place_for.ensures.held limit held)));
+          subst (All P) (sym grown) (All-push P before method (h.sets_held limit held) (c.in_ok-place_for.ensures.held limit held));
       lists_held = λ limit held.
           let P = λ (y : StoredMethod). IfSome y.list (λ n. n < limit) in
-          subst (All P) (sym grown) (All-push P before method (h.lists_held limit held) (rw c.in_ok-list.ensures (c.place_for-in-loop-i.ensures.held limit held)));
+          subst (All P) (sym grown) (All-push P before method (h.lists_held limit held) (c.in_ok-place_for-2.ensures.held limit held));
     }
 
 pub returns-clause-sets_held : goal.returns-clause-sets_held

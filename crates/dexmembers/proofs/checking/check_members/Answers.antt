@@ -1,7 +1,6 @@
-use Rattle.dexmembers.proofs.Common.{◌∙◌, ℕ, List, sym, subst, arith, err_from_is_err_and, AreRising}
+use Rattle.dexmembers.proofs.Common.{List, sym, subst, arith, err_from_is_err_and, AreRising}
 use Rattle.dexmembers.specs.internal.MethodCodes.{IsCodesFault}
-use Rattle.dexmembers.specs.internal.StaticValues.{IsValuesFault}
-use Rattle.dexmembers.specs.{HaveCodesOf, HasValuesOf}
+use Rattle.dexmembers.specs.{HaveCodesOf}
 use Rattle.dexmembers.specs.declared.class_data.EncodedMethod.{EncodedMethod}
 use Rattle.dexmembers.proofs.DirectoryCache.{data_refused, direct_refused, virtual_refused}
 use Rattle.dexmembers.proofs.RowsAreAt.{annotations_refused, values_refused}
@@ -34,7 +33,7 @@ pub returns-in_err-values-clause-refused : goal.returns-in_err-values-clause-ref
 returns-in_err-values-clause-refused c = λ r row pools class.
     let p = err_from_is_err_and c.from_residual-in_err-values.result c.from_residual-in_err-values.ensures.1 in
     rw (p.1, p.2) (values_refused c.args.frame.now r c.args.pools.now c.in_ok-declared.declared (c.in_ok-declared.ensures.read r row pools class) c.in_err-values.field-0.0
-    (subst (λ (n : ℕ). IsValuesFault c.args.frame.now r n c.in_err-values.field-0.0) (c.len-fields.ensures ∙ c.in_ok-declared.declared.static_fields.ok.0) (c.in_err-values.ensures.refused r (sym row.static_values_are) pools)))
+    (c.in_err-values.ensures.refused r (sym row.static_values_are) pools))
 
 pub returns-clause-checked : goal.returns-clause-checked
 returns-clause-checked c = λ r row pools class.
@@ -46,5 +45,5 @@ returns-clause-checked c = λ r row pools class.
     (c.in_ok-annotations.ensures.weight r (sym row.annotations_are) pools is)
     (subst (λ (l : List EncodedMethod). HaveCodesOf b l c.in_ok-direct.direct) c.deref.ensures.value (c.in_ok-direct.ensures.weight pools))
     (subst (λ (l : List EncodedMethod). HaveCodesOf b l c.in_ok-virtuals.virtuals) c.deref-2.ensures.value (c.in_ok-virtuals.ensures.weight pools))
-    (subst (λ (n : ℕ). HasValuesOf b r n c.in_ok-values.values) (c.len-fields.ensures ∙ d.static_fields.ok.0) (c.in_ok-values.ensures.weight r (sym row.static_values_are) pools))
-    (omega (arith, c.saturating_add.ensures, c.saturating_add-2.ensures, c.saturating_add-3.ensures, c.saturating_add-4.ensures))
+    (c.in_ok-values.ensures.weight r (sym row.static_values_are) pools)
+    (omega (arith, c.saturating_add-fields.ensures, c.saturating_add-codes.ensures, c.saturating_add.ensures, c.saturating_add-2.ensures))

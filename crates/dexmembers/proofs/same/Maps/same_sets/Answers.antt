@@ -1,13 +1,13 @@
 use Rattle.dexmembers.proofs.Common.{◌<◌, length, get_or, [], arith, get_or_default, renumbered_set}
 use Rattle.dexmembers.proofs.RenumberingSteps.{same_at}
-use Rattle.dexmembers.proofs.same.same_sets.Goals as goal
+use Rattle.dexmembers.proofs.same.Maps.same_sets.Goals as goal
 
 pub returns-then-not-same_set : goal.returns-then-not-same_set
 returns-then-not-same_set c =
-    let r = c.args.mine.now in
-    let q = c.args.theirs.now in
-    let xs = c.args.sets.now in
-    let ys = c.args.others.now in
+    let r = c.args.self.now.mine.now in
+    let q = c.args.self.now.theirs.now in
+    let xs = c.args.sets in
+    let ys = c.args.others in
     let i = c.loop-i.i in
     let x = get_or xs i [] in
     let y = get_or ys i [] in

@@ -1,5 +1,5 @@
 -- Pairs of two lists that rise, merged, are all of them in their order.
-use Rattle.dexmembers.proofs.Common.{◌≡◌, ◌≢◌, ℕ, not, cond, sum_by-cons, ◌+◌, ◌*◌, ◌^◌, ◌<◌, ◌≤◌, nat_lt, Bool, true, false, List, [], ◌∷◌, ◌++◌, length, refl, sym, ap, ◌∙◌, arith, inl, inr, All, Ordering, Less, slice_index, slice_index_or, drop, take, if◌then◌else◌, ◌==◌, flat_map, zip, nat_cmp, by_order, cases_lt, cond_both, lt-ltb, le-ltb, length-append, length-drop, drop_more, drop_all, get_or-drop, take_more, All-nil, All-cons, All-head, All-tail, in_order, add_in_order, uint, pair_cmp, pairs_bytes, length-uint}
+use Rattle.dexmembers.proofs.Common.{◌≡◌, ◌≢◌, ℕ, not, cond, sum_by-cons, ◌+◌, ◌*◌, ◌^◌, ◌<◌, ◌≤◌, nat_lt, Bool, true, false, List, [], ◌∷◌, ◌++◌, length, refl, sym, ap, ◌∙◌, arith, inl, inr, All, Ordering, Less, slice_index, slice_index_or, drop, if◌then◌else◌, ◌==◌, flat_map, zip, nat_cmp, by_order, cases_lt, cond_both, lt-ltb, le-ltb, length-append, length-drop, drop_more, drop_all, get_or-drop, All-nil, All-cons, All-head, All-tail, in_order, add_in_order, uint, pair_cmp, pairs_bytes, length-uint}
 use Rattle.std.specs.Prelude.{count_by}
 use Rattle.dexspec.proofs.lists.RankOrder.{nat_more}
 use Rattle.dexmembers.specs.{put_among, merged, kept_pair, pair_bytes, count_placed}

@@ -83,11 +83,7 @@ impl Encode for ClassDataItem<'_, '_> {
 }
 
 /// Appends an item of at most `most` bytes. It is measured only if there is no room for `most` bytes.
-pub(crate) fn put_within<T: Encode>(
-    item: &T,
-    most: usize,
-    out: &mut Vec<u8>,
-) -> Result<(), AllocError>
+pub(crate) fn append<T: Encode>(item: &T, most: usize, out: &mut Vec<u8>) -> Result<(), AllocError>
     requires formed { T.formed item.now }
     requires most { length (T.bytes item.now) ≤ most }
     ensures { Puts (T.bytes item.now) out.old out.new result }
@@ -135,6 +131,6 @@ impl Members<'_> {
             members: self,
             code_offs,
         };
-        put_within(&item, most, out)
+        append(&item, most, out)
     }
 }

@@ -11,7 +11,7 @@ ghost use Rattle.dexmembers.specs.Numbered.{fields_of, methods_of, members_in, m
 ghost use Rattle.dexmembers.specs.DirectoryPut.{pair_bytes, count_placed, numbered_directory_bytes, both_bytes_by, field_pairs_bytes, method_pairs_bytes, HasDirectoryRoom, IsDirectoryLen};
 ghost use Rattle.dexmembers.specs.FormedDirectory.{IsFormedDirectory};
 
-use crate::class_data_put::put_within;
+use crate::class_data_put::append;
 use crate::laws::members_bytes_law;
 use crate::members::{DeclaredField, Members};
 use crate::method_list::DeclaredMethod;
@@ -216,6 +216,6 @@ impl Members<'_> {
             members: self,
             offs: *offs,
         };
-        put_within(&item, most, out)
+        append(&item, most, out)
     }
 }

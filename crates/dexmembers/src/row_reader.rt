@@ -197,11 +197,9 @@ impl<'f> RowReader<'_, 'f, '_> {
         self.pools.numbering().is_numbering();
         let directory = self.read_annotations()?;
         let declared = self.declared;
-        let direct = self.read_codes(&declared.direct_methods, scratch)?;
-        let virtuals = self.read_codes(&declared.virtual_methods, scratch)?;
+        let (direct_codes, direct_weight) = self.read_codes(&declared.direct_methods, scratch)?;
+        let (virtual_codes, virtual_weight) = self.read_codes(&declared.virtual_methods, scratch)?;
         let static_values = self.read_static_values()?;
-        let (direct_codes, direct_weight) = direct;
-        let (virtual_codes, virtual_weight) = virtuals;
         Ok(Parts {
             directory,
             direct_codes,

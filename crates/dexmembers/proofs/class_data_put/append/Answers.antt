@@ -1,5 +1,5 @@
 use Rattle.dexmembers.proofs.Common.{◌^◌, ◌-◌, min, length, refl, arith, encoded_put}
-use Rattle.dexmembers.proofs.class_data_put.put_within.Goals as goal
+use Rattle.dexmembers.proofs.class_data_put.append.Goals as goal
 
 pub returns : goal.returns
 returns g c =

@@ -1,5 +1,5 @@
 -- Indices of classes and texts, and what tests and marks say of them.
-use Rattle.dexclass.proofs.Common.{◌≡◌, ◌≢◌, ℕ, ◌+◌, ◌<◌, Bool, false, List, [], ◌∷◌, length, get_or, refl, sym, subst, arith, ◌↔◌, IsTrue, All, nat_lt, Some, None, ltb-true, lt-ltb, ne_eqb, All-nil, All-cons, IsClass, TypeIds, table_size, no_index, Mentions, IsDefinedBefore, one_type, ArePools, true, ◌∙◌, false≢true, All-append, superclass_idx, interfaces_off, ClassTypeRow, HasClass, IsClassDef, ClassDef, all_prefix, all_back}
+use Rattle.dexclass.proofs.Common.{◌≡◌, ◌≢◌, ℕ, ◌+◌, ◌<◌, Bool, ◌==◌, false, List, [], ◌∷◌, length, get_or, refl, sym, subst, arith, ◌↔◌, IsTrue, All, nat_lt, Some, None, ltb-true, lt-ltb, eq-eqb, ne_eqb, All-nil, All-cons, IsClass, TypeIds, table_size, no_index, Mentions, IsDefinedBefore, one_type, ArePools, true, ◌∙◌, false≢true, All-append, superclass_idx, interfaces_off, ClassTypeRow, HasClass, IsClassDef, ClassDef, all_prefix, all_back}
 use Rattle.dexspec.specs.Texts.{Text}
 use Rattle.dexspec.specs.Rows.{TypeRow}
 use Rattle.dexpool.specs.Numberings.{IsAt}
@@ -12,10 +12,10 @@ tested b m i t pools at =
     (λ class. (t, record { row = row; class = class }), λ x. subst IsClass (one_type b i x.0 t x.1.row row) x.1.class)
 
 -- the index of a parent that is not none
-pub parent_is : (b : List ℕ) (i : ℕ) → IsClassIndex b i → IsParentIndex b i
+parent_is : (b : List ℕ) (i : ℕ) → IsClassIndex b i → IsParentIndex b i
 parent_is b i h = (Some h.0, h.1)
 
-pub parent_class : (b : List ℕ) (i : ℕ) → i ≢ no_index → IsParentIndex b i → IsClassIndex b i
+parent_class : (b : List ℕ) (i : ℕ) → i ≢ no_index → IsParentIndex b i → IsClassIndex b i
 parent_class b i some (None, e) = absurd (some e)
 parent_class b i some (Some t, h) = (t, h)
 
@@ -41,11 +41,21 @@ interface_later b r i h = record {
   before = λ k lt is. let x = h.before k lt is in (x.0, omega (arith, x.1), x.2);
 }
 
--- the superclass alone
-pub superclass_before : (b : List ℕ) (r i : ℕ) (t : Bool) → i ≢ no_index → (IsTrue t ↔ IsDefinedBefore b r i) → IsTrue t ↔ All (IsDefinedBefore b r) (superclass_indices i)
-superclass_before b r i t some before =
-    let e : superclass_indices i ≡ i ∷ [] = rw (ne_eqb i no_index some) refl in
-    ((λ yes. subst (All (IsDefinedBefore b r)) (sym e) (All-cons (IsDefinedBefore b r) i [] (before.0 yes) (All-nil (IsDefinedBefore b r)))), (λ all. before.1 (subst (All (IsDefinedBefore b r)) e all 0 0 (omega arith))))
+-- a parent that is none
+pub parent_none : (b : List ℕ) (r i : ℕ) → i ≡ no_index → IsTrue (i == no_index) ↔ (IsParentIndex b i × All (IsDefinedBefore b r) (superclass_indices i))
+parent_none b r i e =
+    let none : superclass_indices i ≡ [] = rw (eq-eqb i no_index e) refl in (
+      (λ t. ((None, e), subst (All (IsDefinedBefore b r)) (sym none) (All-nil (IsDefinedBefore b r)))),
+      (λ h. eq-eqb i no_index e),
+    )
+
+-- a parent that is not none
+pub parent_whole : (b : List ℕ) (r i : ℕ) (t : Bool) → i ≢ no_index → (IsTrue t ↔ IsInterfaceIndex b r i) → IsTrue t ↔ (IsParentIndex b i × All (IsDefinedBefore b r) (superclass_indices i))
+parent_whole b r i t some is =
+    let e : superclass_indices i ≡ i ∷ [] = rw (ne_eqb i no_index some) refl in (
+      (λ yes. let h = is.0 yes in (parent_is b i h.class_is, subst (All (IsDefinedBefore b r)) (sym e) (All-cons (IsDefinedBefore b r) i [] h.before (All-nil (IsDefinedBefore b r))))),
+      (λ h. is.1 (record { class_is = parent_class b i some h.0; before = subst (All (IsDefinedBefore b r)) e h.1 0 0 (omega arith) })),
+    )
 
 -- a class in range
 pub class_in_range : (b : List ℕ) (i : ℕ) → IsClassIndex b i → i < table_size b TypeIds

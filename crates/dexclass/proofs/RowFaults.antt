@@ -6,7 +6,7 @@ use Rattle.dexpool.specs.declared.faults.ReadFault.{ReadFault}
 use Rattle.dexclass.specs.internal.Rows.{IsClassFault, interface_indices}
 use Rattle.dexclass.specs.internal.Checked.{IsFaultAtRow}
 use Rattle.dexclass.specs.{type_at, definition_of, IsFaultOf}
-use Rattle.dexclass.specs.internal.Reading.{bodies_weight, AreBodies, AreHeavyTogether}
+use Rattle.dexclass.specs.internal.Reading.{bodies_weight, AreBodies, AreHeavy}
 use Rattle.dexclass.specs.declared.reading.Bodies.{Bodies}
 use Rattle.dexclass.proofs.EmptyPrograms.{nothing_weighs}
 use Rattle.dexclass.proofs.RowClasses.{row_body, row_weight, row_encoded}
@@ -71,14 +71,14 @@ some_rows b zero (d ∷ D) rows heavy = absurd rows
 some_rows b (suc n) D rows heavy = omega arith
 
 -- symbols and classes weigh too much together
-pub together_fault : (b : List ℕ) → HoldBelow 17 b → (D : List Definition) → AreReadable b → AreRows b (table_size b ClassDefs) D → (n : Mentions) (bodies : ℕ) (r : Refusal) → n ≡ mentions D → bodies ≡ bodies_weight D
-    → AreHeavyTogether b n bodies r → IsFaultOf b (Refused r)
-together_fault b h D readable rows n bodies r is sum heavy =
-    let more : most_weight < weight D = omega (arith, heavy.heavy, ap mentions_weight is, sum, weight_is D) in
-    let last : table_size b ClassDefs ≡ r.place + 1 = omega (arith, some_rows b (table_size b ClassDefs) D rows more, heavy.last) in (
+pub together_fault : (b : List ℕ) → HoldBelow 17 b → (D : List Definition) → AreReadable b → AreRows b (table_size b ClassDefs) D → (n : Mentions) (bodies last : ℕ) → n ≡ mentions D → bodies ≡ bodies_weight D
+    → last ≡ table_size b ClassDefs - 1 → AreHeavy n bodies → IsFaultOf b (Refused (record { number = 23; place = last }))
+together_fault b h D readable rows n bodies last is sum at heavy =
+    let more : most_weight < weight D = omega (arith, heavy, ap mentions_weight is, sum, weight_is D) in
+    let before : table_size b ClassDefs ≡ last + 1 = omega (arith, some_rows b (table_size b ClassDefs) D rows more, at) in (
       Condition.Weight,
-      r.place,
-      heavy.number_is,
+      last,
       refl,
-      inr (too_heavy b h r.place D (omega (arith, last)) (λ k le. readable k (omega (arith, last, le))) (subst (λ (k : ℕ). AreRows b k D) last rows) more),
+      refl,
+      inr (too_heavy b h last D (omega (arith, before)) (λ k le. readable k (omega (arith, before, le))) (subst (λ (k : ℕ). AreRows b k D) before rows) more),
     )

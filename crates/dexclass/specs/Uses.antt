@@ -18,6 +18,10 @@ type_numbers c = c.name ∷ (option_to_list c.superclass ++ c.interfaces)
 abbrev pub text_numbers : NumberedClass → List ℕ
 text_numbers c = option_to_list c.source
 
+-- a symbol of a kind that occurs
+abbrev pub use_of : SymbolKind → ℕ → Use
+use_of kind i = record { kind = kind; number = i }
+
 -- a type that occurs
 abbrev pub type_use : ℕ → Use
 type_use i = record { kind = kinds.Typ; number = i }

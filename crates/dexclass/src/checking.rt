@@ -10,7 +10,7 @@ ghost use Rattle.dexclass.specs.internal.Checked.{AreCheckedRows};
 
 use crate::class_checks::check_classes;
 use crate::reading::{
-    MOST_WEIGHT, at_row, check_weight, interface_count, read_rows, row_weight, too_heavy,
+    MOST_WEIGHT, at_row, interface_count, read_rows, row_weight, too_heavy, whole_weight,
 };
 use dexhead::{Frame, Table};
 use dexmembers::{Checks, ClassDef, check_members};
@@ -43,7 +43,7 @@ pub fn check_frame(alloc: Global, frame: &Frame<'_>) -> Result<usize, ReadFault>
     let pools = Pools::read(alloc, frame)?;
     check_classes(alloc, frame, &pools)?;
     let bodies = check_rows(alloc, frame, &pools)?;
-    if let Ok(_weight) = check_weight(frame, pools.numbering(), bodies) {
+    if let Some(_weight) = whole_weight(pools.numbering(), bodies) {
         return Ok(frame.size(Table::ClassDefs) as usize);
     }
     // Of the symbols of the pools only those count that the classes mention.
@@ -95,10 +95,8 @@ fn check_row(
         Ok(members) => members,
         Err(fault) => return Err(at_row(fault, r)),
     };
-    let weight = rows
-        .weight
-        .saturating_add(row_weight(interfaces))
-        .saturating_add(members);
+    let before = rows.weight.saturating_add(row_weight(interfaces));
+    let weight = before.saturating_add(members);
     if weight > MOST_WEIGHT {
         return Err(too_heavy(r));
     }

@@ -44,27 +44,14 @@ impl<'a> Class<'a> {
     pub fn same_mapped(&self, mine: &Remap, other: &Class<'_>, theirs: &Remap) -> bool
         ensures { IsTrue result ↔ (renumbered mine.now self.now ≡ renumbered theirs.now other.now) }
     {
-        if type_number(mine, self.name) != type_number(theirs, other.name) {
-            return false;
-        }
-        if self.flags != other.flags {
-            return false;
-        }
-        if self.weight != other.weight {
-            return false;
-        }
-        if optional_type_number(mine, self.superclass)
-            != optional_type_number(theirs, other.superclass)
-        {
-            return false;
-        }
-        if optional_text_number(mine, self.source) != optional_text_number(theirs, other.source) {
-            return false;
-        }
-        if !eq_mapped(mine, &self.interfaces, theirs, &other.interfaces) {
-            return false;
-        }
-        self.members.same_mapped(mine, &other.members, theirs)
+        let superclass = optional_type_number(theirs, other.superclass);
+        type_number(mine, self.name) == type_number(theirs, other.name)
+            && self.flags == other.flags
+            && self.weight == other.weight
+            && optional_type_number(mine, self.superclass) == superclass
+            && optional_text_number(mine, self.source) == optional_text_number(theirs, other.source)
+            && eq_mapped(mine, &self.interfaces, theirs, &other.interfaces)
+            && self.members.same_mapped(mine, &other.members, theirs)
     }
 }
 

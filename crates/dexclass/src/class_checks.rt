@@ -19,13 +19,15 @@ use std::alloc::{AllocError, Global};
 // A list of at least this many numbers is remembered once it is checked. Pieces of this length are checked at a time.
 const LONG_LIST: usize = 1024;
 
-/// What is known of a file before its class rows are checked.
+/// What is known of a file before one of its class rows is checked.
 #[derive(Clone, Copy)]
 pub(crate) struct KnownFile<'j, 'a> {
     pub(crate) frame: &'j Frame<'a>,
     pub(crate) pools: &'j Pools<'a>,
     /// For each type whether a class row is of it.
     pub(crate) defined: &'j [bool],
+    /// For each type whether a class row before the one that is checked is of it.
+    pub(crate) seen: &'j [bool],
 }
 
 impl<'j, 'a> KnownFile<'j, 'a> {
@@ -38,14 +40,6 @@ impl<'j, 'a> KnownFile<'j, 'a> {
         (index as usize) < self.pools.len(SymbolKind::Typ) && is_class(self.pools.typ(index))
     }
 
-    // Whether the index of a superclass is none or that of a class.
-    fn is_parent(&self, index: u32) -> bool
-        requires { IsKnown self.now.frame.now self.now.pools.now self.now.defined.now }
-        ensures { IsTrue result ↔ IsParentIndex self.now.frame.now index }
-    {
-        index == NO_INDEX || self.is_class(index)
-    }
-
     // Whether the index of a source name is none or that of a text.
     fn is_source(&self, index: u32) -> bool
         requires { IsKnown self.now.frame.now self.now.pools.now self.now.defined.now }
@@ -55,41 +49,39 @@ impl<'j, 'a> KnownFile<'j, 'a> {
     }
 
     // Whether a type that the file defines is defined before row `r`.
-    fn is_before(&self, seen: &[bool], index: u32) -> bool
+    fn is_before(&self, index: u32) -> bool
         requires known { IsKnown self.now.frame.now self.now.pools.now self.now.defined.now }
         requires index { index < table_size self.now.frame.now TypeIds }
-        requires seen { (r : ℕ) × AreDefinedMarks self.now.frame.now r seen.now }
-        ensures { (r : ℕ) → AreSeen self.now r seen.now
+        requires seen { (r : ℕ) × AreDefinedMarks self.now.frame.now r self.now.seen.now }
+        ensures { (r : ℕ) → AreSeen self.now r self.now.seen.now
             → IsTrue result ↔ IsDefinedBefore self.now.frame.now r index }
     {
-        !self.defined[index as usize] || seen[index as usize]
+        !self.defined[index as usize] || self.seen[index as usize]
     }
-}
 
-impl<'j, 'a> KnownFile<'j, 'a> {
     // Whether the index is that of a class, which is defined before row `r` if the file defines it.
-    fn is_interface(&self, seen: &[bool], index: u32) -> bool
+    fn is_class_before(&self, index: u32) -> bool
         requires known { IsKnown self.now.frame.now self.now.pools.now self.now.defined.now }
-        requires seen { (r : ℕ) × AreDefinedMarks self.now.frame.now r seen.now }
-        ensures { (r : ℕ) → AreSeen self.now r seen.now
+        requires seen { (r : ℕ) × AreDefinedMarks self.now.frame.now r self.now.seen.now }
+        ensures { (r : ℕ) → AreSeen self.now r self.now.seen.now
             → IsTrue result ↔ IsInterface self.now r index }
     {
-        self.is_class(index) && self.is_before(seen, index)
+        self.is_class(index) && self.is_before(index)
     }
 
     // Whether each number of two bytes in a range of the file is the index of a class, which is defined before row `r` if
     // the file defines it.
-    fn are_interfaces(&self, seen: &[bool], range: Range16) -> bool
+    fn are_interfaces(&self, range: Range16) -> bool
         requires known { IsKnown self.now.frame.now self.now.pools.now self.now.defined.now }
-        requires seen { (r : ℕ) × AreDefinedMarks self.now.frame.now r seen.now }
+        requires seen { (r : ℕ) × AreDefinedMarks self.now.frame.now r self.now.seen.now }
         requires within { 2 * range.end ≤ length self.now.frame.now }
-        ensures { (r : ℕ) → AreSeen self.now r seen.now
+        ensures { (r : ℕ) → AreSeen self.now r self.now.seen.now
             → IsTrue result ↔ AreInterfacesIn self.now.frame.now r range.start range.end }
     {
         let bytes = self.frame.bytes();
         for i in range.start..range.end {
             let index = u32::from(u16_at(bytes, 2 * i));
-            if !self.is_interface(seen, index) {
+            if !self.is_class_before(index) {
                 return false;
             }
         }
@@ -98,29 +90,24 @@ impl<'j, 'a> KnownFile<'j, 'a> {
 
     // Whether each number of a list is so. Where class rows share long lists, or these overlap, what was checked of them
     // for one row is not read again for the next: a class that is defined before a row is so before the rows after it.
-    fn is_interface_list(
-        &self,
-        seen: &[bool],
-        checked: &mut CheckedLists,
-        list: Range16,
-    ) -> Result<bool, AllocError>
+    fn is_class_list(&self, checked: &mut CheckedLists, list: Range16) -> Result<bool, AllocError>
         requires known { IsKnown self.now.frame.now self.now.pools.now self.now.defined.now }
-        requires seen { (r : ℕ) × AreDefinedMarks self.now.frame.now r seen.now }
+        requires seen { (r : ℕ) × AreDefinedMarks self.now.frame.now r self.now.seen.now }
         requires within { 2 * list.end ≤ length self.now.frame.now }
-        ensures list { IfOk result (λ are. (r : ℕ) → AreSeen self.now r seen.now
+        ensures list { IfOk result (λ are. (r : ℕ) → AreSeen self.now r self.now.seen.now
             → AreCheckedLists self.now.frame.now r checked.old
             → IsTrue are ↔ AreInterfacesIn self.now.frame.now r list.start list.end) }
-        ensures checked { OnOk result ((r : ℕ) → AreSeen self.now r seen.now
+        ensures checked { OnOk result ((r : ℕ) → AreSeen self.now r self.now.seen.now
             → AreCheckedLists self.now.frame.now r checked.old
             → AreCheckedLists self.now.frame.now r checked.new) }
     {
         if list.end.saturating_sub(list.start) < LONG_LIST {
-            return Ok(self.are_interfaces(seen, list));
+            return Ok(self.are_interfaces(list));
         }
         let mut start = checked.end_from(list.start);
         while start < list.end {
             let end = list.end.min(start + LONG_LIST);
-            if !self.are_interfaces(seen, Range16 { start, end }) {
+            if !self.are_interfaces(Range16 { start, end }) {
                 return Ok(false);
             }
             start = checked.end_from(end);
@@ -130,18 +117,13 @@ impl<'j, 'a> KnownFile<'j, 'a> {
     }
 
     // Whether the offset is 0 or that of a list of interfaces.
-    fn has_interfaces(
-        &self,
-        seen: &[bool],
-        checked: &mut CheckedLists,
-        off: u32,
-    ) -> Result<bool, AllocError>
+    fn has_interfaces(&self, checked: &mut CheckedLists, off: u32) -> Result<bool, AllocError>
         requires known { IsKnown self.now.frame.now self.now.pools.now self.now.defined.now }
-        requires seen { (r : ℕ) × AreDefinedMarks self.now.frame.now r seen.now }
-        ensures list { IfOk result (λ has. (r : ℕ) → AreSeen self.now r seen.now
+        requires seen { (r : ℕ) × AreDefinedMarks self.now.frame.now r self.now.seen.now }
+        ensures list { IfOk result (λ has. (r : ℕ) → AreSeen self.now r self.now.seen.now
             → AreCheckedLists self.now.frame.now r checked.old
             → IsTrue has ↔ HasInterfaces self.now.frame.now r off) }
-        ensures checked { OnOk result ((r : ℕ) → AreSeen self.now r seen.now
+        ensures checked { OnOk result ((r : ℕ) → AreSeen self.now r self.now.seen.now
             → AreCheckedLists self.now.frame.now r checked.old
             → AreCheckedLists self.now.frame.now r checked.new) }
     {
@@ -153,41 +135,36 @@ impl<'j, 'a> KnownFile<'j, 'a> {
         };
         let start = off as usize / 2 + 2;
         let end = start + count as usize;
-        self.is_interface_list(seen, checked, Range16 { start, end })
+        self.is_class_list(checked, Range16 { start, end })
     }
 
-    // Whether the superclass, if there is one and the file defines it, is defined before row `r`.
-    fn has_parent_before(&self, seen: &[bool], index: u32) -> bool
+    // Whether the index of a superclass is none or that of a class, which is defined before row `r` if the file defines
+    // it.
+    fn is_parent(&self, index: u32) -> bool
         requires known { IsKnown self.now.frame.now self.now.pools.now self.now.defined.now }
-        requires seen { (r : ℕ) × AreDefinedMarks self.now.frame.now r seen.now }
-        requires index { IsParentIndex self.now.frame.now index }
-        ensures { (r : ℕ) → AreSeen self.now r seen.now
-            → IsTrue result ↔ IsParentBefore self.now r index }
+        requires seen { (r : ℕ) × AreDefinedMarks self.now.frame.now r self.now.seen.now }
+        ensures { (r : ℕ) → AreSeen self.now r self.now.seen.now → IsTrue result
+            ↔ (IsParentIndex self.now.frame.now index × IsParentBefore self.now r index) }
     {
-        index == NO_INDEX || self.is_before(seen, index)
+        index == NO_INDEX || self.is_class_before(index)
     }
 
     // Whether the class row meets condition 16, where the types of the rows before it are seen.
-    fn holds(
-        &self,
-        seen: &[bool],
-        checked: &mut CheckedLists,
-        row: &ClassDef,
-    ) -> Result<bool, AllocError>
+    fn holds(&self, checked: &mut CheckedLists, row: &ClassDef) -> Result<bool, AllocError>
         requires known { IsKnown self.now.frame.now self.now.pools.now self.now.defined.now }
-        requires seen { (r : ℕ) × AreDefinedMarks self.now.frame.now r seen.now }
-        ensures holds { IfOk result (λ holds. (r : ℕ) → AreSeen self.now r seen.now
+        requires seen { (r : ℕ) × AreDefinedMarks self.now.frame.now r self.now.seen.now }
+        ensures holds { IfOk result (λ holds. (r : ℕ) → AreSeen self.now r self.now.seen.now
             → AreCheckedLists self.now.frame.now r checked.old
             → IsClassDef self.now.frame.now r row.now
             → IsTrue holds ↔ HasClass self.now.frame.now r) }
-        ensures checked { OnOk result ((r : ℕ) → AreSeen self.now r seen.now
+        ensures checked { OnOk result ((r : ℕ) → AreSeen self.now r self.now.seen.now
             → AreCheckedLists self.now.frame.now r checked.old
             → AreCheckedLists self.now.frame.now r checked.new) }
     {
         if !self.is_class(row.class_idx) {
             return Ok(false);
         }
-        if seen[row.class_idx as usize] {
+        if self.seen[row.class_idx as usize] {
             return Ok(false);
         }
         if !self.is_parent(row.superclass_idx) {
@@ -196,10 +173,7 @@ impl<'j, 'a> KnownFile<'j, 'a> {
         if !self.is_source(row.source_file_idx) {
             return Ok(false);
         }
-        if !self.has_parent_before(seen, row.superclass_idx) {
-            return Ok(false);
-        }
-        self.has_interfaces(seen, checked, row.interfaces_off)
+        self.has_interfaces(checked, row.interfaces_off)
     }
 }
 
@@ -219,17 +193,17 @@ pub(crate) fn check_classes(
     ensures refused { IfErr result (IsClassFault frame.now) }
 {
     let defined = defined(alloc, frame)?;
-    let known_file = KnownFile {
-        frame,
-        pools,
-        defined: &defined,
-    };
     let mut seen = no_marks(alloc, frame)?;
     let mut checked = CheckedLists::none(alloc);
-    let count = frame.size(Table::ClassDefs);
-    for r in 0..count {
+    for r in 0..frame.size(Table::ClassDefs) {
         let row = ClassDef::at(frame, r);
-        if !known_file.holds(&seen, &mut checked, &row)? {
+        let known_file = KnownFile {
+            frame,
+            pools,
+            defined: &defined,
+            seen: &seen,
+        };
+        if !known_file.holds(&mut checked, &row)? {
             return Err(ReadFault::Refused(Refusal {
                 number: Condition::Classes as u8,
                 place: r,

@@ -1,8 +1,7 @@
 //! Which types are classes, and which of them a file defines.
 
-ghost use Rattle.std.specs.Prelude.{◌≡◌, ◌↔◌, ◌<◌, IsTrue, IfOk};
+ghost use Rattle.std.specs.Prelude.{◌↔◌, IsTrue, IfOk};
 ghost use Rattle.dexspec.specs.Names.{IsClass, IsDescriptor};
-ghost use Rattle.dexspec.specs.Classes.{class_idx};
 ghost use Rattle.dexspec.specs.Header.{ClassDefs, TypeIds, table_size};
 ghost use Rattle.dexclass.specs.internal.Rows.{AreDefinedMarks};
 ghost use Rattle.dexclass.specs.internal.Checked.{MarksClass};
@@ -29,8 +28,7 @@ pub(crate) fn is_class(descriptor: &Text<'_>) -> bool
 pub(crate) fn no_marks(alloc: Global, frame: &Frame<'_>) -> Result<Vec<bool>, AllocError>
     ensures { IfOk result (λ marks. AreDefinedMarks frame.now 0 marks.items) }
 {
-    let marks = vec![in alloc; false; frame.size(Table::TypeIds) as usize]?;
-    Ok(marks)
+    vec![in alloc; false; frame.size(Table::TypeIds) as usize]
 }
 
 /// Marks the type of a class row, if there is such a type.
@@ -43,24 +41,16 @@ pub(crate) fn mark(index: u32, marks: &mut Vec<bool>)
     }
 }
 
-// The index of the type of class row `r`: of its fields, only this one is decoded.
-fn class_index(frame: &Frame<'_>, r: u32) -> u32
-    requires { r < table_size frame.now ClassDefs }
-    ensures { class_idx frame.now r ≡ result }
-{
-    let fields = frame.row(Table::ClassDefs, r);
-    u32_at(fields, 0)
-}
-
 /// For each type of a file whether a class row is of it.
 pub(crate) fn defined(alloc: Global, frame: &Frame<'_>) -> Result<Vec<bool>, AllocError>
     ensures { IfOk result (λ marks.
         AreDefinedMarks frame.now (table_size frame.now ClassDefs) marks.items) }
 {
     let mut marks = no_marks(alloc, frame)?;
-    let count = frame.size(Table::ClassDefs);
-    for r in 0..count {
-        mark(class_index(frame, r), &mut marks);
+    for r in 0..frame.size(Table::ClassDefs) {
+        // Of the fields of a row, only this one is decoded.
+        let class_idx = u32_at(frame.row(Table::ClassDefs, r), 0);
+        mark(class_idx, &mut marks);
     }
     Ok(marks)
 }

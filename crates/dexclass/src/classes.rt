@@ -134,11 +134,7 @@ impl<'a> HasParents for Class<'a> {
 fn number_of(index: u32) -> Option<usize>
     ensures { result ≡ number_of index }
 {
-    if index == NO_INDEX {
-        None
-    } else {
-        Some(index as usize)
-    }
+    (index != NO_INDEX).then_some(index as usize)
 }
 
 /// The indices of the `count` interfaces that are listed at an offset.

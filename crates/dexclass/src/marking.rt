@@ -1,39 +1,19 @@
 //! Marks on the symbols that occur in classes.
 
-ghost use Rattle.std.specs.Prelude.{All, map, option_to_list};
+ghost use Rattle.std.specs.Prelude.{All, map};
 ghost use Rattle.dexpool.specs.Uses.{HasMark, AreMarkedToo};
-ghost use Rattle.dexclass.specs.Uses.{type_use, text_use, class_uses};
+ghost use Rattle.dexclass.specs.Uses.{use_of, class_uses};
 
 use crate::classes::Class;
 use dexpool::{Marks, SymbolKind};
 
-// Marks types.
-fn mark_types(types: &[usize], marks: &mut Marks)
-    requires { All (HasMark marks.old) (map type_use types.now) }
-    ensures { AreMarkedToo (map type_use types.now) marks.old marks.new }
+// Marks symbols of a kind.
+fn mark_all(kind: SymbolKind, numbers: &[usize], marks: &mut Marks)
+    requires { All (HasMark marks.old) (map (use_of kind) numbers.now) }
+    ensures { AreMarkedToo (map (use_of kind) numbers.now) marks.old marks.new }
 {
-    for typ in types {
-        marks.mark(SymbolKind::Typ, *typ);
-    }
-}
-
-// Marks a type, if there is one.
-fn mark_optional_type(typ: Option<usize>, marks: &mut Marks)
-    requires { All (HasMark marks.old) (map type_use (option_to_list typ)) }
-    ensures { AreMarkedToo (map type_use (option_to_list typ)) marks.old marks.new }
-{
-    if let Some(typ) = typ {
-        marks.mark(SymbolKind::Typ, typ);
-    }
-}
-
-// Marks a text, if there is one.
-fn mark_optional_text(text: Option<usize>, marks: &mut Marks)
-    requires { All (HasMark marks.old) (map text_use (option_to_list text)) }
-    ensures { AreMarkedToo (map text_use (option_to_list text)) marks.old marks.new }
-{
-    if let Some(text) = text {
-        marks.mark(SymbolKind::Text, text);
+    for number in numbers {
+        marks.mark(kind, *number);
     }
 }
 
@@ -49,9 +29,9 @@ impl<'a> Class<'a> {
         ensures { AreMarkedToo (class_uses self.now) marks.old marks.new }
     {
         marks.mark(SymbolKind::Typ, self.name);
-        mark_optional_type(self.superclass, marks);
-        mark_types(&self.interfaces, marks);
-        mark_optional_text(self.source, marks);
+        mark_all(SymbolKind::Typ, self.superclass.as_slice(), marks);
+        mark_all(SymbolKind::Typ, &self.interfaces, marks);
+        mark_all(SymbolKind::Text, self.source.as_slice(), marks);
         self.members.mark(marks);
     }
 }

@@ -97,12 +97,7 @@ impl<'a> Program<'a> {
     pub fn into_classes(self) -> Vec<Class<'a>>
         ensures { AreClassesOf self.entry result.items }
     {
-        let Program {
-            numbering: _,
-            classes,
-            weight: _,
-        } = self;
-        classes
+        self.into_parts().1
     }
 
     /// The numbering of the program and its classes, moved out of it.

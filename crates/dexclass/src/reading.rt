@@ -1,6 +1,6 @@
 //! Reading a whole file.
 
-ghost use Rattle.std.specs.Prelude.{◌≡◌, ◌+◌, ◌*◌, ◌<◌, All, length, IfOk, IfErr, OnOk};
+ghost use Rattle.std.specs.Prelude.{◌≡◌, ◌+◌, ◌*◌, ◌<◌, All, length, IfOk, IfErr, MatchOption, OnOk};
 ghost use Rattle.dexspec.specs.Header.{ClassDefs, table_size};
 ghost use Rattle.dexspec.specs.Accepted.{HoldBelow};
 ghost use Rattle.dexpool.specs.Pools.{ArePools};
@@ -8,7 +8,7 @@ ghost use Rattle.dexpool.specs.declared.faults.ReadFault.TheVariants.{Refused};
 ghost use Rattle.dexclass.specs.internal.Rows.{HasInterfaceList, interface_indices};
 ghost use Rattle.dexclass.specs.internal.Checked.{IsFaultAtRow};
 ghost use Rattle.dexclass.specs.Programs.{IsReadAs, IsFaultOf};
-ghost use Rattle.dexclass.specs.internal.Reading.{AreBodies, IsWhole, AreHeavyTogether};
+ghost use Rattle.dexclass.specs.internal.Reading.{AreBodies, AreHeavy, IsWhole};
 
 use crate::class_checks::check_classes;
 use crate::classes::{Class, class_of, interfaces_at};
@@ -49,10 +49,7 @@ pub(crate) fn interface_count(frame: &Frame<'_>, off: u32) -> u32
     if off == 0 {
         return 0;
     }
-    match type_list_len(frame, off) {
-        Some(count) => count,
-        None => 0,
-    }
+    type_list_len(frame, off).unwrap_or(0)
 }
 
 /// The weight of a class row with `interfaces` interfaces, without what it declares.
@@ -66,10 +63,7 @@ pub(crate) fn row_weight(interfaces: u32) -> u64
 pub(crate) fn too_heavy(r: u32) -> ReadFault
     ensures { result ≡ Refused (record { number = 23; place = r }) }
 {
-    ReadFault::Refused(Refusal {
-        number: Condition::Weight as u8,
-        place: r,
-    })
+    at_row(ItemFault::Refused(Condition::Weight as u8), r)
 }
 
 /// The fault of what class row `r` declares.
@@ -120,9 +114,8 @@ fn read_row<'a>(
         return Err(too_heavy(r));
     }
     let interfaces = interfaces_at(alloc, frame, row.interfaces_off, count)?;
-    bodies
-        .classes
-        .push(class_of(&row, interfaces, members, body))?;
+    let class = class_of(&row, interfaces, members, body);
+    bodies.classes.push(class)?;
     bodies.weight = weight;
     Ok(())
 }
@@ -150,27 +143,17 @@ fn read_bodies<'a>(
     Ok(bodies)
 }
 
-/// The weight of classes with all symbols of a numbering; `bodies` is that of the classes alone. If it is too much, the
-/// refusal names the last row.
-pub(crate) fn check_weight(
-    frame: &Frame<'_>,
-    numbering: &Numbering<'_>,
-    bodies: u64,
-) -> Result<u64, Refusal>
-    ensures accepted { IfOk result (IsWhole numbering.now bodies) }
-    ensures refused { IfErr result (AreHeavyTogether frame.now numbering.now bodies) }
+/// The weight of classes with all symbols of a numbering, or `None` if it is too much; `bodies` is that of the classes
+/// alone.
+pub(crate) fn whole_weight(numbering: &Numbering<'_>, bodies: u64) -> Option<u64>
+    ensures { MatchOption result (AreHeavy numbering.now bodies) (IsWhole numbering.now bodies) }
 {
-    let weight = numbering
-        .weight()
-        .saturating_add(bodies)
-        .saturating_add(1024);
+    let symbols = numbering.weight().saturating_add(1024);
+    let weight = symbols.saturating_add(bodies);
     if weight > MOST_WEIGHT {
-        return Err(Refusal {
-            number: Condition::Weight as u8,
-            place: frame.size(Table::ClassDefs).saturating_sub(1),
-        });
+        return None;
     }
-    Ok(weight)
+    Some(weight)
 }
 
 /// Reads the class rows of a file of which conditions 1 to 16 hold. Its pools are given up: where the classes mention
@@ -192,6 +175,8 @@ pub(crate) fn read_rows<'a>(
         weight,
     } = read_bodies(alloc, frame, &pools)?;
     let numbering = into_trimmed(alloc, pools.into_numbering(), &mut classes)?;
-    let total = check_weight(frame, &numbering, weight)?;
+    let Some(total) = whole_weight(&numbering, weight) else {
+        return Err(too_heavy(frame.size(Table::ClassDefs).saturating_sub(1)));
+    };
     Ok(Program::weighing(alloc, numbering, classes, total)?)
 }

@@ -25,20 +25,14 @@ fn text_number(remap: &Remap, i: usize) -> usize
 pub(crate) fn optional_type_number(remap: &Remap, i: Option<usize>) -> Option<usize>
     ensures { result ≡ option_map (remapped remap.now.types) i }
 {
-    match i {
-        Some(i) => Some(type_number(remap, i)),
-        None => None,
-    }
+    i.map(|i| type_number(remap, i))
 }
 
 /// What `text_number` returns for a number, if there is one.
 pub(crate) fn optional_text_number(remap: &Remap, i: Option<usize>) -> Option<usize>
     ensures { result ≡ option_map (remapped remap.now.texts) i }
 {
-    match i {
-        Some(i) => Some(text_number(remap, i)),
-        None => None,
-    }
+    i.map(|i| text_number(remap, i))
 }
 
 // Remaps numbers of types.

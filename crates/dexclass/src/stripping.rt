@@ -1,11 +1,10 @@
 //! Programs without debug programs and source texts.
 
-ghost use Rattle.std.specs.Prelude.{◌≡◌, ◌+◌, ◌-◌, ◌*◌, ◌^◌, min, length, List, map, IfOk};
+ghost use Rattle.std.specs.Prelude.{◌≡◌, List, map, IfOk};
 ghost use Rattle.dexspec.specs.Classes.{Definition};
 ghost use Rattle.dexspec.specs.Merging.{Caps, IsGood};
 ghost use Rattle.dexspec.specs.Stripping as stripping;
 ghost use Rattle.dexspec.specs.Stripping.{strip_collection};
-ghost use Rattle.dexmembers.specs.Weighing.{numbered_members_weight};
 ghost use Rattle.dexclass.specs.Laws.{StrippedStaysGood, StripCommutesWithMerge};
 ghost use Rattle.dexclass.specs.internal.Stripped.{stripped_class};
 
@@ -13,7 +12,7 @@ use crate::classes::Class;
 use crate::programs::Program;
 use crate::trimming::into_trimmed;
 use dexlaws::strip::{strip_collection_law, strip_good, strip_merge_law};
-use dexmembers::{Members, members_stripped_law, members_weight_law};
+use dexmembers::{members_stripped_law, members_weight_law};
 use std::alloc::{AllocError, Global};
 
 // Drops the class's source text and its methods' debug programs.
@@ -22,18 +21,9 @@ fn strip_class(class: &mut Class<'_>)
 {
     class.source = None;
     class.members.drop_debug();
-    class.weight = body_weight(&class.interfaces, &class.members);
-}
-
-// What a class with these interfaces and members weighs without the symbols that it names, or 2^64 - 1 where that is
-// more.
-fn body_weight(interfaces: &[usize], members: &Members<'_>) -> u64
-    ensures { result
-        ≡ min (2 ^ 64 - 1) (96 + 2 * length interfaces.now + numbered_members_weight members.now) }
-{
-    2u64.saturating_mul(interfaces.len() as u64)
-        .saturating_add(96)
-        .saturating_add(members.weight())
+    let interfaces = class.interfaces.len() as u64;
+    let row = 2u64.saturating_mul(interfaces).saturating_add(96);
+    class.weight = row.saturating_add(class.members.weight());
 }
 
 // Drops the source texts and the debug programs of the classes.

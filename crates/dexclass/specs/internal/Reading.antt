@@ -1,11 +1,9 @@
 -- The class rows of a file, read one after the other.
-use Rattle.std.specs.Prelude.{◌≡◌, ℕ, ◌+◌, ◌-◌, ◌<◌, ◌≤◌, List, map, All, sum_by}
-use Rattle.dexspec.specs.Header.{ClassDefs, table_size}
+use Rattle.std.specs.Prelude.{◌≡◌, ℕ, ◌+◌, ◌<◌, ◌≤◌, List, map, All, sum_by}
 use Rattle.dexspec.specs.Classes.{Definition}
 use Rattle.dexspec.specs.Mentions.{Mentions}
 use Rattle.dexspec.specs.Accepted.{IsReadable, AreRows}
 use Rattle.dexspec.specs.Weight.{mentions_weight, body_weight, most_weight}
-use Rattle.dexhead.specs.declared.refusal.Refusal.{Refusal}
 use Rattle.dexclass.specs.Numbered.{definition_of}
 use Rattle.dexclass.specs.Uses.{IsKnownClass}
 use Rattle.dexclass.specs.declared.reading.Bodies.{Bodies}
@@ -28,8 +26,6 @@ pub record IsWhole (m : Mentions) (bodies total : ℕ) : Type 0 where
   pub weight_is : total ≡ 1024 + mentions_weight m + bodies
   pub light : total ≤ most_weight
 
--- the refusal reports the last row, where the symbols and the classes weigh too much together
-pub record AreHeavyTogether (b : List ℕ) (m : Mentions) (bodies : ℕ) (r : Refusal) : Type 0 where
-  pub number_is : r.number ≡ 23
-  pub last : r.place ≡ table_size b ClassDefs - 1
-  pub heavy : most_weight < 1024 + mentions_weight m + bodies
+-- the symbols and the classes weigh too much together
+abbrev pub AreHeavy : Mentions → ℕ → Type 0
+AreHeavy m bodies = most_weight < 1024 + mentions_weight m + bodies

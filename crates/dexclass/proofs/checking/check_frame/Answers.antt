@@ -9,7 +9,7 @@ returns-in_err-check_classes-clause-refused c =
     let p = err_from_is_err_and c.from_residual-in_err-check_classes.result c.from_residual-in_err-check_classes.ensures.1 in
     rw (p.1, p.2) (class_fault c.args.frame.now c.in_err-check_classes.field-0.0 c.in_err-check_classes.ensures.refused)
 
-pub returns-in-Ok-clause-accepted : goal.returns-in-Ok-clause-accepted
-returns-in-Ok-clause-accepted c =
-    let light : 1024 + mentions_weight c.in_ok-pools.pools + c.in_ok-bodies.bodies ≤ most_weight = omega (arith, c.in-Ok.ensures.accepted.weight_is, c.in-Ok.ensures.accepted.light, ap mentions_weight c.numbering.ensures) in
+pub returns-in-Some-clause-accepted : goal.returns-in-Some-clause-accepted
+returns-in-Some-clause-accepted c =
+    let light : 1024 + mentions_weight c.in_ok-pools.pools + c.in_ok-bodies.bodies ≤ most_weight = omega (arith, c.in-Some.ensures.weight_is, c.in-Some.ensures.light, ap mentions_weight c.numbering.ensures) in
     subst (IsCheckedAs c.args.frame.now) (sym c.size.ensures) (all_checked c.args.frame.now c.in_ok-pools.pools c.in_ok-pools.ensures.rows c.in_ok-check_classes.ensures.accepted c.in_ok-bodies.bodies c.in_ok-bodies.ensures.accepted light)

@@ -18,7 +18,7 @@ returns-in-Err-clause-refused c = row_fault c.args.frame.now c.args.r c.in-Err.f
 
 -- the weight with this row
 more : (c : After-saturating_add-weight) → c.saturating_add-weight.result ≡ min (2 ^ 64 - 1) (min (2 ^ 64 - 1) (c.args.rows.now.weight + (96 + 2 * length (interface_indices c.args.frame.now (interfaces_off c.args.frame.now c.args.r)))) + c.in-Ok.members)
-more c = omega (arith, c.saturating_add.ensures, c.saturating_add-weight.ensures, row_interfaces c.args.frame.now c.args.r c.at-row.result c.interface_count-interfaces.result c.at-row.ensures c.interface_count-interfaces.ensures, c.row_weight.ensures)
+more c = omega (arith, c.saturating_add-before.ensures, c.saturating_add-weight.ensures, row_interfaces c.args.frame.now c.args.r c.at-row.result c.interface_count-interfaces.result c.at-row.ensures c.interface_count-interfaces.ensures, c.row_weight.ensures)
 
 pub returns-then-weight-gt-MOST_WEIGHT-clause-refused : goal.returns-then-weight-gt-MOST_WEIGHT-clause-refused
 returns-then-weight-gt-MOST_WEIGHT-clause-refused c =

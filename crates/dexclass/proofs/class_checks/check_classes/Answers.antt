@@ -16,7 +16,7 @@ loop-r-preserved c =
     }
 
 pub returns-clause-accepted : goal.returns-clause-accepted
-returns-clause-accepted c = hold_next c.args.frame.now Condition.Classes c.requires.before (λ k lt. c.loop-r.invariant.rows k (omega (arith, lt, c.loop-r-test.false, c.size-count.ensures)))
+returns-clause-accepted c = hold_next c.args.frame.now Condition.Classes c.requires.before (λ k lt. c.loop-r.invariant.rows k (omega (arith, lt, c.loop-r-test.false, c.size-r-end.ensures)))
 
 pub loop-r-init : goal.loop-r-init
 loop-r-init c = record { marks = c.in_ok-seen.ensures; checked = c.none-checked.ensures c.args.frame.now 0; rows = λ k lt. absurd (omega (arith, lt)) }

@@ -1,9 +1,14 @@
-use Rattle.dexclass.proofs.Common.{uint_at}
+use Rattle.dexclass.proofs.Common.{◌≡◌, ◌≢◌, ◌∙◌, ℕ, List, length, Option, Some, None, unwrap_or, uint_at}
+use Rattle.std.specs.Prelude.{MatchOption}
+use Rattle.dexpool.specs.Reading.{HasRoom}
+use Rattle.dexclass.specs.internal.Rows.{HasInterfaceList, interface_indices}
 use Rattle.dexclass.proofs.Interfaces.{interfaces_count, listed_room}
 use Rattle.dexclass.proofs.reading.interface_count.Goals as goal
 
-pub returns-in-Some : goal.returns-in-Some
-returns-in-Some c = interfaces_count c.args.frame.now c.args.off c.in-Some.count c.if-off-eq0.false c.in-Some.ensures
+-- the number of a list that is there
+counted : (b : List ℕ) (off : ℕ) → off ≢ 0 → HasInterfaceList b off → (o : Option ℕ) → MatchOption o ((n : ℕ) → HasRoom b off n → ⊥) (HasRoom b off) → unwrap_or o 0 ≡ length (interface_indices b off)
+counted b off some listed None none = absurd (none (uint_at b off) (listed_room b off some listed))
+counted b off some listed (Some n) room = interfaces_count b off n some room
 
-pub returns-in-None : goal.returns-in-None
-returns-in-None c = absurd (c.in-None.ensures (uint_at c.args.frame.now c.args.off) (listed_room c.args.frame.now c.args.off c.if-off-eq0.false c.requires))
+pub returns : goal.returns
+returns c = c.unwrap_or.ensures ∙ counted c.args.frame.now c.args.off c.if-off-eq0.false c.requires c.type_list_len.result c.type_list_len.ensures

@@ -35,4 +35,4 @@ returns-clause-accepted c =
     let w = c.row_weight-own.result + c.from.result in
     let read = c.in-Ok.ensures.read c.args.r c.at-row.ensures c.requires.pools (c.requires.before Condition.Classes (omega arith) c.args.r c.requires.row) in
     class_more c.args.frame.now c.args.pools.now c.requires.pools c.requires.before c.args.r c.requires.row c.saturating_sub-most.result c.in-Ok.found.0 read.0 w (omega (arith, own (goal.at.returns-clause-accepted c).After-row_weight-own, c.from.ensures, read.1))
-    c.args.bodies.now c.requires.bodies c.if-weight-gt-MOST_WEIGHT.false c.class_of.result (c.class_of.ensures c.args.frame.now c.args.r c.at-row.ensures c.in_ok-interfaces.ensures) (record { classes = c.push.new.self; weight = c.args.bodies.now.weight + w }) c.in_ok-push.ensures.items refl
+    c.args.bodies.now c.requires.bodies c.if-weight-gt-MOST_WEIGHT.false c.class_of-class.result (c.class_of-class.ensures c.args.frame.now c.args.r c.at-row.ensures c.in_ok-interfaces.ensures) (record { classes = c.push.new.self; weight = c.args.bodies.now.weight + w }) c.in_ok-push.ensures.items refl

@@ -1,6 +1,6 @@
 use Rattle.dexclass.proofs.Common.{refl, arith, false≢true}
 use Rattle.dexclass.proofs.CheckedParts.{parts_join}
-use Rattle.dexclass.proofs.class_checks.KnownFile.is_interface_list.Goals as goal
+use Rattle.dexclass.proofs.class_checks.KnownFile.is_class_list.Goals as goal
 
 pub returns-then-saturating_sub-lt-LONG_LIST-clause-list : goal.returns-then-saturating_sub-lt-LONG_LIST-clause-list
 returns-then-saturating_sub-lt-LONG_LIST-clause-list c = λ r marks lists. c.are_interfaces.ensures r marks

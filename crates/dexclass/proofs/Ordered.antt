@@ -46,6 +46,10 @@ module _ (m : Mentions) (cs : List NumberedClass) (named : AreNamed m cs) where
         ∙ ap (λ (t : Text). Some (depth D t)) (sym (name_is m cs named i few));
   }
 
+  -- each name is that of a type
+  pub names_within : All (λ c. c.name < length m.types) cs
+  names_within i d lt = omega (arith, named.names i lt, ap (λ (c : NumberedClass). c.name) (get_or_default cs i d no_class lt))
+
   -- each name has a place there
   pub known_within : (by_name : List (Option ℕ)) → AreDepthsByName m D by_name → All (λ c. c.name < length by_name) cs
   known_within by_name h i d lt = omega (arith, named.names i lt, h.count, ap (λ (c : NumberedClass). c.name) (get_or_default cs i d no_class lt))

@@ -1,6 +1,5 @@
 -- The faults of class rows as they are read.
 use Rattle.dexclass.proofs.Common.{◌≡◌, ℕ, zero, suc, ◌+◌, ◌*◌, ◌-◌, ◌<◌, ◌≤◌, List, [], ◌∷◌, length, map, refl, sym, ap, subst, arith, inl, inr, ClassDefs, table_size, Definition, class_idx, interfaces_off, Mentions, mentions, weight, mentions_weight, most_weight, Condition, number, HasClass, HoldBelow, AreRows, FailsAt, place, rows_checked, IsRefused, AreReadable, ArePools, ItemFault, Refused, Memory, AreHeavyMembers, IsMembersFault, IsMembersFaultWithin}
-use Rattle.dexhead.specs.declared.refusal.Refusal.{Refusal}
 use Rattle.dexpool.specs.declared.faults.ItemFault.TheVariants as items
 use Rattle.dexpool.specs.declared.faults.ReadFault.{ReadFault}
 use Rattle.dexclass.specs.internal.Rows.{IsClassFault, interface_indices}

@@ -4,11 +4,11 @@ ghost use Rattle.std.specs.Prelude.{◌≡◌, ◌<◌, All, length, map, IfOk, 
 ghost use Rattle.dexspec.specs.Mentions.{Mentions};
 ghost use Rattle.dexpool.specs.Numberings.{AreIn};
 ghost use Rattle.dexclass.specs.Parents.{AreNamed};
-ghost use Rattle.dexclass.specs.internal.Ordered.{AreClassDepths, depths_by_name, AreInClassOrder};
+ghost use Rattle.dexclass.specs.internal.Ordered.{depths_by_name, AreInClassOrder};
 
 use crate::arranging::arrange;
 use crate::classes::Class;
-use dexorder::{Hierarchy, class_order};
+use dexorder::class_order;
 use std::alloc::{AllocError, Global};
 
 // The numbers of the classes' names.
@@ -20,22 +20,6 @@ fn names(alloc: Global, classes: &[Class<'_>]) -> Result<Vec<usize>, AllocError>
         names.push(classes[i].name())?;
     }
     Ok(names)
-}
-
-/// The depths of the classes.
-///
-/// Conditions: the classes are those of a numbering that has `types` types, and no two have one name.
-///
-/// Source: "class_defs", a superclass and interfaces come before the class.
-pub(crate) fn depths_of(
-    alloc: Global,
-    classes: &[Class<'_>],
-    types: usize,
-) -> Result<Vec<Option<usize>>, AllocError>
-    requires { (m : Mentions) × (length m.types ≡ types) × AreNamed m classes.now }
-    ensures { IfOk result (λ depths. AreClassDepths classes.now depths.items) }
-{
-    Hierarchy::of(alloc, classes, types)?.depths(alloc)
 }
 
 /// The depths of the classes, from depths at the numbers of their names.

@@ -1,11 +1,9 @@
 //! Parts of a program: some of its classes, over the numbering of just what these mention.
 
-ghost use Rattle.std.specs.Prelude.{◌≡◌, ◌<◌, ◌≤◌, All, length, map, IfOk};
+ghost use Rattle.std.specs.Prelude.{◌≡◌, ◌<◌, ◌≤◌, All, length, IfOk};
 ghost use Rattle.std.specs.List.{flat_map};
 ghost use Rattle.dexspec.specs.Files.{definitions, IsCollectionOf};
 ghost use Rattle.dexspec.specs.Depth.{in_class_order};
-ghost use Rattle.dexclass.specs.Numbered.{definition_of};
-ghost use Rattle.dexclass.specs.internal.Parts.{AreGoodClasses};
 
 use crate::classes::Class;
 use crate::programs::{Program, copied};
@@ -87,27 +85,15 @@ impl<'a> Part<'a> {
         let mut parts = Vec::new(alloc);
         while !classes.is_empty() {
             let others = classes.split_off(size.min(classes.len()))?;
-            parts.push(Part::trimmed(alloc, &numbering, classes)?)?;
+            let trimmed = trim(alloc, &numbering, &mut classes)?;
+            let part = Part {
+                numbering: trimmed,
+                classes,
+            };
+            parts.push(part)?;
             classes = others;
         }
         Ok(parts)
-    }
-
-    // These classes, over the numbering of just what they mention.
-    fn trimmed(
-        alloc: Global,
-        numbering: &Numbering<'a>,
-        mut classes: Vec<Class<'a>>,
-    ) -> Result<Part<'a>, AllocError>
-        requires { AreGoodClasses numbering.now classes.items }
-        ensures { IfOk result (λ part.
-            part ≡ map (definition_of numbering.now) classes.entry.items) }
-    {
-        let trimmed = trim(alloc, numbering, &mut classes)?;
-        Ok(Part {
-            numbering: trimmed,
-            classes,
-        })
     }
 
     /// The program of the classes.

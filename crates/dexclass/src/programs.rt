@@ -14,7 +14,8 @@ ghost use Rattle.dexclass.specs.Uses.{IsKnownClass};
 ghost use Rattle.dexclass.specs.Programs.{AreMergeable, AreClassesOf, IsClassAt};
 
 use crate::classes::Class;
-use crate::ordering::{depths_of, known_depths, put_in_order};
+use crate::ordering::{known_depths, put_in_order};
+use dexorder::Hierarchy;
 use dexpool::{Numbering, SymbolKind};
 use std::alloc::{AllocError, Global};
 use std::marker::Model;
@@ -197,7 +198,7 @@ impl<'a> Program<'a> {
             });
         }
         let types = numbering.count(SymbolKind::Typ);
-        let depths = depths_of(alloc, &classes, types)?;
+        let depths = Hierarchy::of(alloc, &classes, types)?.depths(alloc)?;
         Program::arranged(alloc, numbering, classes, &depths, total)
     }
 

@@ -1,14 +1,10 @@
 -- Classes with their depths, in the order of a canonical file.
 use Rattle.std.specs.Prelude.{◌≡◌, ℕ, List, Option, None, map, slice_index_or}
 use Rattle.dexspec.specs.Mentions.{Mentions, mentions}
-use Rattle.dexspec.specs.Depth.{IsAcyclic, in_class_order}
+use Rattle.dexspec.specs.Depth.{in_class_order}
 use Rattle.dexorder.specs.Definitions.{AreDepthsOf}
 use Rattle.dexclass.specs.Numbered.{NumberedClass, definition_of}
 use Rattle.dexclass.specs.Parents.{AreNamed}
-
--- the depths are those of the classes' definitions, if these are acyclic
-abbrev pub AreClassDepths : List NumberedClass → List (Option ℕ) → Type 0
-AreClassDepths cs depths = (m : Mentions) → AreNamed m cs → IsAcyclic (map (definition_of m) cs) → AreDepthsOf (map (definition_of m) cs) depths
 
 -- for each class the depth at the number of its name
 abbrev pub depths_by_name : List (Option ℕ) → List NumberedClass → List (Option ℕ)

@@ -106,8 +106,8 @@ pub(crate) fn attach<'a>(
 {
     let Parts {
         directory,
-        direct_codes,
-        virtual_codes,
+        direct_codes: direct,
+        virtual_codes: virtuals,
         codes_weight: _,
         static_values,
     } = parts;
@@ -115,25 +115,14 @@ pub(crate) fn attach<'a>(
         table,
         own,
         fields,
-        methods,
-        parameters,
+        methods: sets,
+        parameters: lists,
     } = directory;
     let static_fields = attach_fields(alloc, &declared.static_fields, &fields)?;
     let instance_fields = attach_fields(alloc, &declared.instance_fields, &fields)?;
-    let direct_methods = attach_methods(
-        alloc,
-        &declared.direct_methods,
-        direct_codes,
-        &methods,
-        &parameters,
-    )?;
-    let virtual_methods = attach_methods(
-        alloc,
-        &declared.virtual_methods,
-        virtual_codes,
-        &methods,
-        &parameters,
-    )?;
+    let direct_methods = attach_methods(alloc, &declared.direct_methods, direct, &sets, &lists)?;
+    let listed = &declared.virtual_methods;
+    let virtual_methods = attach_methods(alloc, listed, virtuals, &sets, &lists)?;
     Ok(Contents {
         table,
         set: own,

@@ -1,8 +1,8 @@
 -- Numbers written as their lowest bytes.
-use Rattle.dexval.proofs.Common.{◌≡◌, ℕ, zero, suc, ◌+◌, ◌-◌, ◌*◌, ◌/◌, ◌%◌, ◌^◌, ◌<◌, ◌≤◌, List, ◌∷◌, ◌++◌, length, take, ◌⊎◌, inl, inr, refl, ap, sym, ◌∙◌, subst, arith, ℤ, pos, negsuc, ◌≢◌, bytes_low_first, take-append-le, little_bytes, mul_assoc, mul-suc, mul-mod_right, mul-div_cancel_left, div-add-mod, cases_lt, pow-add, magnitude, value_byte, unsigned_width, signed_width, bits_width, complement, signed_bytes, bits_bytes, pow_256, pow_256_pos, bytes_of}
+use Rattle.dexval.proofs.Common.{◌≡◌, ℕ, zero, suc, ◌+◌, ◌-◌, ◌*◌, ◌/◌, ◌%◌, ◌^◌, ◌<◌, ◌≤◌, List, ◌∷◌, ◌++◌, length, take, ◌⊎◌, inl, inr, refl, ap, sym, ◌∙◌, subst, arith, ℤ, pos, negsuc, w64, of_z, ◌≢◌, bytes_low_first, take-append-le, little_bytes, mul_assoc, mul-suc, mul-mod_right, mul-div_cancel_left, div-add-mod, cases_lt, max, pow-le-pow_right, pow-suc, pow-add, magnitude, value_byte, unsigned_width, signed_width, bits_width, complement, signed_bytes, bits_bytes, pow_256, pow_256_pos, bytes_of}
 use Rattle.byteorder.proofs.Bytes.{take-bytes_low_first}
 use native.Mathlib.Nat.{div-div-eq-div-mul}
-use Rattle.dexspec.proofs.numbers.Widths.{signed_width_is, bits_width_is}
+use Rattle.dexspec.proofs.numbers.Widths.{unsigned_width_is, signed_width_is, bits_width_is}
 
 -- the lowest bytes of a number, as `byteorder` writes them
 low_first : (i n v : ℕ) → bytes_low_first i n v ≡ bytes_of n (v / 256 ^ i)
@@ -99,3 +99,26 @@ bits_shifted code width n v is = ap (λ (p : ℕ). value_byte (n - 1) code ∷ b
 pub signed_spelled : (code : ℕ) (z : ℤ) (width bits : ℕ) → 2 * magnitude z < 256 ^ 8 → width ≡ signed_width z → width ≤ 8 → bits ≡ complement 8 z
     → value_byte (width - 1) code ∷ bytes_of width bits ≡ signed_bytes code z
 signed_spelled code z width bits room width_is few bits_is = ap (λ (b : ℕ). value_byte (width - 1) code ∷ bytes_of width b) bits_is ∙ signed_is code z width room few width_is
+
+-- the bits of a number of the machine
+pub cast_is : (z : ℤ) → of_z w64 z ≡ complement 8 z
+cast_is (pos v) = refl
+cast_is (negsuc v) = refl
+
+-- the bytes of a number, by the place of its highest bit
+pub log_width : (v r : ℕ) → 2 ^ r ≤ max v 1 → max v 1 < 2 * 2 ^ r → v < 256 ^ 8 → r / 8 + 1 ≡ unsigned_width v
+log_width v r low high room =
+    let q = r / 8 in
+    let w = unsigned_width v in
+    let is = unsigned_width_is v room in
+    let below : 256 ^ q ≤ 2 ^ r = subst (λ (n : ℕ). n ≤ 2 ^ r) (pow_256 q) (pow-le-pow_right (omega arith) (omega arith)) in
+    let above : 2 ^ suc r ≤ 256 ^ (q + 1) = subst (λ (n : ℕ). 2 ^ suc r ≤ n) (pow_256 (q + 1)) (pow-le-pow_right (omega arith) (omega arith)) in
+    let twice : 2 ^ suc r ≡ 2 ^ r * 2 = pow-suc 2 r in
+    let most : w ≤ q + 1 = is.least (q + 1) (omega arith) (omega (arith, above, twice, high)) in
+    elim (cases_lt w (q + 1)) [
+      | inl less ↦
+          let within : 256 ^ w ≤ 256 ^ q = pow-le-pow_right (omega arith) (omega arith) in
+          let one : 256 ^ 1 ≤ 256 ^ w = pow-le-pow_right (omega arith) is.some in
+          absurd (omega (arith, within, one, below, low, is.holds))
+      | inr other ↦ omega (arith, most)
+    ]

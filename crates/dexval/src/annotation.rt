@@ -32,10 +32,6 @@ impl Visibility {
     pub(crate) fn number(self) -> u8
         ensures { result ≡ visibility_of self }
     {
-        match self {
-            Visibility::Build => 0,
-            Visibility::Runtime => 1,
-            Visibility::System => 2,
-        }
+        self as u8
     }
 }

@@ -1,40 +1,10 @@
 //! Copies of values and of sets of annotations.
 
 ghost use Rattle.std.specs.Prelude.{◌≡◌, IfOk, map};
-ghost use Rattle.dexval.specs.Code.{value_of, element_of, encoded_of, set_of};
+ghost use Rattle.dexval.specs.Code.{value_of, encoded_of, set_of};
 
 use crate::{Annotation, AnnotationSet, Element, EncodedAnnotation, Value};
 use std::alloc::AllocError;
-
-// The same value.
-#[cycle(copying)]
-fn copied_value(value: &Value) -> Result<Value, AllocError>
-    ensures { IfOk result (λ copy. value_of copy ≡ value_of value.now) }
-{
-    Ok(match value {
-        Value::Byte(number) => Value::Byte(*number),
-        Value::Short(number) => Value::Short(*number),
-        Value::Char(unit) => Value::Char(*unit),
-        Value::Int(number) => Value::Int(*number),
-        Value::Long(number) => Value::Long(*number),
-        Value::Float(bits) => Value::Float(*bits),
-        Value::Double(bits) => Value::Double(*bits),
-        Value::String(number) => Value::String(*number),
-        Value::Typ(number) => Value::Typ(*number),
-        Value::Field(number) => Value::Field(*number),
-        Value::Method(number) => Value::Method(*number),
-        Value::Enum(number) => Value::Enum(*number),
-        Value::Array(values) => {
-            Value::Array(Box::new(*values.allocator(), copied_values(values)?)?)
-        }
-        Value::Annotation(annotation) => {
-            let alloc = *annotation.elements.allocator();
-            Value::Annotation(Box::new(alloc, copied_annotation(annotation)?)?)
-        }
-        Value::Null => Value::Null,
-        Value::Boolean(is) => Value::Boolean(*is),
-    })
-}
 
 /// The same values, as those of static fields, with copies of all contents.
 ///
@@ -45,43 +15,58 @@ pub fn copied_values(values: &Vec<Value>) -> Result<Vec<Value>, AllocError>
 {
     let mut copy = Vec::with_capacity(*values.allocator(), values.len())?;
     for value in values {
-        copy.push(copied_value(value)?)?;
+        copy.push(value.copy()?)?;
     }
     Ok(copy)
-}
-
-// The same elements.
-#[cycle(copying)]
-fn copied_elements(elements: &Vec<Element>) -> Result<Vec<Element>, AllocError>
-    ensures { IfOk result (λ copy. map element_of copy.items ≡ map element_of elements.now.items) }
-{
-    let mut copy = Vec::with_capacity(*elements.allocator(), elements.len())?;
-    for element in elements {
-        copy.push(Element {
-            name: element.name,
-            value: copied_value(&element.value)?,
-        })?;
-    }
-    Ok(copy)
-}
-
-// The same encoded_annotation.
-#[cycle(copying)]
-fn copied_annotation(annotation: &EncodedAnnotation) -> Result<EncodedAnnotation, AllocError>
-    ensures { IfOk result (λ copy. encoded_of copy ≡ encoded_of annotation.now) }
-{
-    Ok(EncodedAnnotation {
-        typ: annotation.typ,
-        elements: copied_elements(&annotation.elements)?,
-    })
 }
 
 impl Value {
     /// The same value, with a copy of its contents.
+    #[cycle(copying)]
     pub fn copy(&self) -> Result<Self, AllocError>
         ensures { IfOk result (λ copy. value_of copy ≡ value_of self.now) }
     {
-        copied_value(self)
+        Ok(match self {
+            Value::Byte(number) => Value::Byte(*number),
+            Value::Short(number) => Value::Short(*number),
+            Value::Char(unit) => Value::Char(*unit),
+            Value::Int(number) => Value::Int(*number),
+            Value::Long(number) => Value::Long(*number),
+            Value::Float(bits) => Value::Float(*bits),
+            Value::Double(bits) => Value::Double(*bits),
+            Value::String(number) => Value::String(*number),
+            Value::Typ(number) => Value::Typ(*number),
+            Value::Field(number) => Value::Field(*number),
+            Value::Method(number) => Value::Method(*number),
+            Value::Enum(number) => Value::Enum(*number),
+            Value::Array(values) => {
+                Value::Array(Box::new(*values.allocator(), copied_values(values)?)?)
+            }
+            Value::Annotation(annotation) => {
+                let alloc = *annotation.elements.allocator();
+                Value::Annotation(Box::new(alloc, annotation.copy()?)?)
+            }
+            Value::Null => Value::Null,
+            Value::Boolean(is) => Value::Boolean(*is),
+        })
+    }
+}
+
+impl EncodedAnnotation {
+    // The same encoded_annotation.
+    #[cycle(copying)]
+    fn copy(&self) -> Result<Self, AllocError>
+        ensures { IfOk result (λ copy. encoded_of copy ≡ encoded_of self.now) }
+    {
+        let typ = self.typ;
+        let mut elements = Vec::with_capacity(*self.elements.allocator(), self.elements.len())?;
+        for element in &self.elements {
+            elements.push(Element {
+                name: element.name,
+                value: element.value.copy()?,
+            })?;
+        }
+        Ok(EncodedAnnotation { typ, elements })
     }
 }
 
@@ -95,7 +80,7 @@ impl AnnotationSet {
         for annotation in &self.annotations {
             annotations.push(Annotation {
                 visibility: annotation.visibility,
-                annotation: copied_annotation(&annotation.annotation)?,
+                annotation: annotation.annotation.copy()?,
             })?;
         }
         Ok(AnnotationSet { annotations })

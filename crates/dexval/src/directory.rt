@@ -55,72 +55,66 @@ pub struct MemberCounts {
     pub parameters: u32,
 }
 
-// The set at a place, with annotations of its own.
-fn copied_set(
-    alloc: Global,
-    table: &SetTable,
-    place: Option<u32>,
-) -> Result<AnnotationSet, AllocError>
-    requires { IsPlaceIn table.now.sets place }
-    ensures { IfOk result (λ set. set_of set ≡ set_at table.now.sets place) }
-{
-    match table.set(place) {
-        Some(set) => set.copy(),
-        None => Ok(AnnotationSet::empty(alloc)),
-    }
-}
+// The number of each member, and an item of it.
+type Members<T> = Vec<(u32, T)>;
 
-// The sets of the list at a place, each with annotations of its own.
-fn copied_list(
-    alloc: Global,
-    table: &SetTable,
-    place: u32,
-) -> Result<Vec<AnnotationSet>, AllocError>
-    requires { IsPlaceIn table.now.lists (Some place) }
-    ensures { IfOk result (λ sets. map set_of sets.items ≡ sets_at table.now (Some place)) }
-{
-    let places = table.list(Some(place));
-    let mut sets = Vec::with_capacity(alloc, places.len())?;
-    for place in places {
-        sets.push(copied_set(alloc, table, *place)?)?;
+impl SetTable {
+    // The set at a place, with annotations of its own.
+    fn copied_set(&self, alloc: Global, place: Option<u32>) -> Result<AnnotationSet, AllocError>
+        requires { IsPlaceIn self.now.sets place }
+        ensures { IfOk result (λ set. set_of set ≡ set_at self.now.sets place) }
+    {
+        match self.set(place) {
+            Some(set) => set.copy(),
+            None => Ok(AnnotationSet::empty(alloc)),
+        }
     }
-    Ok(sets)
-}
 
-// Members with their sets instead of the places.
-fn copied_sets(
-    table: &SetTable,
-    members: &Vec<(u32, u32)>,
-) -> Result<Vec<(u32, AnnotationSet)>, AllocError>
-    requires { All (λ e. IsPlaceIn table.now.sets (Some e.1)) members.now.items }
-    ensures { IfOk result (λ copies. sets_of_members table.now members.now.items
-        ≡ member_sets copies.items) }
-{
-    let alloc = *members.allocator();
-    let mut copies = Vec::with_capacity(alloc, members.len())?;
-    for member in members {
-        let set = copied_set(alloc, table, Some(member.1))?;
-        copies.push((member.0, set))?;
+    // The sets of the list at a place, each with annotations of its own.
+    fn copied_list(&self, alloc: Global, place: u32) -> Result<Vec<AnnotationSet>, AllocError>
+        requires { IsPlaceIn self.now.lists (Some place) }
+        ensures { IfOk result (λ sets. map set_of sets.items ≡ sets_at self.now (Some place)) }
+    {
+        let places = self.list(Some(place));
+        let mut sets = Vec::with_capacity(alloc, places.len())?;
+        for place in places {
+            sets.push(self.copied_set(alloc, *place)?)?;
+        }
+        Ok(sets)
     }
-    Ok(copies)
-}
 
-// Members with their lists of sets instead of the places.
-fn copied_lists(
-    table: &SetTable,
-    members: &Vec<(u32, u32)>,
-) -> Result<Vec<(u32, Vec<AnnotationSet>)>, AllocError>
-    requires { All (λ e. IsPlaceIn table.now.lists (Some e.1)) members.now.items }
-    ensures { IfOk result (λ copies. lists_of_members table.now members.now.items
-        ≡ member_lists copies.items) }
-{
-    let alloc = *members.allocator();
-    let mut copies = Vec::with_capacity(alloc, members.len())?;
-    for member in members {
-        let sets = copied_list(alloc, table, member.1)?;
-        copies.push((member.0, sets))?;
+    // Members with their sets instead of the places.
+    fn copied_sets(&self, members: &Members<u32>) -> Result<Members<AnnotationSet>, AllocError>
+        requires { All (λ e. IsPlaceIn self.now.sets (Some e.1)) members.now.items }
+        ensures { IfOk result (λ copies. sets_of_members self.now members.now.items
+            ≡ member_sets copies.items) }
+    {
+        let alloc = *members.allocator();
+        let mut copies = Vec::with_capacity(alloc, members.len())?;
+        for member in members {
+            let set = self.copied_set(alloc, Some(member.1))?;
+            copies.push((member.0, set))?;
+        }
+        Ok(copies)
     }
-    Ok(copies)
+
+    // Members with their lists of sets instead of the places.
+    fn copied_lists(
+        &self,
+        members: &Members<u32>,
+    ) -> Result<Members<Vec<AnnotationSet>>, AllocError>
+        requires { All (λ e. IsPlaceIn self.now.lists (Some e.1)) members.now.items }
+        ensures { IfOk result (λ copies. lists_of_members self.now members.now.items
+            ≡ member_lists copies.items) }
+    {
+        let alloc = *members.allocator();
+        let mut copies = Vec::with_capacity(alloc, members.len())?;
+        for member in members {
+            let sets = self.copied_list(alloc, member.1)?;
+            copies.push((member.0, sets))?;
+        }
+        Ok(copies)
+    }
 }
 
 impl SharedDirectory {
@@ -132,10 +126,10 @@ impl SharedDirectory {
         ensures { IfOk result (λ directory. directory_of directory ≡ shared_directory_of self.now) }
     {
         Ok(Directory {
-            own: copied_set(*self.fields.allocator(), &self.table, self.own)?,
-            fields: copied_sets(&self.table, &self.fields)?,
-            methods: copied_sets(&self.table, &self.methods)?,
-            parameters: copied_lists(&self.table, &self.parameters)?,
+            own: self.table.copied_set(*self.fields.allocator(), self.own)?,
+            fields: self.table.copied_sets(&self.fields)?,
+            methods: self.table.copied_sets(&self.methods)?,
+            parameters: self.table.copied_lists(&self.parameters)?,
         })
     }
 }

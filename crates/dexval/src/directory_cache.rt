@@ -16,12 +16,11 @@ use dexpool::{ItemFault, Pools};
 use std::alloc::Global;
 use std::collections::HashMap;
 
-/// The file that annotations are read from: its frame, its pools, and the allocator for the items read.
+/// The file that annotations are in: its frame and its pools.
 #[derive(Clone, Copy)]
-pub(crate) struct FileSource<'s, 'f, 'p> {
-    pub(crate) alloc: Global,
-    pub(crate) frame: &'s Frame<'f>,
-    pub(crate) pools: &'s Pools<'p>,
+pub(crate) struct File<'a> {
+    pub(crate) frame: &'a Frame<'a>,
+    pub(crate) pools: &'a Pools<'a>,
 }
 
 /// The items read so far weigh `weight`, or 2^64 - 1 if they weigh more, and may weigh at most `most`.
@@ -48,6 +47,8 @@ impl Budget {
 /// The cache of a directory: the items that were read, and their places by offset.
 #[derive(Drop)]
 pub(crate) struct DirectoryCache {
+    /// The allocator for the items.
+    pub(crate) alloc: Global,
     /// The items.
     pub(crate) table: SetTable,
     /// The places of sets, by offset.
@@ -64,6 +65,7 @@ impl DirectoryCache {
         ensures cache { (b : List ℕ) (m : Mentions) → AreCached b m result }
     {
         DirectoryCache {
+            alloc,
             table: SetTable::empty(alloc),
             sets: HashMap::new(alloc),
             lists: HashMap::new(alloc),
@@ -71,74 +73,73 @@ impl DirectoryCache {
     }
 }
 
-// The place of the set of the annotation_set_item at an offset, which is read if it was not before. Error: there is no
-// set.
-fn cached_set_at(
-    source: &FileSource<'_, '_, '_>,
-    off: u32,
-    cache: &mut DirectoryCache,
-) -> Result<u32, ItemFault>
-    requires held { AreHeld cache.old }
-    requires cache { IsFile source.now → IsCacheOf source.now cache.old }
-    ensures lists { cache.new.lists ≡ cache.old.lists }
-    ensures noted { IfOk result (λ place. IsSetNoted cache.old cache.new (Some place)) }
-    ensures cache { IsFile source.now → OnOk result (IsCacheOf source.now cache.new) }
-    ensures read { IsFile source.now
-        → IfOk result (λ place. IsSetAt source.now.frame.now off source.now.pools.now
-        (set_at cache.new.table.sets (Some place))) }
-    ensures refused { IsFile source.now → IfErr result (IsSetFault source.now.frame.now off) }
-{
-    if let Some(place) = cache.sets.get(&off) {
-        return Ok(*place);
-    }
-    let set = read_set(source.alloc, source.frame, source.pools, off)?;
-    let place = cache.table.add_set(set)?;
-    cache.sets.insert(off, place)?;
-    Ok(place)
+/// The cache of a directory, and the budget that its items count against.
+#[derive(Drop)]
+pub(crate) struct CountedCache {
+    pub(crate) cache: DirectoryCache,
+    pub(crate) budget: Budget,
 }
 
-/// The place of the set of the annotation_set_item at an offset, which is counted. Error: there is no set, or it is too
-/// heavy.
-pub(crate) fn counted_set_at(
-    source: &FileSource<'_, '_, '_>,
-    off: u32,
-    cache: &mut DirectoryCache,
-    budget: &mut Budget,
-) -> Result<u32, ItemFault>
-    requires held { AreHeld cache.old }
-    requires cache { IsFile source.now → IsCacheOf source.now cache.old }
-    ensures lists { cache.new.lists ≡ cache.old.lists }
-    ensures noted { IfOk result (λ place. IsSetNoted cache.old cache.new (Some place)) }
-    ensures cache { IsFile source.now → OnOk result (IsCacheOf source.now cache.new) }
-    ensures read { IsFile source.now
-        → IfOk result (HasCountedSet source.now off budget.old budget.new cache.new) }
-    ensures refused { IsFile source.now → IfErr result (IsFaultWithin
-        (SetAt source.now.frame.now off) set_weight budget.old.weight budget.old.most) }
-{
-    let place = cached_set_at(source, off, cache)?;
-    budget.add(cache.table.set_weight(Some(place)))?;
-    Ok(place)
-}
-
-/// As [`counted_set_at`], or `None`, the empty set, at offset 0.
-pub(crate) fn counted_set_or_empty_at(
-    source: &FileSource<'_, '_, '_>,
-    off: u32,
-    cache: &mut DirectoryCache,
-    budget: &mut Budget,
-) -> Result<Option<u32>, ItemFault>
-    requires held { AreHeld cache.old }
-    requires cache { IsFile source.now → IsCacheOf source.now cache.old }
-    ensures lists { cache.new.lists ≡ cache.old.lists }
-    ensures noted { IfOk result (IsSetNoted cache.old cache.new) }
-    ensures cache { IsFile source.now → OnOk result (IsCacheOf source.now cache.new) }
-    ensures read { IsFile source.now
-        → IfOk result (HasCountedSetOrEmpty source.now off budget.old budget.new cache.new) }
-    ensures refused { IsFile source.now → IfErr result (IsFaultWithin
-        (OrNone SetAt [] source.now.frame.now off) set_weight budget.old.weight budget.old.most) }
-{
-    if off == 0 {
-        return Ok(None);
+impl File<'_> {
+    // The place of the set of the annotation_set_item at an offset, which is read if it was not before. Error: there is
+    // no set.
+    fn cached_set_at(&self, off: u32, cache: &mut DirectoryCache) -> Result<u32, ItemFault>
+        requires held { AreHeld cache.old }
+        requires cache { IsFile self.now → IsCacheOf self.now cache.old }
+        ensures lists { cache.new.lists ≡ cache.old.lists }
+        ensures noted { IfOk result (λ place. IsSetNoted cache.old cache.new (Some place)) }
+        ensures cache { IsFile self.now → OnOk result (IsCacheOf self.now cache.new) }
+        ensures read { IsFile self.now
+            → IfOk result (λ place. IsSetAt self.now.frame.now off self.now.pools.now
+            (set_at cache.new.table.sets (Some place))) }
+        ensures refused { IsFile self.now → IfErr result (IsSetFault self.now.frame.now off) }
+    {
+        if let Some(place) = cache.sets.get(&off) {
+            return Ok(*place);
+        }
+        let set = read_set(cache.alloc, self.frame, self.pools, off)?;
+        let place = cache.table.add_set(set)?;
+        cache.sets.insert(off, place)?;
+        Ok(place)
     }
-    Ok(Some(counted_set_at(source, off, cache, budget)?))
+
+    /// The place of the set of the annotation_set_item at an offset, which is counted. Error: there is no set, or it is
+    /// too heavy.
+    pub(crate) fn counted_set_at(&self, off: u32, kept: &mut CountedCache) -> Result<u32, ItemFault>
+        requires held { AreHeld kept.old.cache }
+        requires cache { IsFile self.now → IsCacheOf self.now kept.old.cache }
+        ensures lists { kept.new.cache.lists ≡ kept.old.cache.lists }
+        ensures noted { IfOk result (λ place. IsSetNoted kept.old.cache kept.new.cache (Some place)) }
+        ensures cache { IsFile self.now → OnOk result (IsCacheOf self.now kept.new.cache) }
+        ensures read { IsFile self.now
+            → IfOk result (HasCountedSet self.now off kept.old.budget kept.new.budget kept.new.cache) }
+        ensures refused { IsFile self.now → IfErr result (IsFaultWithin
+            (SetAt self.now.frame.now off) set_weight kept.old.budget.weight kept.old.budget.most) }
+    {
+        let place = self.cached_set_at(off, &mut kept.cache)?;
+        kept.budget.add(kept.cache.table.set_weight(Some(place)))?;
+        Ok(place)
+    }
+
+    /// As [`Self::counted_set_at`], or `None`, the empty set, at offset 0.
+    pub(crate) fn counted_set_or_empty_at(
+        &self,
+        off: u32,
+        kept: &mut CountedCache,
+    ) -> Result<Option<u32>, ItemFault>
+        requires held { AreHeld kept.old.cache }
+        requires cache { IsFile self.now → IsCacheOf self.now kept.old.cache }
+        ensures lists { kept.new.cache.lists ≡ kept.old.cache.lists }
+        ensures noted { IfOk result (IsSetNoted kept.old.cache kept.new.cache) }
+        ensures cache { IsFile self.now → OnOk result (IsCacheOf self.now kept.new.cache) }
+        ensures read { IsFile self.now → IfOk result
+            (HasCountedSetOrEmpty self.now off kept.old.budget kept.new.budget kept.new.cache) }
+        ensures refused { IsFile self.now → IfErr result (IsFaultWithin
+            (OrNone SetAt [] self.now.frame.now off) set_weight kept.old.budget.weight kept.old.budget.most) }
+    {
+        if off == 0 {
+            return Ok(None);
+        }
+        Ok(Some(self.counted_set_at(off, kept)?))
+    }
 }

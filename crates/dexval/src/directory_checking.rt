@@ -3,16 +3,16 @@
 ghost use Rattle.std.specs.Prelude.{ℕ, List, ◌<◌, ◌+◌, ◌*◌, ◌^◌, ◌≤◌, IfOk, IfErr, OnOk, length};
 ghost use Rattle.dexspec.specs.Mentions.{Mentions};
 ghost use Rattle.dexpool.specs.Pools.{ArePools};
-ghost use Rattle.dexval.specs.Nesting.{HasPools};
 ghost use Rattle.dexval.specs.Items.{IsRefusal};
 ghost use Rattle.dexval.specs.Directories.{NoSetOrEmptyAt, NoRefListAt};
 ghost use Rattle.dexval.specs.Reading.{IsDirectoryFault};
 ghost use Rattle.dexval.specs.CheckedSets.{AreChecked};
 ghost use Rattle.dexval.specs.Results.{HasDirectoryShape, AreMemberCounts};
-ghost use Rattle.dexval.specs.internal.Counting.{IsFaultOf, HasSetOrEmptyOf, HasRefListOf, HasPairsOf};
+ghost use Rattle.dexval.specs.internal.Counting.{IsFile, AreCheckedOf, IsFaultOf, HasSetOrEmptyOf, HasRefListOf, HasPairsOf};
 
+use crate::directory_cache::File;
 use crate::directory_member::{ListOfMember, OfMember, SetOfMember};
-use crate::directory_reading::{PairRange, directory_pairs, list_weight, pair_at};
+use crate::directory_reading::{PairRange, list_weight, pair_at};
 use crate::set_reading::{count_at, uint_at};
 use crate::{MemberCounts, check_set};
 use dexhead::Frame;
@@ -52,109 +52,91 @@ pub struct DirectoryShape {
     pub weight: u64,
 }
 
-/// The weight of the set of the annotation_set_item at an offset, or 2^64 - 1 if it weighs more. At offset 0 there is no
-/// set, and the weight is 0. Error: another offset has no set.
-pub(crate) fn checked_set_at(
-    frame: &Frame<'_>,
-    pools: &Pools<'_>,
-    off: u32,
-    checked: &mut CheckedSets,
-) -> Result<u64, ItemFault>
-    requires { HasPools frame.now pools.now → AreChecked frame.now pools.now checked.old }
-    ensures checked { HasPools frame.now pools.now
-        → OnOk result (AreChecked frame.now pools.now checked.new) }
-    ensures weight { HasPools frame.now pools.now
-        → IfOk result (HasSetOrEmptyOf frame.now off pools.now) }
-    ensures refused { HasPools frame.now pools.now
-        → IfErr result (IsRefusal (NoSetOrEmptyAt frame.now off)) }
-{
-    if off == 0 {
-        return Ok(0);
+impl File<'_> {
+    /// The weight of the set of the annotation_set_item at an offset, or 2^64 - 1 if it weighs more. At offset 0 there
+    /// is no set, and the weight is 0. Error: another offset has no set.
+    pub(crate) fn weigh_set(&self, off: u32, checked: &mut CheckedSets) -> Result<u64, ItemFault>
+        requires { IsFile self.now → AreCheckedOf self.now checked.old }
+        ensures checked { IsFile self.now → OnOk result (AreCheckedOf self.now checked.new) }
+        ensures weight { IsFile self.now
+            → IfOk result (HasSetOrEmptyOf self.now.frame.now off self.now.pools.now) }
+        ensures refused { IsFile self.now
+            → IfErr result (IsRefusal (NoSetOrEmptyAt self.now.frame.now off)) }
+    {
+        if off == 0 {
+            return Ok(0);
+        }
+        if let Some(weight) = checked.sets.get(&off) {
+            return Ok(*weight);
+        }
+        let shape = check_set(self.frame, self.pools, off)?;
+        checked.sets.insert(off, shape.weight)?;
+        Ok(shape.weight)
     }
-    if let Some(weight) = checked.sets.get(&off) {
-        return Ok(*weight);
-    }
-    let shape = check_set(frame, pools, off)?;
-    checked.sets.insert(off, shape.weight)?;
-    Ok(shape.weight)
-}
 
-// The weight of the sets of the annotation_set_ref_list at an offset, with the list, or 2^64 - 1 if they weigh more.
-// Error: there is no list.
-fn listed_weight(
-    frame: &Frame<'_>,
-    pools: &Pools<'_>,
-    off: u32,
-    checked: &mut CheckedSets,
-) -> Result<u64, ItemFault>
-    requires { HasPools frame.now pools.now → AreChecked frame.now pools.now checked.old }
-    ensures checked { HasPools frame.now pools.now
-        → OnOk result (AreChecked frame.now pools.now checked.new) }
-    ensures weight { HasPools frame.now pools.now
-        → IfOk result (HasRefListOf frame.now off pools.now) }
-    ensures refused { HasPools frame.now pools.now
-        → IfErr result (IsRefusal (NoRefListAt frame.now off)) }
-{
-    let count = count_at(frame, off)?;
-    let list = list_weight(count);
-    let mut weight = list;
-    for i in 0..count {
-        let set_off = uint_at(frame, off as usize + 4 + 4 * i as usize);
-        let set = checked_set_at(frame, pools, set_off, checked)?;
-        weight = weight.saturating_add(set);
+    // The weight of the sets of the annotation_set_ref_list at an offset, with the list, or 2^64 - 1 if they weigh more.
+    // Error: there is no list.
+    fn weigh_listed(&self, off: u32, checked: &mut CheckedSets) -> Result<u64, ItemFault>
+        requires { IsFile self.now → AreCheckedOf self.now checked.old }
+        ensures checked { IsFile self.now → OnOk result (AreCheckedOf self.now checked.new) }
+        ensures weight { IsFile self.now
+            → IfOk result (HasRefListOf self.now.frame.now off self.now.pools.now) }
+        ensures refused { IsFile self.now
+            → IfErr result (IsRefusal (NoRefListAt self.now.frame.now off)) }
+    {
+        let count = count_at(self.frame, off)?;
+        let list = list_weight(count);
+        let mut weight = list;
+        for i in 0..count {
+            let set_off = uint_at(self.frame, off as usize + 4 + 4 * i as usize);
+            let set = self.weigh_set(set_off, checked)?;
+            weight = weight.saturating_add(set);
+        }
+        Ok(weight)
     }
-    Ok(weight)
-}
 
-/// As `listed_weight`, but each list is checked once.
-pub(crate) fn checked_list_at(
-    frame: &Frame<'_>,
-    pools: &Pools<'_>,
-    off: u32,
-    checked: &mut CheckedSets,
-) -> Result<u64, ItemFault>
-    requires { HasPools frame.now pools.now → AreChecked frame.now pools.now checked.old }
-    ensures checked { HasPools frame.now pools.now
-        → OnOk result (AreChecked frame.now pools.now checked.new) }
-    ensures weight { HasPools frame.now pools.now
-        → IfOk result (HasRefListOf frame.now off pools.now) }
-    ensures refused { HasPools frame.now pools.now
-        → IfErr result (IsRefusal (NoRefListAt frame.now off)) }
-{
-    if let Some(weight) = checked.lists.get(&off) {
-        return Ok(*weight);
+    /// As `weigh_listed`, but each list is checked once.
+    pub(crate) fn weigh_list(&self, off: u32, checked: &mut CheckedSets) -> Result<u64, ItemFault>
+        requires { IsFile self.now → AreCheckedOf self.now checked.old }
+        ensures checked { IsFile self.now → OnOk result (AreCheckedOf self.now checked.new) }
+        ensures weight { IsFile self.now
+            → IfOk result (HasRefListOf self.now.frame.now off self.now.pools.now) }
+        ensures refused { IsFile self.now
+            → IfErr result (IsRefusal (NoRefListAt self.now.frame.now off)) }
+    {
+        if let Some(weight) = checked.lists.get(&off) {
+            return Ok(*weight);
+        }
+        let weight = self.weigh_listed(off, checked)?;
+        checked.lists.insert(off, weight)?;
+        Ok(weight)
     }
-    let weight = listed_weight(frame, pools, off, checked)?;
-    checked.lists.insert(off, weight)?;
-    Ok(weight)
-}
 
-// The weight of the members of these pairs, or 2^64 - 1 if they weigh more. Error: the pairs are not there.
-fn members_weight<T: OfMember>(
-    frame: &Frame<'_>,
-    pools: &Pools<'_>,
-    pairs: &PairRange,
-    checked: &mut CheckedSets,
-) -> Result<u64, ItemFault>
-    requires within { pairs.now.at + 8 * pairs.now.count ≤ length frame.now }
-    requires fits { pairs.now.at < 2 ^ 40 }
-    requires checked { HasPools frame.now pools.now → AreChecked frame.now pools.now checked.old }
-    ensures checked { HasPools frame.now pools.now
-        → OnOk result (AreChecked frame.now pools.now checked.new) }
-    ensures weight { HasPools frame.now pools.now → IfOk result
-        (HasPairsOf T.is_known T.inside T.encodes T.weighs frame.now pairs.now pools.now) }
-    ensures refused { HasPools frame.now pools.now
-        → IfErr result (IsFaultOf T.encodes frame.now pairs.now) }
-{
-    let mut weight: u64 = 0;
-    let mut least = 0;
-    for i in 0..pairs.count {
-        let (number, off) = pair_at(frame, pairs.at + 8 * i as usize, least, pairs.limit)?;
-        let item = T::checked_at(frame, pools, off, checked)?;
-        least = u64::from(number) + 1;
-        weight = weight.saturating_add(item);
+    // The weight of the members of these pairs, or 2^64 - 1 if they weigh more. Error: the pairs are not there.
+    fn weigh_members<T: OfMember>(
+        &self,
+        pairs: &PairRange,
+        checked: &mut CheckedSets,
+    ) -> Result<u64, ItemFault>
+        requires within { pairs.now.at + 8 * pairs.now.count ≤ length self.now.frame.now }
+        requires fits { pairs.now.at < 2 ^ 40 }
+        requires checked { IsFile self.now → AreCheckedOf self.now checked.old }
+        ensures checked { IsFile self.now → OnOk result (AreCheckedOf self.now checked.new) }
+        ensures weight { IsFile self.now → IfOk result (HasPairsOf T.is_known T.inside T.encodes
+            T.weighs self.now.frame.now pairs.now self.now.pools.now) }
+        ensures refused { IsFile self.now
+            → IfErr result (IsFaultOf T.encodes self.now.frame.now pairs.now) }
+    {
+        let mut weight: u64 = 0;
+        let mut least = 0;
+        for i in 0..pairs.count {
+            let (number, off) = pair_at(self.frame, pairs.at + 8 * i as usize, least, pairs.limit)?;
+            let item = T::checked_at(self, off, checked)?;
+            least = u64::from(number) + 1;
+            weight = weight.saturating_add(item);
+        }
+        Ok(weight)
     }
-    Ok(weight)
 }
 
 /// Checks the annotations_directory_item at an offset, and the sets that it refers to. Its indices refer to the pools,
@@ -182,18 +164,16 @@ pub fn check_directory(
     ensures refused { ArePools frame.now pools.now → IfErr result (IsDirectoryFault frame.now off) }
 {
     pools.numbering().is_numbering();
-    let pairs = directory_pairs(frame, pools, off)?;
-    let own_off = uint_at(frame, off as usize);
-    let own = checked_set_at(frame, pools, own_off, checked)?;
-    let fields = members_weight::<SetOfMember>(frame, pools, &pairs.fields, checked)?;
-    let methods = members_weight::<SetOfMember>(frame, pools, &pairs.methods, checked)?;
-    let parameters = members_weight::<ListOfMember>(frame, pools, &pairs.parameters, checked)?;
+    let file = File { frame, pools };
+    let pairs = file.directory_pairs(off)?;
+    let own = file.weigh_set(uint_at(frame, off as usize), checked)?;
+    let fields = file.weigh_members::<SetOfMember>(&pairs.fields, checked)?;
+    let methods = file.weigh_members::<SetOfMember>(&pairs.methods, checked)?;
+    let parameters = file.weigh_members::<ListOfMember>(&pairs.parameters, checked)?;
     let weight = own
         .saturating_add(fields)
         .saturating_add(methods)
         .saturating_add(parameters);
-    Ok(DirectoryShape {
-        counts: pairs.counts,
-        weight,
-    })
+    let counts = pairs.counts;
+    Ok(DirectoryShape { counts, weight })
 }

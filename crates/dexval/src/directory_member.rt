@@ -6,17 +6,13 @@ ghost use Rattle.dexspec.specs.Annotations.{AnnotationSet as SetMeant, SetAt, Re
 ghost use Rattle.dexspec.specs.Mentions.{Mentions};
 ghost use Rattle.dexspec.specs.Weight.{set_weight, ref_list_weight};
 ghost use Rattle.dexval.specs.Numbered.{NumberedSet, IsKnownSet, set_in};
-ghost use Rattle.dexval.specs.Nesting.{HasPools};
-ghost use Rattle.dexval.specs.CheckedSets.{AreChecked};
 ghost use Rattle.dexval.specs.DirectoryCache.{AreHeld};
 ghost use Rattle.dexval.specs.Tables.{NumberedTable, Extends, IsListed, IsPlaceIn, set_at, sets_at};
-ghost use Rattle.dexval.specs.internal.Counting.{IsFaultAt, HasItemOf, IsFile, IsCacheOf, IsItemNoted, HasCountedItem, IsFaultWithin};
+ghost use Rattle.dexval.specs.internal.Counting.{IsFaultAt, HasItemOf, IsFile, AreCheckedOf, IsCacheOf, IsItemNoted, HasCountedItem, IsFaultWithin};
 
-use crate::directory_cache::{Budget, DirectoryCache, FileSource, counted_set_at};
-use crate::directory_checking::{CheckedSets, checked_list_at, checked_set_at};
-use crate::directory_reading::counted_list_at;
-use dexhead::Frame;
-use dexpool::{ItemFault, Pools};
+use crate::directory_cache::{CountedCache, File};
+use crate::directory_checking::CheckedSets;
+use dexpool::ItemFault;
 
 /// A part of a directory for a member: a set of annotations, or the sets of its parameters.
 pub(crate) trait OfMember {
@@ -44,38 +40,26 @@ pub(crate) trait OfMember {
     ghost weighs: { Meant → ℕ };
 
     /// The weight of the item at an offset other than 0, or 2^64 - 1 if it weighs more. Error: there is no item.
-    fn checked_at(
-        frame: &Frame<'_>,
-        pools: &Pools<'_>,
-        off: u32,
-        checked: &mut CheckedSets,
-    ) -> Result<u64, ItemFault>
+    fn checked_at(file: &File<'_>, off: u32, checked: &mut CheckedSets) -> Result<u64, ItemFault>
         requires other { off ≢ 0 }
-        requires checked { HasPools frame.now pools.now
-            → AreChecked frame.now pools.now checked.old }
-        ensures checked { HasPools frame.now pools.now
-            → OnOk result (AreChecked frame.now pools.now checked.new) }
-        ensures weight { HasPools frame.now pools.now
-            → IfOk result (HasItemOf is_known inside encodes weighs frame.now off pools.now) }
-        ensures refused { HasPools frame.now pools.now
-            → IfErr result (IsFaultAt encodes frame.now off) };
+        requires checked { IsFile file.now → AreCheckedOf file.now checked.old }
+        ensures checked { IsFile file.now → OnOk result (AreCheckedOf file.now checked.new) }
+        ensures weight { IsFile file.now → IfOk result
+            (HasItemOf is_known inside encodes weighs file.now.frame.now off file.now.pools.now) }
+        ensures refused { IsFile file.now
+            → IfErr result (IsFaultAt encodes file.now.frame.now off) };
 
     /// The place in the table of the item at an offset, which is counted. Error: there is no item, or it is too heavy.
-    fn counted_at(
-        source: &FileSource<'_, '_, '_>,
-        off: u32,
-        cache: &mut DirectoryCache,
-        budget: &mut Budget,
-    ) -> Result<u32, ItemFault>
-        requires held { AreHeld cache.old }
-        requires cache { IsFile source.now → IsCacheOf source.now cache.old }
+    fn counted_at(file: &File<'_>, off: u32, kept: &mut CountedCache) -> Result<u32, ItemFault>
+        requires held { AreHeld kept.old.cache }
+        requires cache { IsFile file.now → IsCacheOf file.now kept.old.cache }
         ensures noted { IfOk result
-            (IsItemNoted is_held names_set names_list cache.old cache.new) }
-        ensures cache { IsFile source.now → OnOk result (IsCacheOf source.now cache.new) }
-        ensures read { IsFile source.now → IfOk result (HasCountedItem is_known inside encodes
-            weighs of source.now off budget.old budget.new cache.new) }
-        ensures refused { IsFile source.now → IfErr result (IsFaultWithin
-            (encodes source.now.frame.now off) weighs budget.old.weight budget.old.most) };
+            (IsItemNoted is_held names_set names_list kept.old.cache kept.new.cache) }
+        ensures cache { IsFile file.now → OnOk result (IsCacheOf file.now kept.new.cache) }
+        ensures read { IsFile file.now → IfOk result (HasCountedItem is_known inside encodes
+            weighs of file.now off kept.old.budget kept.new.budget kept.new.cache) }
+        ensures refused { IsFile file.now → IfErr result (IsFaultWithin
+            (encodes file.now.frame.now off) weighs kept.old.budget.weight kept.old.budget.most) };
 
     // At most one item is at an offset.
     ghost one: { (b : List ℕ) (off : ℕ) (x y : Meant) → encodes b off x → encodes b off y → x ≡ y };
@@ -110,22 +94,12 @@ impl OfMember for SetOfMember {
 
     ghost weighs = { set_weight };
 
-    fn checked_at(
-        frame: &Frame<'_>,
-        pools: &Pools<'_>,
-        off: u32,
-        checked: &mut CheckedSets,
-    ) -> Result<u64, ItemFault> {
-        checked_set_at(frame, pools, off, checked)
+    fn checked_at(file: &File<'_>, off: u32, checked: &mut CheckedSets) -> Result<u64, ItemFault> {
+        file.weigh_set(off, checked)
     }
 
-    fn counted_at(
-        source: &FileSource<'_, '_, '_>,
-        off: u32,
-        cache: &mut DirectoryCache,
-        budget: &mut Budget,
-    ) -> Result<u32, ItemFault> {
-        counted_set_at(source, off, cache, budget)
+    fn counted_at(file: &File<'_>, off: u32, kept: &mut CountedCache) -> Result<u32, ItemFault> {
+        file.counted_set_at(off, kept)
     }
 
     ghost one = { one_set };
@@ -159,22 +133,12 @@ impl OfMember for ListOfMember {
 
     ghost weighs = { ref_list_weight };
 
-    fn checked_at(
-        frame: &Frame<'_>,
-        pools: &Pools<'_>,
-        off: u32,
-        checked: &mut CheckedSets,
-    ) -> Result<u64, ItemFault> {
-        checked_list_at(frame, pools, off, checked)
+    fn checked_at(file: &File<'_>, off: u32, checked: &mut CheckedSets) -> Result<u64, ItemFault> {
+        file.weigh_list(off, checked)
     }
 
-    fn counted_at(
-        source: &FileSource<'_, '_, '_>,
-        off: u32,
-        cache: &mut DirectoryCache,
-        budget: &mut Budget,
-    ) -> Result<u32, ItemFault> {
-        counted_list_at(source, off, cache, budget)
+    fn counted_at(file: &File<'_>, off: u32, kept: &mut CountedCache) -> Result<u32, ItemFault> {
+        file.counted_list_at(off, kept)
     }
 
     ghost one = { one_ref_list };

@@ -4,30 +4,22 @@ ghost use Rattle.std.specs.Prelude.{[], ◌^◌, ◌<◌, ◌≡◌, ◌+◌, �
 ghost use Rattle.dexspec.specs.Annotations.{RefListAt, DirectoryAt};
 ghost use Rattle.dexspec.specs.Weight.{ref_list_weight};
 ghost use Rattle.dexpool.specs.Pools.{ArePools};
-ghost use Rattle.dexval.specs.Nesting.{HasPools};
 ghost use Rattle.dexval.specs.Items.{IsRefusal};
 ghost use Rattle.dexval.specs.Directories.{HasPair, HasMembers, directory_weight};
 ghost use Rattle.dexval.specs.DirectoryCache.{AreHeld};
 ghost use Rattle.dexval.specs.Reading.{IsDirectoryFault, IsDirectoryFaultWithin};
 ghost use Rattle.dexval.specs.Shared.{IsTight};
 ghost use Rattle.dexval.specs.Results.{IsReadDirectory, IsReadWithin, AreMemberCounts};
-ghost use Rattle.dexval.specs.internal.Counting.{IsFile, IsCacheOf, AreSetsNoted, IsListNoted, AreAllNoted, HasCountedSets, HasCountedList, HaveCountedPairs, ArePairsOf, IsPairAt, IsFaultWithin, IsPairsFault};
+ghost use Rattle.dexval.specs.internal.Counting.{IsRange, IsFile, IsCacheOf, AreSetsNoted, IsListNoted, AreAllNoted, HasCountedSets, HasCountedList, HaveCountedPairs, ArePairsOf, IsPairAt, IsFaultWithin, IsPairsFault};
 
 use crate::directory::{Directory, MemberCounts, SharedDirectory};
-use crate::directory_cache::{Budget, DirectoryCache, FileSource, counted_set_or_empty_at};
+use crate::directory_cache::{Budget, CountedCache, DirectoryCache, File};
 use crate::directory_member::{ListOfMember, OfMember, SetOfMember};
+use crate::nesting::room;
 use crate::set_reading::{count_at, uint_at};
 use dexhead::{Condition, Frame, u32_at};
 use dexpool::{ItemFault, Pools, SymbolKind};
 use std::alloc::Global;
-
-// The maximum number of members or sets for which capacity is reserved before they are read.
-const MOST_AT_ONCE: usize = 4096;
-
-// The number of items, of `count`, for which capacity is reserved before they are read.
-fn room(count: u32) -> usize {
-    (count as usize).min(MOST_AT_ONCE)
-}
 
 /// The counts of the annotations_directory_item at an offset, or `None` if the counts and all its pairs are not inside
 /// the data at a multiple of 4.
@@ -62,6 +54,12 @@ pub(crate) struct PairRange {
     pub(crate) limit: usize,
 }
 
+fn pair_range(at: usize, count: u32, limit: usize) -> PairRange
+    ensures { IsRange result at count limit }
+{
+    PairRange { at, count, limit }
+}
+
 /// The pairs of a directory, for the members of each kind that it annotates.
 #[derive(Clone, Copy)]
 pub(crate) struct DirectoryPairs {
@@ -71,41 +69,30 @@ pub(crate) struct DirectoryPairs {
     pub(crate) parameters: PairRange,
 }
 
-/// The pairs of the annotations_directory_item at an offset. Error: the counts and all pairs are not inside the data at
-/// a multiple of 4.
-pub(crate) fn directory_pairs(
-    frame: &Frame<'_>,
-    pools: &Pools<'_>,
-    off: u32,
-) -> Result<DirectoryPairs, ItemFault>
-    ensures pairs { IfOk result (ArePairsOf frame.now off pools.now) }
-    ensures refused { IfErr result (IsRefusal (HasMembers frame.now off → ⊥)) }
-{
-    let Some(counts) = member_counts(frame, off) else {
-        return Err(ItemFault::Refused(Condition::Annotations as u8));
-    };
-    let fields = PairRange {
-        at: off as usize + 16,
-        count: counts.fields,
-        limit: pools.len(SymbolKind::Field),
-    };
-    let limit = pools.len(SymbolKind::Method);
-    let methods = PairRange {
-        at: fields.at + 8 * counts.fields as usize,
-        count: counts.methods,
-        limit,
-    };
-    let parameters = PairRange {
-        at: methods.at + 8 * counts.methods as usize,
-        count: counts.parameters,
-        limit,
-    };
-    Ok(DirectoryPairs {
-        counts,
-        fields,
-        methods,
-        parameters,
-    })
+impl File<'_> {
+    /// The pairs of the annotations_directory_item at an offset. Error: the counts and all pairs are not inside the data
+    /// at a multiple of 4.
+    pub(crate) fn directory_pairs(&self, off: u32) -> Result<DirectoryPairs, ItemFault>
+        ensures pairs { IfOk result (ArePairsOf self.now.frame.now off self.now.pools.now) }
+        ensures refused { IfErr result (IsRefusal (HasMembers self.now.frame.now off → ⊥)) }
+    {
+        let Some(counts) = member_counts(self.frame, off) else {
+            return Err(ItemFault::Refused(Condition::Annotations as u8));
+        };
+        let limit = self.pools.len(SymbolKind::Field);
+        let fields = pair_range(off as usize + 16, counts.fields, limit);
+        let limit = self.pools.len(SymbolKind::Method);
+        let at = fields.at + 8 * counts.fields as usize;
+        let methods = pair_range(at, counts.methods, limit);
+        let at = methods.at + 8 * counts.methods as usize;
+        let parameters = pair_range(at, counts.parameters, limit);
+        Ok(DirectoryPairs {
+            counts,
+            fields,
+            methods,
+            parameters,
+        })
+    }
 }
 
 /// The number of a member and the offset of its item, from the pair at an offset. Error: the number is less than
@@ -140,135 +127,121 @@ pub(crate) fn list_weight(count: u32) -> u64
     8 + 4 * u64::from(count)
 }
 
-// The places of the sets of the annotation_set_ref_list at an offset. The list and each set are counted. Error: there is
-// no list, or it is too heavy.
-fn listed_sets_at(
-    source: &FileSource<'_, '_, '_>,
-    off: u32,
-    cache: &mut DirectoryCache,
-    budget: &mut Budget,
-) -> Result<Vec<Option<u32>>, ItemFault>
-    requires held { AreHeld cache.old }
-    requires cache { IsFile source.now → IsCacheOf source.now cache.old }
-    ensures lists { cache.new.lists ≡ cache.old.lists }
-    ensures noted { IfOk result (AreSetsNoted cache.old cache.new) }
-    ensures cache { IsFile source.now → OnOk result (IsCacheOf source.now cache.new) }
-    ensures read { IsFile source.now
-        → IfOk result (HasCountedSets source.now off budget.old budget.new cache.new) }
-    ensures refused { IsFile source.now → IfErr result (IsFaultWithin
-        (RefListAt source.now.frame.now off) ref_list_weight budget.old.weight budget.old.most) }
-{
-    let count = count_at(source.frame, off)?;
-    let list = list_weight(count);
-    budget.add(list)?;
-    let mut places = Vec::with_capacity(source.alloc, room(count))?;
-    for i in 0..count {
-        let set_off = uint_at(source.frame, off as usize + 4 + 4 * i as usize);
-        let place = counted_set_or_empty_at(source, set_off, cache, budget)?;
-        places.push(place)?;
+impl File<'_> {
+    // The places of the sets of the annotation_set_ref_list at an offset. The list and each set are counted. Error: there
+    // is no list, or it is too heavy.
+    fn listed_at(&self, off: u32, kept: &mut CountedCache) -> Result<Vec<Option<u32>>, ItemFault>
+        requires held { AreHeld kept.old.cache }
+        requires cache { IsFile self.now → IsCacheOf self.now kept.old.cache }
+        ensures lists { kept.new.cache.lists ≡ kept.old.cache.lists }
+        ensures noted { IfOk result (AreSetsNoted kept.old.cache kept.new.cache) }
+        ensures cache { IsFile self.now → OnOk result (IsCacheOf self.now kept.new.cache) }
+        ensures read { IsFile self.now
+            → IfOk result (HasCountedSets self.now off kept.old.budget kept.new.budget kept.new.cache) }
+        ensures refused { IsFile self.now → IfErr result (IsFaultWithin
+            (RefListAt self.now.frame.now off) ref_list_weight kept.old.budget.weight kept.old.budget.most) }
+    {
+        let count = count_at(self.frame, off)?;
+        let list = list_weight(count);
+        kept.budget.add(list)?;
+        let mut places = Vec::with_capacity(
+            kept.cache.alloc,
+            room(count, self.frame.bytes().len()),
+        )?;
+        for i in 0..count {
+            let set_off = uint_at(self.frame, off as usize + 4 + 4 * i as usize);
+            let place = self.counted_set_or_empty_at(set_off, kept)?;
+            places.push(place)?;
+        }
+        Ok(places)
     }
-    Ok(places)
-}
 
-/// The place of the annotation_set_ref_list at an offset, which is counted with its sets. Error: there is no list, or it
-/// is too heavy.
-pub(crate) fn counted_list_at(
-    source: &FileSource<'_, '_, '_>,
-    off: u32,
-    cache: &mut DirectoryCache,
-    budget: &mut Budget,
-) -> Result<u32, ItemFault>
-    requires held { AreHeld cache.old }
-    requires cache { IsFile source.now → IsCacheOf source.now cache.old }
-    ensures noted { IfOk result (IsListNoted cache.old cache.new) }
-    ensures cache { IsFile source.now → OnOk result (IsCacheOf source.now cache.new) }
-    ensures read { IsFile source.now
-        → IfOk result (HasCountedList source.now off budget.old budget.new cache.new) }
-    ensures refused { IsFile source.now → IfErr result (IsFaultWithin
-        (RefListAt source.now.frame.now off) ref_list_weight budget.old.weight budget.old.most) }
-{
-    if let Some(place) = cache.lists.get(&off) {
-        let place = *place;
-        budget.add(cache.table.list_weight(Some(place)))?;
-        return Ok(place);
+    /// The place of the annotation_set_ref_list at an offset, which is counted with its sets. Error: there is no list,
+    /// or it is too heavy.
+    pub(crate) fn counted_list_at(
+        &self,
+        off: u32,
+        kept: &mut CountedCache,
+    ) -> Result<u32, ItemFault>
+        requires held { AreHeld kept.old.cache }
+        requires cache { IsFile self.now → IsCacheOf self.now kept.old.cache }
+        ensures noted { IfOk result (IsListNoted kept.old.cache kept.new.cache) }
+        ensures cache { IsFile self.now → OnOk result (IsCacheOf self.now kept.new.cache) }
+        ensures read { IsFile self.now
+            → IfOk result (HasCountedList self.now off kept.old.budget kept.new.budget kept.new.cache) }
+        ensures refused { IsFile self.now → IfErr result (IsFaultWithin
+            (RefListAt self.now.frame.now off) ref_list_weight kept.old.budget.weight kept.old.budget.most) }
+    {
+        if let Some(place) = kept.cache.lists.get(&off) {
+            let place = *place;
+            kept.budget.add(kept.cache.table.list_weight(Some(place)))?;
+            return Ok(place);
+        }
+        let places = self.listed_at(off, kept)?;
+        let place = kept.cache.table.add_list(places)?;
+        kept.cache.lists.insert(off, place)?;
+        Ok(place)
     }
-    let places = listed_sets_at(source, off, cache, budget)?;
-    let place = cache.table.add_list(places)?;
-    cache.lists.insert(off, place)?;
-    Ok(place)
-}
 
-// The members of these pairs, by their numbers, with the place of the item of each, which is counted. Error: the pairs
-// are not there, or their items are too heavy.
-fn members_at<T: OfMember>(
-    source: &FileSource<'_, '_, '_>,
-    pairs: &PairRange,
-    cache: &mut DirectoryCache,
-    budget: &mut Budget,
-) -> Result<Vec<(u32, u32)>, ItemFault>
-    requires within { pairs.now.at + 8 * pairs.now.count ≤ length source.now.frame.now }
-    requires fits { pairs.now.at < 2 ^ 40 }
-    requires held { AreHeld cache.old }
-    requires cache { IsFile source.now → IsCacheOf source.now cache.old }
-    ensures noted { IfOk result
-        (AreAllNoted T.is_held T.names_set T.names_list cache.old cache.new) }
-    ensures cache { IsFile source.now → OnOk result (IsCacheOf source.now cache.new) }
-    ensures read { IsFile source.now → IfOk result (HaveCountedPairs T.is_known T.inside T.encodes
-        T.weighs T.of source.now pairs.now budget.old budget.new cache.new) }
-    ensures refused { IsFile source.now → IfErr result
-        (IsPairsFault T.encodes T.weighs source.now.frame.now pairs.now budget.old) }
-{
-    let mut members = Vec::with_capacity(source.alloc, room(pairs.count))?;
-    let mut least = 0;
-    for i in 0..pairs.count {
-        let (number, off) = pair_at(source.frame, pairs.at + 8 * i as usize, least, pairs.limit)?;
-        let place = T::counted_at(source, off, cache, budget)?;
-        least = u64::from(number) + 1;
-        members.push((number, place))?;
+    // The members of these pairs, by their numbers, with the place of the item of each, which is counted. Error: the
+    // pairs are not there, or their items are too heavy.
+    fn members_at<T: OfMember>(
+        &self,
+        pairs: &PairRange,
+        kept: &mut CountedCache,
+    ) -> Result<Vec<(u32, u32)>, ItemFault>
+        requires within { pairs.now.at + 8 * pairs.now.count ≤ length self.now.frame.now }
+        requires fits { pairs.now.at < 2 ^ 40 }
+        requires held { AreHeld kept.old.cache }
+        requires cache { IsFile self.now → IsCacheOf self.now kept.old.cache }
+        ensures noted { IfOk result
+            (AreAllNoted T.is_held T.names_set T.names_list kept.old.cache kept.new.cache) }
+        ensures cache { IsFile self.now → OnOk result (IsCacheOf self.now kept.new.cache) }
+        ensures read { IsFile self.now → IfOk result (HaveCountedPairs T.is_known T.inside T.encodes
+            T.weighs T.of self.now pairs.now kept.old.budget kept.new.budget kept.new.cache) }
+        ensures refused { IsFile self.now → IfErr result
+            (IsPairsFault T.encodes T.weighs self.now.frame.now pairs.now kept.old.budget) }
+    {
+        let mut members = Vec::with_capacity(
+            kept.cache.alloc,
+            room(pairs.count, self.frame.bytes().len()),
+        )?;
+        let mut least = 0;
+        for i in 0..pairs.count {
+            let (number, off) = pair_at(self.frame, pairs.at + 8 * i as usize, least, pairs.limit)?;
+            let place = T::counted_at(self, off, kept)?;
+            least = u64::from(number) + 1;
+            members.push((number, place))?;
+        }
+        Ok(members)
     }
-    Ok(members)
-}
 
-// The directory of the annotations_directory_item at an offset, if its sets weigh at most `most`. Its sets are counted
-// one by one. Error: there is no directory, or it is too heavy.
-fn directory_at(
-    alloc: Global,
-    frame: &Frame<'_>,
-    pools: &Pools<'_>,
-    off: u32,
-    most: u64,
-) -> Result<SharedDirectory, ItemFault>
-    ensures tight { IfOk result IsTight }
-    ensures read { HasPools frame.now pools.now
-        → IfOk result (IsReadWithin frame.now off pools.now most) }
-    ensures refused { HasPools frame.now pools.now → IfErr result
-        (IsFaultWithin (DirectoryAt frame.now off) directory_weight 0 most) }
-{
-    let mut cache = DirectoryCache::none(alloc);
-    let mut budget = Budget { weight: 0, most };
-    let source = FileSource {
-        alloc,
-        frame,
-        pools,
-    };
-    let pairs = directory_pairs(frame, pools, off)?;
-    let own_off = uint_at(frame, off as usize);
-    let own = counted_set_or_empty_at(&source, own_off, &mut cache, &mut budget)?;
-    let fields = members_at::<SetOfMember>(&source, &pairs.fields, &mut cache, &mut budget)?;
-    let methods = members_at::<SetOfMember>(&source, &pairs.methods, &mut cache, &mut budget)?;
-    let parameters = members_at::<ListOfMember>(
-        &source,
-        &pairs.parameters,
-        &mut cache,
-        &mut budget,
-    )?;
-    Ok(SharedDirectory {
-        table: cache.table,
-        own,
-        fields,
-        methods,
-        parameters,
-    })
+    // The directory of the annotations_directory_item at an offset, if its sets weigh at most `most`. Its sets are
+    // counted one by one. Error: there is no directory, or it is too heavy.
+    fn directory_at(&self, alloc: Global, off: u32, most: u64) -> Result<SharedDirectory, ItemFault>
+        ensures tight { IfOk result IsTight }
+        ensures read { IsFile self.now
+            → IfOk result (IsReadWithin self.now.frame.now off self.now.pools.now most) }
+        ensures refused { IsFile self.now → IfErr result
+            (IsFaultWithin (DirectoryAt self.now.frame.now off) directory_weight 0 most) }
+    {
+        let mut kept = CountedCache {
+            cache: DirectoryCache::none(alloc),
+            budget: Budget { weight: 0, most },
+        };
+        let pairs = self.directory_pairs(off)?;
+        let own = self.counted_set_or_empty_at(uint_at(self.frame, off as usize), &mut kept)?;
+        let fields = self.members_at::<SetOfMember>(&pairs.fields, &mut kept)?;
+        let methods = self.members_at::<SetOfMember>(&pairs.methods, &mut kept)?;
+        let parameters = self.members_at::<ListOfMember>(&pairs.parameters, &mut kept)?;
+        Ok(SharedDirectory {
+            table: kept.cache.table,
+            own,
+            fields,
+            methods,
+            parameters,
+        })
+    }
 }
 
 /// Reads the annotations_directory_item at an offset, and the sets that it refers to. Its indices refer to the pools,
@@ -293,7 +266,7 @@ pub fn read_directory(
     ensures refused { ArePools frame.now pools.now → IfErr result (IsDirectoryFault frame.now off) }
 {
     pools.numbering().is_numbering();
-    let directory = directory_at(alloc, frame, pools, off, u64::MAX)?;
+    let directory = File { frame, pools }.directory_at(alloc, off, u64::MAX)?;
     Ok(directory.unshared()?)
 }
 
@@ -322,5 +295,5 @@ pub fn read_shared_directory_within(
         → IfErr result (IsDirectoryFaultWithin frame.now off most) }
 {
     pools.numbering().is_numbering();
-    directory_at(alloc, frame, pools, off, most)
+    File { frame, pools }.directory_at(alloc, off, most)
 }

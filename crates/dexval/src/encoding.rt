@@ -1,19 +1,15 @@
 //! Values and annotations as bytes.
 
-ghost use Rattle.std.specs.Prelude.{◌≡◌, ◌-◌, ◌<◌, ◌≤◌, ◌∷◌, ⊤, map};
+ghost use Rattle.std.specs.Prelude.{◌-◌, ◌<◌, ◌≤◌, ◌∷◌, ⊤, map};
 ghost use Rattle.dexspec.specs.Bytes.{bytes_of};
 ghost use Rattle.dexspec.specs.Values.{value_byte};
-ghost use Rattle.dexspec.specs.Spellings.{complement, unsigned_bytes, signed_bytes, bits_bytes};
-ghost use Rattle.dexval.specs.Code.{value_of, element_of, encoded_type, encoded_elements, annotation_of};
-ghost use Rattle.dexval.specs.Numbered.{values_of_list, elements_of_list};
-ghost use Rattle.dexval.specs.Spelled.{count_bytes, numbered_bytes, numbered_array_bytes, numbered_values_bytes, numbered_elements_bytes, encoded_annotation_bytes, numbered_annotation_bytes};
+ghost use Rattle.dexspec.specs.Spellings.{unsigned_bytes, signed_bytes, bits_bytes};
+ghost use Rattle.dexval.specs.Code.{value_of, encoded_type, encoded_elements, annotation_of};
+ghost use Rattle.dexval.specs.Numbered.{values_of_list};
+ghost use Rattle.dexval.specs.Spelled.{count_bytes, numbered_bytes, numbered_array_bytes, encoded_annotation_bytes, numbered_annotation_bytes};
 
-use crate::type_codes::{
-    ANNOTATION, ARRAY, BOOLEAN, BYTE, CHAR, DOUBLE, ENUM, FIELD, FLOAT, INT, LONG, METHOD, NULL,
-    SHORT, STRING, TYPE,
-};
-use crate::widths::{bits_width, magnitude, signed_width, unsigned_width};
-use crate::{Annotation, Element, EncodedAnnotation, Value};
+use crate::widths::{bits_width, signed_width, unsigned_width};
+use crate::{Annotation, EncodedAnnotation, Value, type_codes as codes};
 use byteorder::{ByteOrder, LittleEndian};
 use dexhead::{Encode, Output};
 
@@ -38,23 +34,12 @@ fn encode_unsigned<O: Output>(code: u8, value: u64, out: &mut O)
     encode_low(code, unsigned_width(value), value, out);
 }
 
-// The number in two's complement, as 64 bits.
-fn complement(value: i64) -> u64
-    ensures { result ≡ complement 8 value }
-{
-    if value < 0 {
-        u64::MAX - magnitude(value)
-    } else {
-        value as u64
-    }
-}
-
 // Writes a value of a signed kind.
 fn encode_signed<O: Output>(code: u8, value: i64, out: &mut O)
     requires { code < 32 }
     ensures { O.gives (signed_bytes code value) out.old out.new }
 {
-    encode_low(code, signed_width(value), complement(value), out);
+    encode_low(code, signed_width(value), value.cast_unsigned(), out);
 }
 
 // Writes a bit pattern of `width` bytes without the zeros at its low end.
@@ -82,28 +67,28 @@ pub(crate) fn encode_value<O: Output>(value: &Value, out: &mut O)
     ensures { O.gives (numbered_bytes (value_of value.now)) out.old out.new }
 {
     match value {
-        Value::Byte(number) => encode_signed(BYTE, i64::from(*number), out),
-        Value::Short(number) => encode_signed(SHORT, i64::from(*number), out),
-        Value::Char(unit) => encode_unsigned(CHAR, u64::from(*unit), out),
-        Value::Int(number) => encode_signed(INT, i64::from(*number), out),
-        Value::Long(number) => encode_signed(LONG, *number, out),
-        Value::Float(bits) => encode_bits(FLOAT, 4, u64::from(*bits), out),
-        Value::Double(bits) => encode_bits(DOUBLE, 8, *bits, out),
-        Value::String(number) => encode_unsigned(STRING, u64::from(*number), out),
-        Value::Typ(number) => encode_unsigned(TYPE, u64::from(*number), out),
-        Value::Field(number) => encode_unsigned(FIELD, u64::from(*number), out),
-        Value::Method(number) => encode_unsigned(METHOD, u64::from(*number), out),
-        Value::Enum(number) => encode_unsigned(ENUM, u64::from(*number), out),
+        Value::Byte(number) => encode_signed(codes::BYTE, i64::from(*number), out),
+        Value::Short(number) => encode_signed(codes::SHORT, i64::from(*number), out),
+        Value::Char(unit) => encode_unsigned(codes::CHAR, u64::from(*unit), out),
+        Value::Int(number) => encode_signed(codes::INT, i64::from(*number), out),
+        Value::Long(number) => encode_signed(codes::LONG, *number, out),
+        Value::Float(bits) => encode_bits(codes::FLOAT, 4, u64::from(*bits), out),
+        Value::Double(bits) => encode_bits(codes::DOUBLE, 8, *bits, out),
+        Value::String(number) => encode_unsigned(codes::STRING, u64::from(*number), out),
+        Value::Typ(number) => encode_unsigned(codes::TYPE, u64::from(*number), out),
+        Value::Field(number) => encode_unsigned(codes::FIELD, u64::from(*number), out),
+        Value::Method(number) => encode_unsigned(codes::METHOD, u64::from(*number), out),
+        Value::Enum(number) => encode_unsigned(codes::ENUM, u64::from(*number), out),
         Value::Array(values) => {
-            out.byte(ARRAY);
+            out.byte(codes::ARRAY);
             encode_array(values, out);
         }
         Value::Annotation(annotation) => {
-            out.byte(ANNOTATION);
+            out.byte(codes::ANNOTATION);
             encode_annotation(annotation, out);
         }
-        Value::Null => out.byte(NULL),
-        Value::Boolean(is) => out.byte(32 * u8::from(*is) + BOOLEAN),
+        Value::Null => out.byte(codes::NULL),
+        Value::Boolean(is) => out.byte(32 * u8::from(*is) + codes::BOOLEAN),
     }
 }
 
@@ -114,15 +99,6 @@ pub(crate) fn encode_array<O: Output>(values: &[Value], out: &mut O)
         (numbered_array_bytes (values_of_list (map value_of values.now))) out.old out.new }
 {
     encode_count(values.len(), out);
-    encode_values(values, out);
-}
-
-// Writes values in sequence.
-#[cycle(encoding)]
-fn encode_values<O: Output>(values: &[Value], out: &mut O)
-    ensures { O.gives
-        (numbered_values_bytes (values_of_list (map value_of values.now))) out.old out.new }
-{
     for value in values {
         encode_value(value, out);
     }
@@ -136,16 +112,7 @@ fn encode_annotation<O: Output>(annotation: &EncodedAnnotation, out: &mut O)
 {
     out.uleb(annotation.typ);
     encode_count(annotation.elements.len(), out);
-    encode_elements(&annotation.elements, out);
-}
-
-// Writes elements in sequence.
-#[cycle(encoding)]
-fn encode_elements<O: Output>(elements: &[Element], out: &mut O)
-    ensures { O.gives
-        (numbered_elements_bytes (elements_of_list (map element_of elements.now))) out.old out.new }
-{
-    for element in elements {
+    for element in &annotation.elements {
         out.uleb(element.name);
         encode_value(&element.value, out);
     }

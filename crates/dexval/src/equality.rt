@@ -1,17 +1,13 @@
 //! Sets of annotations that are the same are equal by `==`, and have equal hash input.
 
 ghost use Rattle.std.specs.Cmp.{partial_equiv_from_equiv};
-ghost use Rattle.dexval.specs.Equality.{equal_sets, equal_sets_equiv, set_input, equal_sets_agree, IsSetEquality, DependsOnSet, value_input, values_input, elements_input, encoded_input, annotation_input};
+ghost use Rattle.dexval.specs.Equality.{equal_sets, equal_sets_equiv, set_input, equal_sets_agree, IsSetEquality, DependsOnSet, value_input, values_input, encoded_input, annotation_input};
 ghost use Rattle.std.specs.Prelude.{◌≡◌, ◌++◌, fold, map};
 ghost use Rattle.std.specs.Hash as fed;
-ghost use Rattle.dexval.specs.Code.{value_of, encoded_type, encoded_elements, elements_of, set_from};
+ghost use Rattle.dexval.specs.Code.{value_of, encoded_type, encoded_elements, set_from};
 ghost use Rattle.dexval.specs.Numbered.{values_of_list};
 
-use crate::type_codes::{
-    ANNOTATION, ARRAY, BOOLEAN, BYTE, CHAR, DOUBLE, ENUM, FIELD, FLOAT, INT, LONG, METHOD, NULL,
-    SHORT, STRING, TYPE,
-};
-use crate::{Annotation, AnnotationSet, Element, EncodedAnnotation, Value};
+use crate::{Annotation, AnnotationSet, EncodedAnnotation, Value, type_codes as codes};
 use dexpool::Remap;
 use std::hash::{Hash, Hasher};
 
@@ -62,28 +58,28 @@ fn hash_value<H: Hasher>(value: &Value, state: &mut H)
     ensures { state.new ≡ fold H.write state.old (value_input (value_of value.now)) }
 {
     match value {
-        Value::Byte(number) => hash_coded(BYTE, number, state),
-        Value::Short(number) => hash_coded(SHORT, number, state),
-        Value::Char(unit) => hash_coded(CHAR, unit, state),
-        Value::Int(number) => hash_coded(INT, number, state),
-        Value::Long(number) => hash_coded(LONG, number, state),
-        Value::Float(bits) => hash_coded(FLOAT, bits, state),
-        Value::Double(bits) => hash_coded(DOUBLE, bits, state),
-        Value::String(number) => hash_coded(STRING, number, state),
-        Value::Typ(number) => hash_coded(TYPE, number, state),
-        Value::Field(number) => hash_coded(FIELD, number, state),
-        Value::Method(number) => hash_coded(METHOD, number, state),
-        Value::Enum(number) => hash_coded(ENUM, number, state),
+        Value::Byte(number) => hash_coded(codes::BYTE, number, state),
+        Value::Short(number) => hash_coded(codes::SHORT, number, state),
+        Value::Char(unit) => hash_coded(codes::CHAR, unit, state),
+        Value::Int(number) => hash_coded(codes::INT, number, state),
+        Value::Long(number) => hash_coded(codes::LONG, number, state),
+        Value::Float(bits) => hash_coded(codes::FLOAT, bits, state),
+        Value::Double(bits) => hash_coded(codes::DOUBLE, bits, state),
+        Value::String(number) => hash_coded(codes::STRING, number, state),
+        Value::Typ(number) => hash_coded(codes::TYPE, number, state),
+        Value::Field(number) => hash_coded(codes::FIELD, number, state),
+        Value::Method(number) => hash_coded(codes::METHOD, number, state),
+        Value::Enum(number) => hash_coded(codes::ENUM, number, state),
         Value::Array(values) => {
-            hash_coded(ARRAY, &values.len(), state);
+            hash_coded(codes::ARRAY, &values.len(), state);
             hash_values(values, state);
         }
         Value::Annotation(annotation) => {
-            state.write_u8(ANNOTATION);
+            state.write_u8(codes::ANNOTATION);
             hash_encoded(annotation, state);
         }
-        Value::Null => state.write_u8(NULL),
-        Value::Boolean(is) => hash_coded(BOOLEAN, is, state),
+        Value::Null => state.write_u8(codes::NULL),
+        Value::Boolean(is) => hash_coded(codes::BOOLEAN, is, state),
     }
 }
 
@@ -106,15 +102,7 @@ fn hash_encoded<H: Hasher>(annotation: &EncodedAnnotation, state: &mut H)
 {
     annotation.typ.hash(state);
     annotation.elements.len().hash(state);
-    hash_elements(&annotation.elements, state);
-}
-
-// Feeds the names of elements and their values.
-#[cycle(hashing)]
-fn hash_elements<H: Hasher>(elements: &[Element], state: &mut H)
-    ensures { state.new ≡ fold H.write state.old (elements_input (elements_of elements.now)) }
-{
-    for element in elements {
+    for element in &annotation.elements {
         element.name.hash(state);
         hash_value(&element.value, state);
     }

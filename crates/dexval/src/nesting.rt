@@ -22,7 +22,7 @@ const MOST_AT_ONCE: usize = 4096;
 // The number of items, of `count`, for which capacity is reserved before they are read. `left` bytes are left, and each
 // item has at least one byte. So for nested items a false count reserves little, and a true count reserves no more than
 // needed.
-fn room(count: u32, left: usize) -> usize {
+pub(crate) fn room(count: u32, left: usize) -> usize {
     (count as usize).min(left).min(MOST_AT_ONCE)
 }
 
@@ -74,10 +74,8 @@ impl<'r, 'p> ValueReader<'r, 'p> {
             }
             ANNOTATION => {
                 let (annotation, size) = self.annotation_at(at + 1, depth - 1)?;
-                Ok((
-                    Value::Annotation(Box::new(self.alloc, annotation)?),
-                    1 + size,
-                ))
+                let annotation = Box::new(self.alloc, annotation)?;
+                Ok((Value::Annotation(annotation), 1 + size))
             }
             _ => scalar_at(self.bytes, self.pools, at).ok_or(self.refusal()),
         }

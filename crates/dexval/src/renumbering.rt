@@ -17,10 +17,7 @@ pub fn remapped(remap: &Remap, kind: SymbolKind, number: u32) -> u32
     requires { IsMapped remap.now kind number }
     ensures { result ≡ remapped remap.now kind number }
 {
-    match remap.image(kind, number as usize) {
-        Some(image) => image as u32,
-        None => number,
-    }
+    remap.or_same(kind, number as usize) as u32
 }
 
 // Replaces each number of elements by the one that it maps to.

@@ -85,10 +85,8 @@ impl Element {
     pub fn same_mapped(&self, mine: &Remap, other: &Element, theirs: &Remap) -> bool
         ensures { IsTrue result ↔ SameElement mine.now self.now theirs.now other.now }
     {
-        if !eq_ends(SymbolKind::Text, mine, self.name, theirs, other.name) {
-            return false;
-        }
-        self.value.same_mapped(mine, &other.value, theirs)
+        eq_ends(SymbolKind::Text, mine, self.name, theirs, other.name)
+            && self.value.same_mapped(mine, &other.value, theirs)
     }
 }
 

@@ -52,11 +52,7 @@ fn index_of(number: &[u8], kind: SymbolKind, pools: &Pools<'_>) -> Option<u32>
         (HasNumber pools.now kind number.now) }
 {
     let index = unsigned(number) as u32;
-    if (index as usize) < pools.len(kind) {
-        Some(index)
-    } else {
-        None
-    }
+    ((index as usize) < pools.len(kind)).then_some(index)
 }
 
 // The value of a type code and these bytes, or `None` if they are the index of no symbol.

@@ -8,7 +8,7 @@ ghost use Rattle.dexval.specs.Reading.{IsSetFault};
 ghost use Rattle.dexval.specs.Results.{HasSetShape};
 ghost use Rattle.dexval.specs.internal.Found.{MeasuresItem, MeasuresSet};
 
-use crate::nested_checking::annotation_measure;
+use crate::nested_checking::ValueChecker;
 use crate::set_reading::offset_count;
 use crate::value_reading::MOST_DEPTH;
 use dexhead::{Condition, Frame, u32_at};
@@ -39,7 +39,8 @@ fn item_weight(frame: &Frame<'_>, pools: &Pools<'_>, off: u32) -> Option<(u32, u
     if bytes[at] > MOST_VISIBILITY {
         return None;
     }
-    let (typ, annotation) = annotation_measure(bytes, pools, at + 1, MOST_DEPTH)?;
+    let checker = ValueChecker { bytes, pools };
+    let (typ, annotation) = checker.annotation_measure(at + 1, MOST_DEPTH)?;
     Some((typ, annotation.weight))
 }
 

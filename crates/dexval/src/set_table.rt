@@ -93,10 +93,8 @@ impl SetTable {
             × (set_of set.now ≡ set_at self.now.sets place)) }
         ensures none { IfNone result (place ≡ None) }
     {
-        match place {
-            Some(place) => Some(&self.sets[place as usize]),
-            None => None,
-        }
+        let place = place?;
+        Some(&self.sets[place as usize])
     }
 
     /// The places of the sets of the list at a place, or none if there is no place.
@@ -121,10 +119,7 @@ impl SetTable {
         ensures { (m : Mentions)
             → result ≡ min (2 ^ 64 - 1) (set_weight_in m (set_at self.now.sets place)) }
     {
-        match self.set(place) {
-            Some(set) => set.weight(),
-            None => 0,
-        }
+        self.set(place).map_or(0, |set| set.weight())
     }
 
     /// The weight of the list at a place and its sets, each set as often as it occurs, or 2^64 - 1 if they weigh more.
@@ -141,9 +136,8 @@ impl SetTable {
         }
         let mut weight: u64 = 8;
         for place in places {
-            weight = weight
-                .saturating_add(4)
-                .saturating_add(self.set_weight(*place));
+            let set = self.set_weight(*place);
+            weight = weight.saturating_add(4).saturating_add(set);
         }
         weight
     }

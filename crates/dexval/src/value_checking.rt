@@ -7,7 +7,7 @@ ghost use Rattle.dexval.specs.Reading.{IsValueFault, IsStaticsFault};
 ghost use Rattle.dexval.specs.Results.{HasValueShape, HasStaticsShape};
 ghost use Rattle.dexval.specs.internal.Found.{MeasuresEncodedValue, MeasuresStatics};
 
-use crate::nested_checking::{array_measure, value_measure};
+use crate::nested_checking::ValueChecker;
 use crate::value_reading::MOST_DEPTH;
 use dexhead::{Condition, Frame};
 use dexpool::{ItemFault, Pools};
@@ -40,7 +40,8 @@ fn value_shape(frame: &Frame<'_>, pools: &Pools<'_>, off: u32) -> Option<ValueSh
         return None;
     }
     pools.numbering().is_numbering();
-    let value = value_measure(frame.bytes(), pools, off as usize, MOST_DEPTH)?;
+    let bytes = frame.bytes();
+    let value = ValueChecker { bytes, pools }.value_measure(off as usize, MOST_DEPTH)?;
     Some(ValueShape {
         size: value.size as u32,
         weight: value.weight,
@@ -72,7 +73,7 @@ fn statics_shape(frame: &Frame<'_>, pools: &Pools<'_>, off: u32) -> Option<Stati
         return None;
     }
     pools.numbering().is_numbering();
-    let (count, values) = array_measure(bytes, pools, at, MOST_DEPTH)?;
+    let (count, values) = ValueChecker { bytes, pools }.array_measure(at, MOST_DEPTH)?;
     Some(StaticsShape {
         count,
         size: values.size as u32,

@@ -3,24 +3,14 @@
 
 ghost use Rattle.std.specs.Prelude.{map, All, ◌↔◌, IsTrue};
 ghost use Rattle.std.specs.List.{FoldsTo};
-ghost use Rattle.dexval.specs.Code.{value_of, element_of, encoded_of, annotation_of, set_of, elements_of};
+ghost use Rattle.dexval.specs.Code.{value_of, element_of, encoded_of, annotation_of, set_of};
 ghost use Rattle.dexval.specs.Numbered.{values_of_list};
-ghost use Rattle.dexval.specs.Uses.{value_uses, values_uses, element_uses, elements_uses, annotation_uses, set_uses};
+ghost use Rattle.dexval.specs.Uses.{value_uses, values_uses, element_uses, annotation_uses, set_uses};
 ghost use Rattle.dexpool.specs.Uses.{HasMark, AreMarkedToo};
 ghost use Rattle.dexval.specs.Renumbering.{HasPlaces, HavePlaces, SetHasPlaces};
 
 use crate::{Annotation, AnnotationSet, Element, EncodedAnnotation, Value};
 use dexpool::{Fits, Marks, Remap, SymbolKind, Symbols, Visitor, all_fit, mark, visit_all};
-
-// Passes the names of elements, and the symbols that occur in their values, to the visitor.
-#[cycle(visiting)]
-fn visit_elements<V: Visitor>(elements: &[Element], visitor: &mut V)
-    ensures { FoldsTo V.step visitor.old (elements_uses (elements_of elements.now)) visitor.new }
-{
-    for element in elements {
-        element.visit(visitor);
-    }
-}
 
 /// Passes each symbol that occurs in values to the visitor, in order.
 #[cycle(visiting)]
@@ -113,7 +103,9 @@ impl EncodedAnnotation {
         ensures { FoldsTo V.step visitor.old (value_uses (encoded_of self.now)) visitor.new }
     {
         visitor.symbol(SymbolKind::Typ, self.typ);
-        visit_elements(&self.elements, visitor);
+        for element in &self.elements {
+            element.visit(visitor);
+        }
     }
 }
 

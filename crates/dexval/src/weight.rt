@@ -4,12 +4,12 @@ ghost use Rattle.std.specs.Prelude.{◌≡◌, ◌<◌, ◌+◌, ◌-◌, ◌^�
 ghost use Rattle.std.specs.Fn.{FnReturnsAt};
 ghost use Rattle.dexspec.specs.Mentions.{Mentions};
 ghost use Rattle.dexspec.specs.Weight.{value_weight, set_weight};
-ghost use Rattle.dexval.specs.Code.{value_of, encoded_of, set_of, elements_of};
+ghost use Rattle.dexval.specs.Code.{value_of, encoded_of, set_of};
 ghost use Rattle.dexval.specs.Numbered.{value_in, set_in, values_of_list};
-ghost use Rattle.dexval.specs.Spelled.{numbered_weight, numbered_values_weight, numbered_elements_weight, numbered_set_weight};
+ghost use Rattle.dexval.specs.Spelled.{numbered_weight, numbered_values_weight, numbered_set_weight};
 ghost use Rattle.dexval.specs.Writing.{weight_of_statics, weight_of_sets};
 
-use crate::{AnnotationSet, Element, EncodedAnnotation, Value};
+use crate::{AnnotationSet, EncodedAnnotation, Value};
 
 // The weight of a value, or 2^64 - 1 if it weighs more.
 #[cycle(weighing)]
@@ -36,26 +36,17 @@ fn values_weight(values: &[Value]) -> u64
     weight
 }
 
-// The weight of elements together.
-#[cycle(weighing)]
-fn elements_weight(elements: &[Element]) -> u64
-    ensures { result ≡ min (2 ^ 64 - 1) (numbered_elements_weight (elements_of elements.now)) }
-{
-    let mut weight: u64 = 0;
-    for element in elements {
-        weight = weight
-            .saturating_add(5)
-            .saturating_add(value_weight(&element.value));
-    }
-    weight
-}
-
 // The weight of an annotation, whatever its visibility.
 #[cycle(weighing)]
 fn annotation_weight(annotation: &EncodedAnnotation) -> u64
     ensures { result ≡ min (2 ^ 64 - 1) (numbered_weight (encoded_of annotation.now)) }
 {
-    12u64.saturating_add(elements_weight(&annotation.elements))
+    let mut weight: u64 = 12;
+    for element in &annotation.elements {
+        let value = value_weight(&element.value);
+        weight = weight.saturating_add(5).saturating_add(value);
+    }
+    weight
 }
 
 // The weight of items in a list: 8, and for each item its weight and 4 for its offset, or 2^64 - 1 if that is more. An

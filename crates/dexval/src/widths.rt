@@ -10,16 +10,7 @@ pub(crate) fn unsigned_width(value: u64) -> usize
     ensures some { 1 ≤ result }
     ensures few { result ≤ 8 }
 {
-    match value {
-        0..=0xff => 1,
-        0x100..=0xffff => 2,
-        0x1_0000..=0xff_ffff => 3,
-        0x100_0000..=0xffff_ffff => 4,
-        0x1_0000_0000..=0xff_ffff_ffff => 5,
-        0x100_0000_0000..=0xffff_ffff_ffff => 6,
-        0x1_0000_0000_0000..=0xff_ffff_ffff_ffff => 7,
-        _ => 8,
-    }
+    value.max(1).ilog2() as usize / 8 + 1
 }
 
 /// The number, or for a negative number the number with all its bits inverted.
@@ -27,11 +18,7 @@ pub(crate) fn magnitude(value: i64) -> u64
     ensures size { result ≡ magnitude value }
     ensures bound { result < 2 ^ 63 }
 {
-    if value < 0 {
-        value.unsigned_abs() - 1
-    } else {
-        value as u64
-    }
+    value.max(!value) as u64
 }
 
 /// The minimum number of bytes for a number and its sign.

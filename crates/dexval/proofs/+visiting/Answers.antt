@@ -1,17 +1,22 @@
-use Rattle.dexval.proofs.Common.{sym, subst, FoldsTo, element_uses}
+use Rattle.dexval.proofs.Common.{◌+◌, ◌≤◌, List, length, take, flat_map, sym, subst, FoldsTo, element_uses, Element, out-EncodedAnnotation}
 use Rattle.dexval.proofs.Members.{element_is}
 use Rattle.dexval.proofs.Marked.{code_uses, part_uses, uses_of_values, uses_of_elements}
 use Rattle.dexpool.proofs.Visits.{visited_more, visited_all}
 use Rattle.dexval.proofs.+visiting.Goals as goal
 
-pub visiting::visit_elements-loop-element-preserved : goal.visiting::visit_elements-loop-element-preserved
-visiting::visit_elements-loop-element-preserved g t c =
-    visited_more g.V.Visitor.step part_uses c.args.elements.now c.loop-element.element-index c.element-item.result c.element-item.result c.args.visitor.now c.loop-element.visitor c.visit.new.visitor c.loop-element-test.true c.element-item.is c.loop-element.invariant c.visit.ensures
+pub value::EncodedAnnotation::visit-loop-element-preserved : goal.value::EncodedAnnotation::visit-loop-element-preserved
+value::EncodedAnnotation::visit-loop-element-preserved g t c =
+    let same = c.deref-element-items.ensures.value in
+    let i = c.loop-element.element-index in
+    let seen = subst (λ (xs : List Element). FoldsTo g.V.Visitor.step c.symbol.new.self (flat_map part_uses (take i xs)) c.loop-element.visitor) (sym same) c.loop-element.invariant in
+    subst (λ (xs : List Element). FoldsTo g.V.Visitor.step c.symbol.new.self (flat_map part_uses (take (i + 1) xs)) c.visit.new.visitor) same
+    (visited_more g.V.Visitor.step part_uses c.deref-element-items.result.now i c.element-item.result c.element-item.result c.symbol.new.self c.loop-element.visitor c.visit.new.visitor c.loop-element-test.true c.element-item.is seen c.visit.ensures)
 
-pub visiting::visit_elements-returns : goal.visiting::visit_elements-returns
-visiting::visit_elements-returns g t c =
-    subst (λ us. FoldsTo g.V.Visitor.step c.args.visitor.now us c.loop-element.visitor) (sym (uses_of_elements c.args.elements.now))
-    (visited_all g.V.Visitor.step part_uses c.args.elements.now c.loop-element.element-index c.args.visitor.now c.loop-element.visitor c.loop-element-test.false c.loop-element.invariant)
+pub value::EncodedAnnotation::visit-returns : goal.value::EncodedAnnotation::visit-returns
+value::EncodedAnnotation::visit-returns g t c =
+    let items = (out-EncodedAnnotation c.args.self.now).elements.items in
+    let all = visited_all g.V.Visitor.step part_uses items c.loop-element.element-index c.symbol.new.self c.loop-element.visitor (subst (λ (xs : List Element). length xs ≤ c.loop-element.element-index) c.deref-element-items.ensures.value c.loop-element-test.false) c.loop-element.invariant in
+    (c.symbol.new.self, c.symbol.ensures, subst (λ us. FoldsTo g.V.Visitor.step c.symbol.new.self us c.loop-element.visitor) (sym (uses_of_elements items)) all)
 
 pub visiting::visit_values-loop-value-preserved : goal.visiting::visit_values-loop-value-preserved
 visiting::visit_values-loop-value-preserved g t c =

@@ -12,8 +12,9 @@ use Rattle.dexval.specs.declared.directory_cache.Budget.{Budget}
 use Rattle.dexval.specs.declared.directory_cache.DirectoryCache.{DirectoryCache}
 use Rattle.dexval.specs.declared.directory_reading.PairRange.{PairRange}
 use Rattle.dexval.specs.declared.directory_reading.DirectoryPairs.{DirectoryPairs}
-use Rattle.dexval.specs.declared.directory_cache.FileSource.{FileSource}
-use Rattle.dexval.specs.CheckedSets.{IsWeighed}
+use Rattle.dexval.specs.declared.directory_cache.File.{File}
+use Rattle.dexval.specs.declared.directory_checking.CheckedSets.{CheckedSets}
+use Rattle.dexval.specs.CheckedSets.{IsWeighed, AreChecked}
 use Rattle.dexval.specs.Directories.{IsKnownAt, IsSetOrEmptyAt, IsRefListAt, IsIndexBelow, HasPair, ArePairsAt, NoPairsAt, set_weight_in, sets_weight_in}
 use Rattle.dexval.specs.DirectoryCache.{AreCached, IsNoted, IsNamedOf}
 use Rattle.dexval.specs.Items.{IsRefusal}
@@ -24,13 +25,17 @@ use Rattle.dexval.specs.Tables.{NumberedTable, IsPlaceIn, IsListed, set_at, sets
 
 -- ---- the file and the cache
 
--- the source is a file with its own pools, which rise
-abbrev pub IsFile : FileSource → Type 0
-IsFile source = HasPools source.frame.now source.pools.now
+-- the pools are those of the file, and rise
+abbrev pub IsFile : File → Type 0
+IsFile file = HasPools file.frame.now file.pools.now
 
 -- the recorded items are in the file
-abbrev pub IsCacheOf : FileSource → DirectoryCache → Type 0
-IsCacheOf source cache = AreCached source.frame.now source.pools.now cache
+abbrev pub IsCacheOf : File → DirectoryCache → Type 0
+IsCacheOf file cache = AreCached file.frame.now file.pools.now cache
+
+-- the items that were checked are in the file
+abbrev pub AreCheckedOf : File → CheckedSets → Type 0
+AreCheckedOf file checked = AreChecked file.frame.now file.pools.now checked
 
 -- ---- items that are recorded
 
@@ -79,31 +84,31 @@ abbrev pub IsTooHeavy : Budget → ℕ → ItemFault → Type 0
 IsTooHeavy budget weight = IsFaultWithin (λ n. n ≡ weight) (λ n. n) budget.weight budget.most
 
 -- the set at the offset, by its place
-abbrev pub HasCountedSet : FileSource → ℕ → Budget → Budget → DirectoryCache → ℕ → Type 0
-HasCountedSet source off old new cache place = HasCounted (IsSetAt source.frame.now off source.pools.now) (set_weight_in source.pools.now) old new (set_at cache.table.sets (Some place))
+abbrev pub HasCountedSet : File → ℕ → Budget → Budget → DirectoryCache → ℕ → Type 0
+HasCountedSet file off old new cache place = HasCounted (IsSetAt file.frame.now off file.pools.now) (set_weight_in file.pools.now) old new (set_at cache.table.sets (Some place))
 
 -- the set at the offset, by its place, or none at offset 0
-abbrev pub HasCountedSetOrEmpty : FileSource → ℕ → Budget → Budget → DirectoryCache → Option ℕ → Type 0
-HasCountedSetOrEmpty source off old new cache place = HasCounted (IsSetOrEmptyAt source.frame.now off source.pools.now) (set_weight_in source.pools.now) old new (set_at cache.table.sets place)
+abbrev pub HasCountedSetOrEmpty : File → ℕ → Budget → Budget → DirectoryCache → Option ℕ → Type 0
+HasCountedSetOrEmpty file off old new cache place = HasCounted (IsSetOrEmptyAt file.frame.now off file.pools.now) (set_weight_in file.pools.now) old new (set_at cache.table.sets place)
 
 -- the list at the offset, by the places of its sets
-abbrev pub HasCountedSets : FileSource → ℕ → Budget → Budget → DirectoryCache → Vec (Option ℕ) → Type 0
-HasCountedSets source off old new cache places =
-    HasCounted (IsRefListAt source.frame.now off source.pools.now) (sets_weight_in source.pools.now) old new (map (set_at cache.table.sets) places.items)
+abbrev pub HasCountedSets : File → ℕ → Budget → Budget → DirectoryCache → Vec (Option ℕ) → Type 0
+HasCountedSets file off old new cache places =
+    HasCounted (IsRefListAt file.frame.now off file.pools.now) (sets_weight_in file.pools.now) old new (map (set_at cache.table.sets) places.items)
 
 -- the list at the offset, by its place
-abbrev pub HasCountedList : FileSource → ℕ → Budget → Budget → DirectoryCache → ℕ → Type 0
-HasCountedList source off old new cache place = HasCounted (IsRefListAt source.frame.now off source.pools.now) (sets_weight_in source.pools.now) old new (sets_at cache.table (Some place))
+abbrev pub HasCountedList : File → ℕ → Budget → Budget → DirectoryCache → ℕ → Type 0
+HasCountedList file off old new cache place = HasCounted (IsRefListAt file.frame.now off file.pools.now) (sets_weight_in file.pools.now) old new (sets_at cache.table (Some place))
 
 -- the item of a member, by its place
-abbrev pub HasCountedItem : {X Y : Type 0} → (Mentions → X → Type 0) → (Mentions → X → Y) → (List ℕ → ℕ → Y → Type 0) → (Y → ℕ) → (NumberedTable → Option ℕ → X) → FileSource → ℕ → Budget → Budget → DirectoryCache → ℕ → Type 0
-HasCountedItem is_known inside encodes weighs of source off old new cache place =
-    HasCounted (IsKnownAt (is_known source.pools.now) (inside source.pools.now) (encodes source.frame.now off)) (λ x. weighs (inside source.pools.now x)) old new (of cache.table (Some place))
+abbrev pub HasCountedItem : {X Y : Type 0} → (Mentions → X → Type 0) → (Mentions → X → Y) → (List ℕ → ℕ → Y → Type 0) → (Y → ℕ) → (NumberedTable → Option ℕ → X) → File → ℕ → Budget → Budget → DirectoryCache → ℕ → Type 0
+HasCountedItem is_known inside encodes weighs of file off old new cache place =
+    HasCounted (IsKnownAt (is_known file.pools.now) (inside file.pools.now) (encodes file.frame.now off)) (λ x. weighs (inside file.pools.now x)) old new (of cache.table (Some place))
 
 -- the items of the members of these pairs, by their places
-abbrev pub HaveCountedPairs : {X Y : Type 0} → (Mentions → X → Type 0) → (Mentions → X → Y) → (List ℕ → ℕ → Y → Type 0) → (Y → ℕ) → (NumberedTable → Option ℕ → X) → FileSource → PairRange → Budget → Budget → DirectoryCache → Vec (ℕ × ℕ) → Type 0
-HaveCountedPairs is_known inside encodes weighs of source pairs old new cache members =
-    HasCounted (ArePairsAt (is_known source.pools.now) (inside source.pools.now) encodes source.frame.now pairs.at pairs.count pairs.limit) (sum_by (λ e. weighs (inside source.pools.now e.1))) old new
+abbrev pub HaveCountedPairs : {X Y : Type 0} → (Mentions → X → Type 0) → (Mentions → X → Y) → (List ℕ → ℕ → Y → Type 0) → (Y → ℕ) → (NumberedTable → Option ℕ → X) → File → PairRange → Budget → Budget → DirectoryCache → Vec (ℕ × ℕ) → Type 0
+HaveCountedPairs is_known inside encodes weighs of file pairs old new cache members =
+    HasCounted (ArePairsAt (is_known file.pools.now) (inside file.pools.now) encodes file.frame.now pairs.at pairs.count pairs.limit) (sum_by (λ e. weighs (inside file.pools.now e.1))) old new
     (map (λ e. (e.0, of cache.table (Some e.1))) members.items)
 
 -- a fault of such pairs

@@ -1,44 +1,44 @@
-use Rattle.dexval.proofs.Common.{ℕ, List, ◌∷◌, [], ◌++◌, subst, sym, ap, ◌∙◌, rules, length, map, to_z, of_z, w64, uleb128, Value, Element, EncodedAnnotation, out-EncodedAnnotation, value_of, elements_of, encoded_of, encoded_type, encoded_elements, values_of_list, values_count, elements_count, count_bytes, numbered_bytes, numbered_values_bytes, numbered_elements_bytes, numbered_array_bytes, encoded_annotation_bytes}
+use Rattle.dexval.proofs.Common.{ℕ, ◌+◌, ◌≤◌, List, ◌∷◌, [], ◌++◌, take, flat_map, subst, sym, ap, ◌∙◌, rules, length, map, to_z, of_z, w64, uleb128, Value, Element, EncodedAnnotation, out-EncodedAnnotation, value_of, encoded_of, encoded_type, encoded_elements, values_of_list, values_count, elements_count, count_bytes, numbered_bytes, numbered_values_bytes, numbered_elements_bytes, numbered_array_bytes, encoded_annotation_bytes}
 use Rattle.dexval.proofs.Members.{byte_is, short_is, char_is, int_is, long_is, float_is, double_is, string_is, typ_is, field_is, method_is, enum_is, array_is, annotation_is, value_spelled, element_spelled, values_are_spelled, elements_are_spelled, count_values_is, count_elements_is}
 use Rattle.dexhead.proofs.Encoded.{given_more, given_all}
 use Rattle.dexval.proofs.Encodings.{unsigned_given, signed_given, bits_given}
 use Rattle.dexval.proofs.encoding.+encoding.Goals as goal
 
+pub encode_array-loop-value-preserved : goal.encode_array-loop-value-preserved
+encode_array-loop-value-preserved g t c =
+    given_more g.O.Output.gives g.met.O.Output.both value_spelled c.args.values.now c.loop-value.value-index c.value-item.result c.encode_count.new.out c.loop-value.out c.encode_value.new.out c.loop-value-test.true c.loop-value.invariant
+    (subst (λ (v : Value). g.O.Output.gives (value_spelled v) c.loop-value.out c.encode_value.new.out) c.value-item.is c.encode_value.ensures)
+
 pub encode_array-returns : goal.encode_array-returns
 encode_array-returns g t c =
     let xs = values_of_list (map value_of c.args.values.now) in
     let count = subst (λ (n : ℕ). g.O.Output.gives (count_bytes n) c.args.out.now c.encode_count.new.out) (sym (count_values_is c.args.values.now)) c.encode_count.ensures in
-    g.met.O.Output.both (count_bytes (values_count xs)) (numbered_values_bytes xs) c.args.out.now c.encode_count.new.out c.encode_values.new.out count c.encode_values.ensures
+    let each = subst (λ bytes. g.O.Output.gives bytes c.encode_count.new.out c.loop-value.out) (values_are_spelled c.args.values.now)
+    (given_all g.O.Output.gives g.met.O.Output.both value_spelled c.args.values.now c.loop-value.value-index c.encode_count.new.out c.loop-value.out c.loop-value-test.false c.loop-value.invariant) in
+    g.met.O.Output.both (count_bytes (values_count xs)) (numbered_values_bytes xs) c.args.out.now c.encode_count.new.out c.loop-value.out count each
 
-pub encode_values-loop-value-preserved : goal.encode_values-loop-value-preserved
-encode_values-loop-value-preserved g t c =
-    given_more g.O.Output.gives g.met.O.Output.both value_spelled c.args.values.now c.loop-value.value-index c.value-item.result c.args.out.now c.loop-value.out c.encode_value.new.out c.loop-value-test.true c.loop-value.invariant
-    (subst (λ (v : Value). g.O.Output.gives (value_spelled v) c.loop-value.out c.encode_value.new.out) c.value-item.is c.encode_value.ensures)
-
-pub encode_values-returns : goal.encode_values-returns
-encode_values-returns g t c =
-    subst (λ bytes. g.O.Output.gives bytes c.args.out.now c.loop-value.out) (values_are_spelled c.args.values.now)
-    (given_all g.O.Output.gives g.met.O.Output.both value_spelled c.args.values.now c.loop-value.value-index c.args.out.now c.loop-value.out c.loop-value-test.false c.loop-value.invariant)
+pub encode_annotation-loop-element-preserved : goal.encode_annotation-loop-element-preserved
+encode_annotation-loop-element-preserved g t c =
+    let d = c.element-item.result in
+    let same = c.deref-element-items.ensures.value in
+    let i = c.loop-element.element-index in
+    let start = c.encode_count.new.out in
+    let given = subst (λ (xs : List Element). g.O.Output.gives (flat_map element_spelled (take i xs)) start c.loop-element.out) (sym same) c.loop-element.invariant in
+    subst (λ (xs : List Element). g.O.Output.gives (flat_map element_spelled (take (i + 1) xs)) start c.encode_value.new.out) same
+    (given_more g.O.Output.gives g.met.O.Output.both element_spelled c.deref-element-items.result.now i d start c.loop-element.out c.encode_value.new.out c.loop-element-test.true given
+    (subst (λ (e : Element). g.O.Output.gives (element_spelled e) c.loop-element.out c.encode_value.new.out) c.element-item.is (g.met.O.Output.both (uleb128 d.name) (numbered_bytes (value_of d.value)) c.loop-element.out c.uleb-in-loop-element.new.self c.encode_value.new.out c.uleb-in-loop-element.ensures c.encode_value.ensures)))
 
 pub encode_annotation-returns : goal.encode_annotation-returns
 encode_annotation-returns g t c =
     let a = c.args.annotation.now in
+    let items = (out-EncodedAnnotation a).elements.items in
     let es = encoded_elements a in
-    let count = subst (λ (n : ℕ). g.O.Output.gives (count_bytes n) c.uleb.new.self c.encode_count.new.out) (c.len.ensures ∙ sym c.deref.ensures.len ∙ ap (λ l. length l) c.deref.ensures.value ∙ sym (count_elements_is (out-EncodedAnnotation a).elements.items)) c.encode_count.ensures in
-    let each = subst (λ (l : List Element). g.O.Output.gives (numbered_elements_bytes (elements_of l)) c.encode_count.new.out c.encode_elements.new.out) c.deref.ensures.value c.encode_elements.ensures in
-    let members = g.met.O.Output.both (count_bytes (elements_count es)) (numbered_elements_bytes es) c.uleb.new.self c.encode_count.new.out c.encode_elements.new.out count each in
-    g.met.O.Output.both (uleb128 (encoded_type a)) (count_bytes (elements_count es) ++ numbered_elements_bytes es) c.args.out.now c.uleb.new.self c.encode_elements.new.out c.uleb.ensures members
-
-pub encode_elements-loop-element-preserved : goal.encode_elements-loop-element-preserved
-encode_elements-loop-element-preserved g t c =
-    let d = c.element-item.result in
-    given_more g.O.Output.gives g.met.O.Output.both element_spelled c.args.elements.now c.loop-element.element-index d c.args.out.now c.loop-element.out c.encode_value.new.out c.loop-element-test.true c.loop-element.invariant
-    (subst (λ (e : Element). g.O.Output.gives (element_spelled e) c.loop-element.out c.encode_value.new.out) c.element-item.is (g.met.O.Output.both (uleb128 d.name) (numbered_bytes (value_of d.value)) c.loop-element.out c.uleb.new.self c.encode_value.new.out c.uleb.ensures c.encode_value.ensures))
-
-pub encode_elements-returns : goal.encode_elements-returns
-encode_elements-returns g t c =
-    subst (λ bytes. g.O.Output.gives bytes c.args.out.now c.loop-element.out) (elements_are_spelled c.args.elements.now)
-    (given_all g.O.Output.gives g.met.O.Output.both element_spelled c.args.elements.now c.loop-element.element-index c.args.out.now c.loop-element.out c.loop-element-test.false c.loop-element.invariant)
+    let count = subst (λ (n : ℕ). g.O.Output.gives (count_bytes n) c.uleb.new.self c.encode_count.new.out) (c.len.ensures ∙ sym c.deref-element-items.ensures.len ∙ ap (λ l. length l) c.deref-element-items.ensures.value ∙ sym (count_elements_is items)) c.encode_count.ensures in
+    let within = subst (λ (xs : List Element). length xs ≤ c.loop-element.element-index) c.deref-element-items.ensures.value c.loop-element-test.false in
+    let each = subst (λ bytes. g.O.Output.gives bytes c.encode_count.new.out c.loop-element.out) (elements_are_spelled items)
+    (given_all g.O.Output.gives g.met.O.Output.both element_spelled items c.loop-element.element-index c.encode_count.new.out c.loop-element.out within c.loop-element.invariant) in
+    let members = g.met.O.Output.both (count_bytes (elements_count es)) (numbered_elements_bytes es) c.uleb.new.self c.encode_count.new.out c.loop-element.out count each in
+    g.met.O.Output.both (uleb128 (encoded_type a)) (count_bytes (elements_count es) ++ numbered_elements_bytes es) c.args.out.now c.uleb.new.self c.loop-element.out c.uleb.ensures members
 
 pub encode_value-returns-in-Array : goal.encode_value-returns-in-Array
 encode_value-returns-in-Array g t c =

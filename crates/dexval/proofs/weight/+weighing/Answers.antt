@@ -1,14 +1,21 @@
-use Rattle.dexval.proofs.Common.{ℕ, ◌-◌, ◌^◌, min, sum_by, ap, ◌∙◌, arith, take_all, sum_by_more}
+use Rattle.dexval.proofs.Common.{◌≡◌, ℕ, ◌+◌, ◌-◌, ◌^◌, ◌≤◌, List, length, take, min, sum_by, ap, sym, subst, ◌∙◌, arith, take_all, sum_by_more, Element, out-EncodedAnnotation}
 use Rattle.dexval.proofs.Members.{value_weighs, element_weighs, values_weigh, elements_weigh}
 use Rattle.dexval.proofs.weight.+weighing.Goals as goal
 
-pub elements_weight-loop-element-preserved : goal.elements_weight-loop-element-preserved
-elements_weight-loop-element-preserved t c =
-    omega (arith, sum_by_more element_weighs c.args.elements.now c.loop-element.element-index c.element-item.result c.loop-element-test.true, ap element_weighs c.element-item.is, c.loop-element.invariant, c.saturating_add.ensures, c.saturating_add-weight.ensures, c.value_weight.ensures)
+pub annotation_weight-loop-element-preserved : goal.annotation_weight-loop-element-preserved
+annotation_weight-loop-element-preserved t c =
+    let same = c.deref-element-items.ensures.value in
+    let i = c.loop-element.element-index in
+    let seen = c.deref-element-items.result.now in
+    let before = subst (λ (xs : List Element). c.loop-element.weight ≡ min (2 ^ 64 - 1) (12 + sum_by element_weighs (take i xs))) (sym same) c.loop-element.invariant in
+    subst (λ (xs : List Element). c.saturating_add-weight.result ≡ min (2 ^ 64 - 1) (12 + sum_by element_weighs (take (i + 1) xs))) same
+    (omega (arith, sum_by_more element_weighs seen i c.element-item.result c.loop-element-test.true, ap element_weighs c.element-item.is, before, c.saturating_add.ensures, c.saturating_add-weight.ensures, c.value_weight-value.ensures))
 
-pub elements_weight-returns : goal.elements_weight-returns
-elements_weight-returns t c =
-    let xs = c.args.elements.now in c.loop-element.invariant ∙ ap (λ (n : ℕ). min (2 ^ 64 - 1) n) (ap (sum_by element_weighs) (take_all c.loop-element.element-index xs c.loop-element-test.false) ∙ elements_weigh xs)
+pub annotation_weight-returns : goal.annotation_weight-returns
+annotation_weight-returns t c =
+    let xs = (out-EncodedAnnotation c.args.annotation.now).elements.items in
+    let within = subst (λ (l : List Element). length l ≤ c.loop-element.element-index) c.deref-element-items.ensures.value c.loop-element-test.false in
+    c.loop-element.invariant ∙ ap (λ (n : ℕ). min (2 ^ 64 - 1) (12 + n)) (ap (sum_by element_weighs) (take_all c.loop-element.element-index xs within) ∙ elements_weigh xs)
 
 pub values_weight-loop-value-preserved : goal.values_weight-loop-value-preserved
 values_weight-loop-value-preserved t c =

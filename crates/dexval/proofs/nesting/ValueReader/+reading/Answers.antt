@@ -85,10 +85,10 @@ value_at-returns-in_ok-new-in-28-2-clause-read t c = λ p.
 pub value_at-returns-in_err-values-in-28-2-clause-refused : goal.value_at-returns-in_err-values-in-28-2-clause-refused
 value_at-returns-in_err-values-in-28-2-clause-refused t c = λ p. rw (err_is c.from_residual.result c.from_residual.ensures.1) (refuses_so c.args.self.now.number (λ none. no_array c.args.self.now.bytes.now c.args.at c.args.depth c.args.self.now.pools.now p.pools c.in-28-2.is none) c.in_err-values-in-28-2.field-0.0 (c.in_err-values-in-28-2.ensures.refused p))
 
-pub value_at-returns-in_ok-new-in-29-clause-read : goal.value_at-returns-in_ok-new-in-29-clause-read
-value_at-returns-in_ok-new-in-29-clause-read t c = λ p.
+pub value_at-returns-in_ok-annotation-in-29-2-clause-read : goal.value_at-returns-in_ok-annotation-in-29-2-clause-read
+value_at-returns-in_ok-annotation-in-29-2-clause-read t c = λ p.
     let a = c.in_ok-annotation-in-29.annotation in
-    subst (λ (x : NumberedValue). IsReadAt c.args.self.now.bytes.now c.args.at c.args.self.now.pools.now c.args.depth x (1 + c.in_ok-annotation-in-29.size)) (sym (annotation_is c.in_ok-new-in-29.field-0 ∙ ap encoded_of c.in_ok-new-in-29.ensures.ok))
+    subst (λ (x : NumberedValue). IsReadAt c.args.self.now.bytes.now c.args.at c.args.self.now.pools.now c.args.depth x (1 + c.in_ok-annotation-in-29.size)) (sym (annotation_is c.in_ok-annotation-in-29-2.annotation ∙ ap encoded_of c.in_ok-annotation-in-29-2.ensures.ok))
     (annotation_encoded c.args.self.now.bytes.now c.args.at c.args.depth c.args.self.now.pools.now p.pools (encoded_type a) (encoded_elements a) c.in_ok-annotation-in-29.size (omega arith) c.in-29.is c.if-depth-eq0.false (c.in_ok-annotation-in-29.ensures.read p))
 
 pub value_at-returns-in_err-annotation-in-29-clause-refused : goal.value_at-returns-in_err-annotation-in-29-clause-refused

@@ -6,7 +6,7 @@ pub loop-place-preserved : goal.loop-place-preserved
 loop-place-preserved c = λ m.
     let more = sum_by_more (λ p. 4 + set_weight_in m (set_at c.args.self.now.sets p)) c.list-places.result.now c.loop-place.place-index None c.loop-place-test.true in
     let next : c.saturating_add-weight.result ≡ min (2 ^ 64 - 1) (8 + sum_by (λ p. 4 + set_weight_in m (set_at c.args.self.now.sets p)) (take (c.loop-place.place-index + 1) c.list-places.result.now)) =
-    omega (arith, more, c.set_weight.ensures m, c.loop-place.invariant m, c.saturating_add.ensures, c.saturating_add-weight.ensures)
+    omega (arith, more, c.set_weight-set.ensures m, c.loop-place.invariant m, c.saturating_add.ensures, c.saturating_add-weight.ensures)
     in
     next
 

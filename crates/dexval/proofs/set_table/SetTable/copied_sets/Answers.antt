@@ -1,0 +1,12 @@
+use Rattle.dexval.proofs.Common.{ℕ, get_or, sym, set_of, set_at, Some, get_or_default}
+use Rattle.dexval.specs.declared.set.AnnotationSet.{AnnotationSet}
+use Rattle.dexval.proofs.Copies.{copied_more, copied_all}
+use Rattle.dexval.proofs.set_table.SetTable.copied_sets.Goals as goal
+
+pub loop-member-preserved : goal.loop-member-preserved
+loop-member-preserved c =
+    let y : ℕ × ℕ = get_or c.deref-member-items.result.now c.loop-member.member-index (0, 0) in
+    sym (copied_more (λ (e : ℕ × AnnotationSet). (e.0, set_of e.1)) (λ (e : ℕ × ℕ). (e.0, set_at c.args.self.now.sets (Some e.1))) c.args.members.now.items c.deref-member-items.result.now c.deref-member-items.ensures.value c.loop-member.copies.items c.push.new.self.items c.loop-member.member-index (y.0, c.in_ok-set.set) y c.loop-member-test.true (get_or_default c.deref-member-items.result.now c.loop-member.member-index (0, 0) y c.loop-member-test.true) (sym c.loop-member.invariant) c.in_ok-push.ensures.items (λ k. (y.0, c.in_ok-set.ensures k)))
+
+pub returns : goal.returns
+returns c = sym (copied_all (λ (e : ℕ × AnnotationSet). (e.0, set_of e.1)) (λ (e : ℕ × ℕ). (e.0, set_at c.args.self.now.sets (Some e.1))) c.args.members.now.items c.deref-member-items.result.now c.deref-member-items.ensures.value c.loop-member.copies.items c.loop-member.member-index c.loop-member-test.false (sym c.loop-member.invariant))

@@ -1,0 +1,5 @@
+use Rattle.dexval.proofs.Common.{◌≡◌, take, map, set_of, sets_of_members}
+use Rattle.dexval.proofs.set_table.SetTable.copied_sets.Given as goal
+
+abbrev pub invariant-loop-member : goal.invariant-loop-member
+invariant-loop-member l = sets_of_members l.self (take l.member-index l.members.items) ≡ map (λ e. (e.0, set_of e.1)) l.copies.items

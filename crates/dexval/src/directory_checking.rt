@@ -4,16 +4,16 @@ ghost use Rattle.std.specs.Prelude.{ℕ, List, ◌<◌, ◌+◌, ◌*◌, ◌^�
 ghost use Rattle.dexspec.specs.Mentions.{Mentions};
 ghost use Rattle.dexpool.specs.Pools.{ArePools};
 ghost use Rattle.dexval.specs.Items.{IsRefusal};
-ghost use Rattle.dexval.specs.Directories.{NoSetOrEmptyAt, NoRefListAt};
+ghost use Rattle.dexval.specs.Directories.{NoSetOrEmptyAt};
 ghost use Rattle.dexval.specs.Reading.{IsDirectoryFault};
 ghost use Rattle.dexval.specs.CheckedSets.{AreChecked};
 ghost use Rattle.dexval.specs.Results.{HasDirectoryShape, AreMemberCounts};
-ghost use Rattle.dexval.specs.internal.Counting.{IsFile, AreCheckedOf, IsFaultOf, HasSetOrEmptyOf, HasRefListOf, HasPairsOf};
+ghost use Rattle.dexval.specs.internal.Counting.{IsFile, AreCheckedOf, IsFaultOf, HasSetOrEmptyOf, HasPairsOf};
 
 use crate::directory_cache::File;
 use crate::directory_member::{ListOfMember, OfMember, SetOfMember};
-use crate::directory_reading::{PairRange, list_weight, pair_at};
-use crate::set_reading::{count_at, uint_at};
+use crate::directory_reading::PairRange;
+use crate::set_reading::uint_at;
 use crate::{MemberCounts, check_set};
 use dexhead::Frame;
 use dexpool::{ItemFault, Pools};
@@ -74,44 +74,6 @@ impl File<'_> {
         Ok(shape.weight)
     }
 
-    // The weight of the sets of the annotation_set_ref_list at an offset, with the list, or 2^64 - 1 if they weigh more.
-    // Error: there is no list.
-    fn weigh_listed(&self, off: u32, checked: &mut CheckedSets) -> Result<u64, ItemFault>
-        requires { IsFile self.now → AreCheckedOf self.now checked.old }
-        ensures checked { IsFile self.now → OnOk result (AreCheckedOf self.now checked.new) }
-        ensures weight { IsFile self.now
-            → IfOk result (HasRefListOf self.now.frame.now off self.now.pools.now) }
-        ensures refused { IsFile self.now
-            → IfErr result (IsRefusal (NoRefListAt self.now.frame.now off)) }
-    {
-        let count = count_at(self.frame, off)?;
-        let list = list_weight(count);
-        let mut weight = list;
-        for i in 0..count {
-            let set_off = uint_at(self.frame, off as usize + 4 + 4 * i as usize);
-            let set = self.weigh_set(set_off, checked)?;
-            weight = weight.saturating_add(set);
-        }
-        Ok(weight)
-    }
-
-    /// As `weigh_listed`, but each list is checked once.
-    pub(crate) fn weigh_list(&self, off: u32, checked: &mut CheckedSets) -> Result<u64, ItemFault>
-        requires { IsFile self.now → AreCheckedOf self.now checked.old }
-        ensures checked { IsFile self.now → OnOk result (AreCheckedOf self.now checked.new) }
-        ensures weight { IsFile self.now
-            → IfOk result (HasRefListOf self.now.frame.now off self.now.pools.now) }
-        ensures refused { IsFile self.now
-            → IfErr result (IsRefusal (NoRefListAt self.now.frame.now off)) }
-    {
-        if let Some(weight) = checked.lists.get(&off) {
-            return Ok(*weight);
-        }
-        let weight = self.weigh_listed(off, checked)?;
-        checked.lists.insert(off, weight)?;
-        Ok(weight)
-    }
-
     // The weight of the members of these pairs, or 2^64 - 1 if they weigh more. Error: the pairs are not there.
     fn weigh_members<T: OfMember>(
         &self,
@@ -130,7 +92,7 @@ impl File<'_> {
         let mut weight: u64 = 0;
         let mut least = 0;
         for i in 0..pairs.count {
-            let (number, off) = pair_at(self.frame, pairs.at + 8 * i as usize, least, pairs.limit)?;
+            let (number, off) = pairs.pair(self.frame, i, least)?;
             let item = T::checked_at(self, off, checked)?;
             least = u64::from(number) + 1;
             weight = weight.saturating_add(item);

@@ -1,17 +1,21 @@
 //! The parts of directories: sets for fields and methods, and lists of sets for parameters.
 
-ghost use Rattle.std.specs.Prelude.{ℕ, List, ◌≡◌, ◌≢◌, Option, Some, All, IfOk, IfErr, OnOk, map};
+ghost use Rattle.std.specs.Prelude.{ℕ, List, ◌≡◌, ◌≢◌, ◌<◌, ◌+◌, ◌*◌, Option, Some, All, IfOk, IfErr, OnOk, map};
 ghost use Rattle.dexspec.proofs.determined.OneClass.{one_set, one_ref_list};
 ghost use Rattle.dexspec.specs.Annotations.{AnnotationSet as SetMeant, SetAt, RefListAt};
 ghost use Rattle.dexspec.specs.Mentions.{Mentions};
 ghost use Rattle.dexspec.specs.Weight.{set_weight, ref_list_weight};
 ghost use Rattle.dexval.specs.Numbered.{NumberedSet, IsKnownSet, set_in};
 ghost use Rattle.dexval.specs.DirectoryCache.{AreHeld};
+ghost use Rattle.dexval.specs.Directories.{NoRefListAt};
+ghost use Rattle.dexval.specs.Items.{IsRefusal};
 ghost use Rattle.dexval.specs.Tables.{NumberedTable, Extends, IsListed, IsPlaceIn, set_at, sets_at};
-ghost use Rattle.dexval.specs.internal.Counting.{IsFaultAt, HasItemOf, IsFile, AreCheckedOf, IsCacheOf, IsItemNoted, HasCountedItem, IsFaultWithin};
+ghost use Rattle.dexval.specs.internal.Counting.{IsFaultAt, HasItemOf, HasRefListOf, IsFile, AreCheckedOf, IsCacheOf, IsItemNoted, AreSetsNoted, HasCountedItem, HasCountedSets, IsFaultWithin};
 
 use crate::directory_cache::{CountedCache, File};
 use crate::directory_checking::CheckedSets;
+use crate::nesting::room;
+use crate::set_reading::{count_at, uint_at};
 use dexpool::ItemFault;
 
 /// A part of a directory for a member: a set of annotations, or the sets of its parameters.
@@ -109,6 +113,66 @@ impl OfMember for SetOfMember {
     ghost naming_stays = { λ t u place i extended named. named };
 }
 
+// The weight of a list of `count` sets, without the sets.
+fn list_weight(count: u32) -> u64
+    ensures none { count ≡ 0 → result ≡ 0 }
+    ensures some { 0 < count → result ≡ 8 + 4 * count }
+{
+    if count == 0 {
+        return 0;
+    }
+    8 + 4 * u64::from(count)
+}
+
+impl File<'_> {
+    // The weight of the sets of the annotation_set_ref_list at an offset, with the list, or 2^64 - 1 if they weigh more.
+    // Error: there is no list.
+    fn weigh_listed(&self, off: u32, checked: &mut CheckedSets) -> Result<u64, ItemFault>
+        requires { IsFile self.now → AreCheckedOf self.now checked.old }
+        ensures checked { IsFile self.now → OnOk result (AreCheckedOf self.now checked.new) }
+        ensures weight { IsFile self.now
+            → IfOk result (HasRefListOf self.now.frame.now off self.now.pools.now) }
+        ensures refused { IsFile self.now
+            → IfErr result (IsRefusal (NoRefListAt self.now.frame.now off)) }
+    {
+        let count = count_at(self.frame, off)?;
+        let list = list_weight(count);
+        let mut weight = list;
+        for i in 0..count {
+            let set_off = uint_at(self.frame, off as usize + 4 + 4 * i as usize);
+            let set = self.weigh_set(set_off, checked)?;
+            weight = weight.saturating_add(set);
+        }
+        Ok(weight)
+    }
+
+    // The places of the sets of the annotation_set_ref_list at an offset. The list and each set are counted. Error: there
+    // is no list, or it is too heavy.
+    fn listed_at(&self, off: u32, kept: &mut CountedCache) -> Result<Vec<Option<u32>>, ItemFault>
+        requires held { AreHeld kept.old.cache }
+        requires cache { IsFile self.now → IsCacheOf self.now kept.old.cache }
+        ensures lists { kept.new.cache.lists ≡ kept.old.cache.lists }
+        ensures noted { IfOk result (AreSetsNoted kept.old.cache kept.new.cache) }
+        ensures cache { IsFile self.now → OnOk result (IsCacheOf self.now kept.new.cache) }
+        ensures read { IsFile self.now
+            → IfOk result (HasCountedSets self.now off kept.old.budget kept.new.budget kept.new.cache) }
+        ensures refused { IsFile self.now → IfErr result (IsFaultWithin
+            (RefListAt self.now.frame.now off) ref_list_weight kept.old.budget.weight kept.old.budget.most) }
+    {
+        let count = count_at(self.frame, off)?;
+        let list = list_weight(count);
+        kept.budget.add(list)?;
+        let most = room(count, self.frame.bytes().len());
+        let mut places = Vec::with_capacity(kept.cache.alloc, most)?;
+        for i in 0..count {
+            let set_off = uint_at(self.frame, off as usize + 4 + 4 * i as usize);
+            let place = self.counted_set_or_empty_at(set_off, kept)?;
+            places.push(place)?;
+        }
+        Ok(places)
+    }
+}
+
 /// The list of sets of a method's parameters.
 pub(crate) struct ListOfMember;
 
@@ -134,11 +198,24 @@ impl OfMember for ListOfMember {
     ghost weighs = { ref_list_weight };
 
     fn checked_at(file: &File<'_>, off: u32, checked: &mut CheckedSets) -> Result<u64, ItemFault> {
-        file.weigh_list(off, checked)
+        if let Some(weight) = checked.lists.get(&off) {
+            return Ok(*weight);
+        }
+        let weight = file.weigh_listed(off, checked)?;
+        checked.lists.insert(off, weight)?;
+        Ok(weight)
     }
 
     fn counted_at(file: &File<'_>, off: u32, kept: &mut CountedCache) -> Result<u32, ItemFault> {
-        file.counted_list_at(off, kept)
+        if let Some(place) = kept.cache.lists.get(&off) {
+            let place = *place;
+            kept.budget.add(kept.cache.table.list_weight(Some(place)))?;
+            return Ok(place);
+        }
+        let places = file.listed_at(off, kept)?;
+        let place = kept.cache.table.add_list(places)?;
+        kept.cache.lists.insert(off, place)?;
+        Ok(place)
     }
 
     ghost one = { one_ref_list };

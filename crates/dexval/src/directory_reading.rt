@@ -1,8 +1,7 @@
 //! Reads directories of annotations from a file.
 
 ghost use Rattle.std.specs.Prelude.{[], ◌^◌, ◌<◌, ◌≡◌, ◌+◌, ◌*◌, ◌≤◌, IfOk, IfErr, OnOk, IfSome, IfNone, length};
-ghost use Rattle.dexspec.specs.Annotations.{RefListAt, DirectoryAt};
-ghost use Rattle.dexspec.specs.Weight.{ref_list_weight};
+ghost use Rattle.dexspec.specs.Annotations.{DirectoryAt};
 ghost use Rattle.dexpool.specs.Pools.{ArePools};
 ghost use Rattle.dexval.specs.Items.{IsRefusal};
 ghost use Rattle.dexval.specs.Directories.{HasPair, HasMembers, directory_weight};
@@ -10,13 +9,13 @@ ghost use Rattle.dexval.specs.DirectoryCache.{AreHeld};
 ghost use Rattle.dexval.specs.Reading.{IsDirectoryFault, IsDirectoryFaultWithin};
 ghost use Rattle.dexval.specs.Shared.{IsTight};
 ghost use Rattle.dexval.specs.Results.{IsReadDirectory, IsReadWithin, AreMemberCounts};
-ghost use Rattle.dexval.specs.internal.Counting.{IsRange, IsFile, IsCacheOf, AreSetsNoted, IsListNoted, AreAllNoted, HasCountedSets, HasCountedList, HaveCountedPairs, ArePairsOf, IsPairAt, IsFaultWithin, IsPairsFault};
+ghost use Rattle.dexval.specs.internal.Counting.{IsRange, IsFile, IsCacheOf, AreAllNoted, HaveCountedPairs, ArePairsOf, IsPairAt, IsFaultWithin, IsPairsFault};
 
 use crate::directory::{Directory, MemberCounts, SharedDirectory};
 use crate::directory_cache::{Budget, CountedCache, DirectoryCache, File};
 use crate::directory_member::{ListOfMember, OfMember, SetOfMember};
 use crate::nesting::room;
-use crate::set_reading::{count_at, uint_at};
+use crate::set_reading::uint_at;
 use dexhead::{Condition, Frame, u32_at};
 use dexpool::{ItemFault, Pools, SymbolKind};
 use std::alloc::Global;
@@ -60,6 +59,27 @@ fn pair_range(at: usize, count: u32, limit: usize) -> PairRange
     PairRange { at, count, limit }
 }
 
+impl PairRange {
+    /// The number of a member and the offset of its item, from the pair at a place. Error: the number is less than
+    /// `least` or not below the limit, or the offset is 0.
+    pub(crate) fn pair(self, frame: &Frame<'_>, i: u32, least: u64) -> Result<(u32, u32), ItemFault>
+        requires within { self.at + 8 * i + 8 ≤ length frame.now }
+        requires fits { self.at < 2 ^ 40 }
+        ensures pair { IfOk result (IsPairAt frame.now (self.at + 8 * i) least self.limit) }
+        ensures refused { IfErr result
+            (IsRefusal (HasPair frame.now (self.at + 8 * i) least self.limit → ⊥)) }
+    {
+        let at = self.at + 8 * i as usize;
+        let bytes = frame.bytes();
+        let number = u32_at(bytes, at);
+        let off = u32_at(bytes, at + 4);
+        if u64::from(number) < least || number as usize >= self.limit || off == 0 {
+            return Err(ItemFault::Refused(Condition::Annotations as u8));
+        }
+        Ok((number, off))
+    }
+}
+
 /// The pairs of a directory, for the members of each kind that it annotates.
 #[derive(Clone, Copy)]
 pub(crate) struct DirectoryPairs {
@@ -95,94 +115,7 @@ impl File<'_> {
     }
 }
 
-/// The number of a member and the offset of its item, from the pair at an offset. Error: the number is less than
-/// `least` or not below the limit, or the offset is 0.
-pub(crate) fn pair_at(
-    frame: &Frame<'_>,
-    at: usize,
-    least: u64,
-    limit: usize,
-) -> Result<(u32, u32), ItemFault>
-    requires { at + 8 ≤ length frame.now }
-    ensures pair { IfOk result (IsPairAt frame.now at least limit) }
-    ensures refused { IfErr result (IsRefusal (HasPair frame.now at least limit → ⊥)) }
-{
-    let bytes = frame.bytes();
-    let number = u32_at(bytes, at);
-    let off = u32_at(bytes, at + 4);
-    if u64::from(number) < least || number as usize >= limit || off == 0 {
-        return Err(ItemFault::Refused(Condition::Annotations as u8));
-    }
-    Ok((number, off))
-}
-
-/// The weight of a list of `count` sets, without the sets.
-pub(crate) fn list_weight(count: u32) -> u64
-    ensures none { count ≡ 0 → result ≡ 0 }
-    ensures some { 0 < count → result ≡ 8 + 4 * count }
-{
-    if count == 0 {
-        return 0;
-    }
-    8 + 4 * u64::from(count)
-}
-
 impl File<'_> {
-    // The places of the sets of the annotation_set_ref_list at an offset. The list and each set are counted. Error: there
-    // is no list, or it is too heavy.
-    fn listed_at(&self, off: u32, kept: &mut CountedCache) -> Result<Vec<Option<u32>>, ItemFault>
-        requires held { AreHeld kept.old.cache }
-        requires cache { IsFile self.now → IsCacheOf self.now kept.old.cache }
-        ensures lists { kept.new.cache.lists ≡ kept.old.cache.lists }
-        ensures noted { IfOk result (AreSetsNoted kept.old.cache kept.new.cache) }
-        ensures cache { IsFile self.now → OnOk result (IsCacheOf self.now kept.new.cache) }
-        ensures read { IsFile self.now
-            → IfOk result (HasCountedSets self.now off kept.old.budget kept.new.budget kept.new.cache) }
-        ensures refused { IsFile self.now → IfErr result (IsFaultWithin
-            (RefListAt self.now.frame.now off) ref_list_weight kept.old.budget.weight kept.old.budget.most) }
-    {
-        let count = count_at(self.frame, off)?;
-        let list = list_weight(count);
-        kept.budget.add(list)?;
-        let mut places = Vec::with_capacity(
-            kept.cache.alloc,
-            room(count, self.frame.bytes().len()),
-        )?;
-        for i in 0..count {
-            let set_off = uint_at(self.frame, off as usize + 4 + 4 * i as usize);
-            let place = self.counted_set_or_empty_at(set_off, kept)?;
-            places.push(place)?;
-        }
-        Ok(places)
-    }
-
-    /// The place of the annotation_set_ref_list at an offset, which is counted with its sets. Error: there is no list,
-    /// or it is too heavy.
-    pub(crate) fn counted_list_at(
-        &self,
-        off: u32,
-        kept: &mut CountedCache,
-    ) -> Result<u32, ItemFault>
-        requires held { AreHeld kept.old.cache }
-        requires cache { IsFile self.now → IsCacheOf self.now kept.old.cache }
-        ensures noted { IfOk result (IsListNoted kept.old.cache kept.new.cache) }
-        ensures cache { IsFile self.now → OnOk result (IsCacheOf self.now kept.new.cache) }
-        ensures read { IsFile self.now
-            → IfOk result (HasCountedList self.now off kept.old.budget kept.new.budget kept.new.cache) }
-        ensures refused { IsFile self.now → IfErr result (IsFaultWithin
-            (RefListAt self.now.frame.now off) ref_list_weight kept.old.budget.weight kept.old.budget.most) }
-    {
-        if let Some(place) = kept.cache.lists.get(&off) {
-            let place = *place;
-            kept.budget.add(kept.cache.table.list_weight(Some(place)))?;
-            return Ok(place);
-        }
-        let places = self.listed_at(off, kept)?;
-        let place = kept.cache.table.add_list(places)?;
-        kept.cache.lists.insert(off, place)?;
-        Ok(place)
-    }
-
     // The members of these pairs, by their numbers, with the place of the item of each, which is counted. Error: the
     // pairs are not there, or their items are too heavy.
     fn members_at<T: OfMember>(
@@ -202,13 +135,11 @@ impl File<'_> {
         ensures refused { IsFile self.now → IfErr result
             (IsPairsFault T.encodes T.weighs self.now.frame.now pairs.now kept.old.budget) }
     {
-        let mut members = Vec::with_capacity(
-            kept.cache.alloc,
-            room(pairs.count, self.frame.bytes().len()),
-        )?;
+        let most = room(pairs.count, self.frame.bytes().len());
+        let mut members = Vec::with_capacity(kept.cache.alloc, most)?;
         let mut least = 0;
         for i in 0..pairs.count {
-            let (number, off) = pair_at(self.frame, pairs.at + 8 * i as usize, least, pairs.limit)?;
+            let (number, off) = pairs.pair(self.frame, i, least)?;
             let place = T::counted_at(self, off, kept)?;
             least = u64::from(number) + 1;
             members.push((number, place))?;

@@ -96,14 +96,10 @@ impl Annotation {
     pub fn same_mapped(&self, mine: &Remap, other: &Annotation, theirs: &Remap) -> bool
         ensures { IsTrue result ↔ SameAnnotation mine.now self.now theirs.now other.now }
     {
-        if self.visibility != other.visibility {
-            return false;
-        }
-        let (annotation, other) = (&self.annotation, &other.annotation);
-        if !eq_ends(SymbolKind::Typ, mine, annotation.typ, theirs, other.typ) {
-            return false;
-        }
-        same_elements(mine, &annotation.elements, theirs, &other.elements)
+        let (held, others) = (&self.annotation, &other.annotation);
+        self.visibility == other.visibility
+            && eq_ends(SymbolKind::Typ, mine, held.typ, theirs, others.typ)
+            && same_elements(mine, &held.elements, theirs, &others.elements)
     }
 }
 

@@ -5,16 +5,16 @@ use Rattle.dexval.proofs.Keeping.{counts_as}
 use Rattle.dexval.proofs.PlacedItems.{fewer, one_placed}
 use Rattle.dexval.proofs.Refusals.{err_is, item_refused}
 use Rattle.dexval.proofs.TableGrowth.{extends_then, new_then, list_is_added}
-use Rattle.dexval.proofs.directory_cache.File.counted_list_at.Goals as goal
+use Rattle.dexval.proofs.directory_member.ListOfMemberOfMember.counted_at.Goals as goal
 
 pub returns-in-Some-clause-read : goal.returns-in-Some-clause-read
 returns-in-Some-clause-read c = λ p.
-    record { is_read = (c.requires.cache p).lists_cached c.args.off c.in-Some.place.now (sym c.in-Some.ensures.value); counted = counts_as (omega (arith, c.list_weight.ensures c.args.self.now.pools.now)) c.in_ok-add.ensures.counted }
+    record { is_read = (c.requires.cache p).lists_cached c.args.off c.in-Some.place.now (sym c.in-Some.ensures.value); counted = counts_as (omega (arith, c.list_weight.ensures c.args.file.now.pools.now)) c.in_ok-add.ensures.counted }
 
 pub returns-in_err-add-clause-refused : goal.returns-in_err-add-clause-refused
 returns-in_err-add-clause-refused c = λ p.
-    let b = c.args.self.now.frame.now in
-    let m = c.args.self.now.pools.now in
+    let b = c.args.file.now.frame.now in
+    let m = c.args.file.now.pools.now in
     let off = c.args.off in
     let place = c.in-Some.place.now in
     let here = (c.requires.cache p).lists_cached off place (sym c.in-Some.ensures.value) in
@@ -54,10 +54,10 @@ pub returns-clause-cache : goal.returns-clause-cache
 returns-clause-cache c = λ p.
     let mid = c.listed_at.new.kept.cache in
     let new : DirectoryCache = record { alloc = mid.alloc; table = c.add_list.new.self; sets = mid.sets; lists = c.insert.new.self } in
-    let encodes = subst (IsRefListAt c.args.self.now.frame.now c.args.off c.args.self.now.pools.now) (sym (list_is_added mid.table new.table c.in_ok-places.places.items c.in_ok-place.place c.in_ok-place.ensures.place c.in_ok-place.ensures.table)) (c.in_ok-places.ensures.read p).is_read in
-    list_cached c.args.self.now.frame.now c.args.self.now.pools.now mid new c.args.off c.in_ok-place.place c.in_ok-place.ensures.extends c.in_ok-places.ensures.noted.noted_held (c.in_ok-places.ensures.cache p) c.in_ok-insert.ensures.updates.1 c.in_ok-insert.ensures.updates.2 refl encodes
+    let encodes = subst (IsRefListAt c.args.file.now.frame.now c.args.off c.args.file.now.pools.now) (sym (list_is_added mid.table new.table c.in_ok-places.places.items c.in_ok-place.place c.in_ok-place.ensures.place c.in_ok-place.ensures.table)) (c.in_ok-places.ensures.read p).is_read in
+    list_cached c.args.file.now.frame.now c.args.file.now.pools.now mid new c.args.off c.in_ok-place.place c.in_ok-place.ensures.extends c.in_ok-places.ensures.noted.noted_held (c.in_ok-places.ensures.cache p) c.in_ok-insert.ensures.updates.1 c.in_ok-insert.ensures.updates.2 refl encodes
 
 pub returns-clause-read : goal.returns-clause-read
 returns-clause-read c = λ p.
-    subst (HasCounted (IsRefListAt c.args.self.now.frame.now c.args.off c.args.self.now.pools.now) (sets_weight_in c.args.self.now.pools.now) c.args.kept.now.budget c.listed_at.new.kept.budget)
+    subst (HasCounted (IsRefListAt c.args.file.now.frame.now c.args.off c.args.file.now.pools.now) (sets_weight_in c.args.file.now.pools.now) c.args.kept.now.budget c.listed_at.new.kept.budget)
     (sym (list_is_added c.listed_at.new.kept.cache.table c.add_list.new.self c.in_ok-places.places.items c.in_ok-place.place c.in_ok-place.ensures.place c.in_ok-place.ensures.table)) (c.in_ok-places.ensures.read p)

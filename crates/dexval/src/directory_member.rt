@@ -14,8 +14,8 @@ ghost use Rattle.dexval.specs.internal.Counting.{IsFaultAt, HasItemOf, HasRefLis
 
 use crate::directory_cache::{CountedCache, File};
 use crate::directory_checking::CheckedSets;
-use crate::nesting::room;
 use crate::set_reading::{count_at, uint_at};
+use crate::value_reading::room;
 use dexpool::ItemFault;
 
 /// A part of a directory for a member: a set of annotations, or the sets of its parameters.

@@ -14,8 +14,8 @@ ghost use Rattle.dexval.specs.internal.Counting.{IsRange, IsFile, IsCacheOf, Are
 use crate::directory::{Directory, MemberCounts, SharedDirectory};
 use crate::directory_cache::{Budget, CountedCache, DirectoryCache, File};
 use crate::directory_member::{ListOfMember, OfMember, SetOfMember};
-use crate::nesting::room;
 use crate::set_reading::uint_at;
+use crate::value_reading::room;
 use dexhead::{Condition, Frame, u32_at};
 use dexpool::{ItemFault, Pools, SymbolKind};
 use std::alloc::Global;

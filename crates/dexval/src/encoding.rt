@@ -10,7 +10,6 @@ ghost use Rattle.dexval.specs.Spelled.{count_bytes, numbered_bytes, numbered_arr
 
 use crate::widths::{bits_width, signed_width, unsigned_width};
 use crate::{Annotation, EncodedAnnotation, Value, type_codes as codes};
-use byteorder::{ByteOrder, LittleEndian};
 use dexhead::{Encode, Output};
 
 // Writes a type code with the count of bytes after it, and the lowest bytes of a number.
@@ -20,8 +19,7 @@ fn encode_low<O: Output>(code: u8, width: usize, value: u64, out: &mut O)
     requires few { width ≤ 8 }
     ensures { O.gives (value_byte (width - 1) code ∷ bytes_of width value) out.old out.new }
 {
-    let mut bytes = [0; 8];
-    LittleEndian::write_u64(&mut bytes, value);
+    let bytes = value.to_le_bytes();
     out.byte(32 * (width - 1) as u8 + code);
     out.bytes(&bytes[..width]);
 }

@@ -8,8 +8,8 @@ ghost use Rattle.dexval.specs.Reading.{IsSetFault};
 ghost use Rattle.dexval.specs.Results.{HasSetShape};
 ghost use Rattle.dexval.specs.internal.Found.{MeasuresItem, MeasuresSet};
 
-use crate::nested_checking::ValueChecker;
 use crate::set_reading::offset_count;
+use crate::value_checking::ValueChecker;
 use crate::value_reading::MOST_DEPTH;
 use dexhead::{Condition, Frame, u32_at};
 use dexpool::{ItemFault, Pools};

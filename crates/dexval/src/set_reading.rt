@@ -10,8 +10,7 @@ ghost use Rattle.dexval.specs.Items.{NoItemAt, HasOffsets, IsRefusal};
 ghost use Rattle.dexval.specs.Results.{IsReadSet};
 ghost use Rattle.dexval.specs.internal.Found.{IsOffsetCount, IsReadItem};
 
-use crate::nesting::ValueReader;
-use crate::value_reading::MOST_DEPTH;
+use crate::value_reading::{MOST_DEPTH, ValueReader};
 use crate::{Annotation, AnnotationSet, Visibility};
 use dexhead::{Condition, Frame, u32_at};
 use dexpool::{ItemFault, Pools};

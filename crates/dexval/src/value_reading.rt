@@ -1,15 +1,183 @@
 //! Reads values from a file.
 
-ghost use Rattle.std.specs.Prelude.{IfOk, IfErr};
+ghost use Rattle.std.specs.Prelude.{IfOk, IfErr, ◌≡◌, ◌+◌, ◌^◌, ◌<◌, ◌≤◌, length};
 ghost use Rattle.dexpool.specs.Pools.{ArePools};
 ghost use Rattle.dexval.specs.Reading.{IsValueFault, IsStaticsFault};
 ghost use Rattle.dexval.specs.Results.{IsReadValue, AreReadStatics};
+ghost use Rattle.dexspec.specs.Numbers.{Uleb128At};
+ghost use Rattle.dexpool.specs.declared.faults.ItemFault.TheVariants.{Refused};
+ghost use Rattle.dexval.specs.Code.{element_of};
+ghost use Rattle.dexval.specs.Items.{Refuses};
+ghost use Rattle.dexval.specs.Nesting.{HasPools, NoArrayAt, NoElementAt, NoElementsAt, NoAnnotationAt};
+ghost use Rattle.dexval.specs.internal.Scalars.{NoValueAt};
+ghost use Rattle.dexval.specs.internal.Found.{NoNumberAt, IsValueRead, IsArrayRead, IsElementRead, AreElementsRead, IsAnnotationRead};
 
-use crate::nesting::ValueReader;
-use crate::value::Value;
+use crate::scalars::scalar_at;
+use crate::type_codes::{ANNOTATION, ARRAY};
+use crate::value::{Element, EncodedAnnotation, Value};
+use crate::value_checking::number_at;
 use dexhead::{Condition, Frame};
-use dexpool::{ItemFault, Pools};
+use dexpool::{ItemFault, Pools, SymbolKind};
 use std::alloc::Global;
+
+// The maximum number of values for which capacity is reserved before they are read.
+const MOST_AT_ONCE: usize = 4096;
+
+// The number of items, of `count`, for which capacity is reserved before they are read. `left` bytes are left, and each
+// item has at least one byte. So for nested items a false count reserves little, and a true count reserves no more than
+// needed.
+pub(crate) fn room(count: u32, left: usize) -> usize {
+    (count as usize).min(left).min(MOST_AT_ONCE)
+}
+
+/// Reads nested values from the bytes of a file, whose indices refer to its pools. Where an item is not there, the fault
+/// is the refusal of the condition with this number.
+#[derive(Clone, Copy)]
+pub(crate) struct ValueReader<'r, 'p> {
+    pub(crate) alloc: Global,
+    pub(crate) bytes: &'r [u8],
+    pub(crate) pools: &'r Pools<'p>,
+    pub(crate) number: u8,
+}
+
+impl<'r, 'p> ValueReader<'r, 'p> {
+    // The fault where an item is not there.
+    fn refusal(&self) -> ItemFault
+        ensures { result ≡ Refused self.now.number }
+    {
+        ItemFault::Refused(self.number)
+    }
+
+    // The unsigned number at an offset, and its size. Error: there is none.
+    fn number_at(&self, at: usize) -> Result<(u32, usize), ItemFault>
+        requires { at ≤ length self.now.bytes.now }
+        ensures found { IfOk result (λ read. Uleb128At self.now.bytes.now at read.0 read.1) }
+        ensures within { IfOk result (λ read. at + read.1 ≤ length self.now.bytes.now) }
+        ensures refused { IfErr result (Refuses self.now.number (NoNumberAt self.now.bytes.now at)) }
+    {
+        number_at(self.bytes, at).ok_or(self.refusal())
+    }
+
+    /// The value at an offset, and its size. Error: there is none that nests at most `depth` deep.
+    #[cycle(reading)]
+    pub(crate) fn value_at(&self, at: usize, depth: u32) -> Result<(Value, usize), ItemFault>
+        ensures read { HasPools self.now.bytes.now self.now.pools.now
+            → IfOk result (IsValueRead self.now.bytes.now at self.now.pools.now depth) }
+        ensures refused { HasPools self.now.bytes.now self.now.pools.now → IfErr result
+            (Refuses self.now.number (NoValueAt self.now.bytes.now at depth)) }
+        ensures within { IfOk result (λ read. at + read.1 ≤ length self.now.bytes.now) }
+    {
+        if at >= self.bytes.len() {
+            return Err(self.refusal());
+        }
+        match self.bytes[at] {
+            ARRAY | ANNOTATION if depth == 0 => Err(self.refusal()),
+            ARRAY => {
+                let (values, size) = self.array_at(at + 1, depth - 1)?;
+                Ok((Value::Array(Box::new(self.alloc, values)?), 1 + size))
+            }
+            ANNOTATION => {
+                let (annotation, size) = self.annotation_at(at + 1, depth - 1)?;
+                let annotation = Box::new(self.alloc, annotation)?;
+                Ok((Value::Annotation(annotation), 1 + size))
+            }
+            _ => scalar_at(self.bytes, self.pools, at).ok_or(self.refusal()),
+        }
+    }
+
+    /// The values of the encoded_array at an offset, and its size. Error: there is no array whose values nest at most
+    /// `depth` deep.
+    #[cycle(reading)]
+    pub(crate) fn array_at(&self, at: usize, depth: u32) -> Result<(Vec<Value>, usize), ItemFault>
+        requires { at ≤ length self.now.bytes.now }
+        ensures read { HasPools self.now.bytes.now self.now.pools.now
+            → IfOk result (IsArrayRead self.now.bytes.now at self.now.pools.now depth) }
+        ensures refused { HasPools self.now.bytes.now self.now.pools.now → IfErr result
+            (Refuses self.now.number (NoArrayAt self.now.bytes.now at depth)) }
+        ensures within { IfOk result (λ read. at + read.1 ≤ length self.now.bytes.now) }
+    {
+        let (count, head) = self.number_at(at)?;
+        let mut values = Vec::with_capacity(self.alloc, room(count, self.bytes.len() - at))?;
+        let mut size = 0;
+        for _i in 0..count {
+            let (value, used) = self.value_at(at + head + size, depth)?;
+            values.push(value)?;
+            size += used;
+        }
+        Ok((values, head + size))
+    }
+
+    // The element at an offset, and its size. Error: there is no element whose name has at least the number `least` and
+    // whose value nests at most `depth` deep.
+    #[cycle(reading)]
+    fn element_at(&self, at: usize, depth: u32, least: u64) -> Result<(Element, usize), ItemFault>
+        requires { at ≤ length self.now.bytes.now }
+        ensures read { HasPools self.now.bytes.now self.now.pools.now
+            → IfOk result (IsElementRead self.now.bytes.now at self.now.pools.now depth least) }
+        ensures refused { HasPools self.now.bytes.now self.now.pools.now → IfErr result
+            (Refuses self.now.number (NoElementAt self.now.bytes.now at depth least)) }
+        ensures name { IfOk result (λ read. (element_of read.0).0 < 2 ^ 32) }
+        ensures within { IfOk result (λ read. at + read.1 ≤ length self.now.bytes.now) }
+    {
+        let (name, head) = self.number_at(at)?;
+        if u64::from(name) < least || name as usize >= self.pools.len(SymbolKind::Text) {
+            return Err(self.refusal());
+        }
+        let (value, size) = self.value_at(at + head, depth)?;
+        Ok((Element { name, value }, head + size))
+    }
+
+    // `count` elements from an offset on, and their size. Error: there are no such elements whose names rise strictly and
+    // whose values nest at most `depth` deep.
+    #[cycle(reading)]
+    fn elements_at(
+        &self,
+        at: usize,
+        depth: u32,
+        count: u32,
+    ) -> Result<(Vec<Element>, usize), ItemFault>
+        requires { at ≤ length self.now.bytes.now }
+        ensures read { HasPools self.now.bytes.now self.now.pools.now
+            → IfOk result (AreElementsRead self.now.bytes.now at self.now.pools.now depth count) }
+        ensures refused { HasPools self.now.bytes.now self.now.pools.now → IfErr result
+            (Refuses self.now.number (NoElementsAt self.now.bytes.now at depth count)) }
+        ensures within { IfOk result (λ read. at + read.1 ≤ length self.now.bytes.now) }
+    {
+        let mut elements = Vec::with_capacity(self.alloc, room(count, self.bytes.len() - at))?;
+        let mut size = 0;
+        let mut least = 0;
+        for _i in 0..count {
+            let (element, used) = self.element_at(at + size, depth, least)?;
+            least = u64::from(element.name) + 1;
+            elements.push(element)?;
+            size += used;
+        }
+        Ok((elements, size))
+    }
+
+    /// The encoded_annotation at an offset, and its size. Error: there is none whose values nest at most `depth` deep.
+    #[cycle(reading)]
+    pub(crate) fn annotation_at(
+        &self,
+        at: usize,
+        depth: u32,
+    ) -> Result<(EncodedAnnotation, usize), ItemFault>
+        requires { at ≤ length self.now.bytes.now }
+        ensures read { HasPools self.now.bytes.now self.now.pools.now
+            → IfOk result (IsAnnotationRead self.now.bytes.now at self.now.pools.now depth) }
+        ensures refused { HasPools self.now.bytes.now self.now.pools.now → IfErr result
+            (Refuses self.now.number (NoAnnotationAt self.now.bytes.now at depth)) }
+        ensures within { IfOk result (λ read. at + read.1 ≤ length self.now.bytes.now) }
+    {
+        let (typ, first) = self.number_at(at)?;
+        if typ as usize >= self.pools.len(SymbolKind::Typ) {
+            return Err(self.refusal());
+        }
+        let (count, second) = self.number_at(at + first)?;
+        let (elements, size) = self.elements_at(at + first + second, depth, count)?;
+        Ok((EncodedAnnotation { typ, elements }, first + second + size))
+    }
+}
 
 /// The maximum depth of nested values.
 pub(crate) const MOST_DEPTH: u32 = 32;

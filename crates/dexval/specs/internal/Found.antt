@@ -8,7 +8,7 @@ use Rattle.dexspec.specs.Values.{Value as ValueMeant, Values as ValuesMeant, Siz
 use Rattle.dexspec.specs.Mentions.{Mentions}
 use Rattle.dexval.specs.declared.annotation.Annotation.{Annotation as CodeAnnotation}
 use Rattle.dexval.specs.Reading.{EncodedValueAt}
-use Rattle.dexval.specs.declared.nested_checking.Measure.{Measure}
+use Rattle.dexval.specs.declared.value_checking.Measure.{Measure}
 use Rattle.dexval.specs.declared.set_checking.SetShape.{SetShape}
 use Rattle.dexval.specs.declared.value.Element.{Element}
 use Rattle.dexval.specs.declared.value.EncodedAnnotation.{EncodedAnnotation}

@@ -1,6 +1,6 @@
 use Rattle.dexval.proofs.Common.{◌≡◌, ℕ, take, sym, subst, arith, uint}
 use Rattle.dexval.proofs.Offsets.{end_of, offsets_spelled, one_offset, next_offset, offset_fits, offsets_end}
-use Rattle.dexval.proofs.set_put.encode_offsets.Goals as goal
+use Rattle.dexval.proofs.put.encode_offsets.Goals as goal
 
 pub overflow_cast-offset : goal.overflow_cast-offset
 overflow_cast-offset g c = omega (arith, c.loop-annotation.invariant.next, offset_fits c.args.first c.args.annotations.now c.loop-annotation.annotation-index c.loop-annotation-test.true c.requires)

@@ -1,6 +1,6 @@
 use Rattle.dexval.proofs.Common.{◌+◌, ◌*◌, ◌^◌, ◌≤◌, length, HasPools}
 use Rattle.dexval.proofs.NestedChecked.{ValuesChecked, ElementsChecked}
-use Rattle.dexval.proofs.nested_checking.ValueChecker.+checking.Given as goal
+use Rattle.dexval.proofs.value_checking.ValueChecker.+checking.Given as goal
 
 abbrev pub decreases-value_measure : goal.decreases-value_measure
 decreases-value_measure l = 5 * l.depth

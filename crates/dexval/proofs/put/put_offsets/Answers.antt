@@ -2,7 +2,7 @@ use Rattle.dexval.proofs.Common.{◌≡◌, ◌+◌, ◌*◌, ◌++◌, length, 
 use Rattle.dexhead.specs.OutputLaws.{pushed_both}
 use Rattle.dexhead.specs.Pushing.{HasRoomFor, Pushes}
 use Rattle.dexval.proofs.Offsets.{annotations_few, set_size, set_begins, offsets_spelled}
-use Rattle.dexval.proofs.set_put.put_offsets.Goals as goal
+use Rattle.dexval.proofs.put.put_offsets.Goals as goal
 
 pub overflow_cast-annotations : goal.overflow_cast-annotations
 overflow_cast-annotations c = omega (arith, annotations_few c.args.first c.args.annotations.now c.requires)

@@ -4,8 +4,8 @@ use Rattle.dexval.proofs.Members.{array_is, annotation_is, element_is}
 use Rattle.dexval.proofs.Refusals.{err_is, refuses_so, found_or, refused_or}
 use Rattle.dexval.proofs.ElementsRead.{nothing_after, array_encoded, no_array, annotation_encoded, no_annotation, deeper, HaveReadOf, no_such_name, no_such_type, one_element_more, no_next_element, all_elements_read, no_name, no_value, no_type, no_element_count, no_elements, annotation_read}
 use Rattle.dexval.proofs.ValuesRead.{HaveRead, one_more, no_next, no_count, no_values, all_read}
-use Rattle.dexval.proofs.nesting.ValueReader.+reading.Goals.{element_at-then-from-least-via-then-from-least, element_at-then-from-least-via-else-from-least+then-name-len}
-use Rattle.dexval.proofs.nesting.ValueReader.+reading.Goals as goal
+use Rattle.dexval.proofs.value_reading.ValueReader.+reading.Goals.{element_at-then-from-least-via-then-from-least, element_at-then-from-least-via-else-from-least+then-name-len}
+use Rattle.dexval.proofs.value_reading.ValueReader.+reading.Goals as goal
 
 pub annotation_at-returns-clause-read : goal.annotation_at-returns-clause-read
 annotation_at-returns-clause-read t c = λ p.

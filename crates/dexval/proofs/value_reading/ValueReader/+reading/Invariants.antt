@@ -1,7 +1,7 @@
 use Rattle.dexval.proofs.Common.{◌+◌, ◌*◌, ◌^◌, ◌≤◌, length, map, value_of, element_of, HasPools}
 use Rattle.dexval.proofs.ValuesRead.{HaveRead}
 use Rattle.dexval.proofs.ElementsRead.{HaveReadOf}
-use Rattle.dexval.proofs.nesting.ValueReader.+reading.Given as goal
+use Rattle.dexval.proofs.value_reading.ValueReader.+reading.Given as goal
 
 abbrev pub decreases-value_at : goal.decreases-value_at
 decreases-value_at l = 5 * l.depth

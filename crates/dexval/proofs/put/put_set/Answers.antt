@@ -1,7 +1,7 @@
 use Rattle.dexval.proofs.Common.{arith, set_of}
 use Rattle.dexval.proofs.Offsets.{set_size, set_size_is, set_put_is}
 use Rattle.dexval.proofs.Weights.{set_weight_is}
-use Rattle.dexval.proofs.set_put.put_set.Goals as goal
+use Rattle.dexval.proofs.put.put_set.Goals as goal
 
 pub returns-clause-symbolic : goal.returns-clause-symbolic
 returns-clause-symbolic c = set_put_is c.args.numbering.now c.args.first (set_of c.args.set.now) c.is_numbering.ensures.rising (rw c.annotations.ensures at c.put_offsets.ensures)

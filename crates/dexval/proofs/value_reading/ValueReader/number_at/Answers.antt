@@ -1,5 +1,5 @@
 use Rattle.dexval.proofs.Refusals.{found_or, held_or, refused_or}
-use Rattle.dexval.proofs.nesting.ValueReader.number_at.Goals as goal
+use Rattle.dexval.proofs.value_reading.ValueReader.number_at.Goals as goal
 
 pub returns-clause-found : goal.returns-clause-found
 returns-clause-found c = rw c.ok_or.ensures.value (found_or _ _ c.number_at.result _ c.number_at.ensures.found)

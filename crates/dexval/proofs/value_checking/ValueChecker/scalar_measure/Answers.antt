@@ -1,5 +1,5 @@
 use Rattle.dexval.proofs.NestedChecked.{flat_checked}
-use Rattle.dexval.proofs.nested_checking.ValueChecker.scalar_measure.Goals as goal
+use Rattle.dexval.proofs.value_checking.ValueChecker.scalar_measure.Goals as goal
 
 pub returns-clause-checked : goal.returns-clause-checked
 returns-clause-checked c = λ p depth. flat_checked c.args.self.now.bytes.now c.args.at c.args.self.now.pools.now depth _ c.in_ok-size.size (c.in_ok-size.ensures.read p)

@@ -2,8 +2,8 @@ use Rattle.dexval.proofs.Common.{◌≡◌, ◌+◌, ℕ, refl, ap, subst, arith
 use Rattle.dexval.proofs.ElementsRead.{nothing_after, no_array, no_annotation, no_such_name, no_such_type, no_name, no_value, no_type, no_element_count, no_elements}
 use Rattle.dexval.proofs.ValuesRead.{no_count}
 use Rattle.dexval.proofs.NestedChecked.{array_checked, annotation_checked, no_value_yet, one_value_checked, no_value_next, values_checked, no_element_yet, one_element_checked, no_element_next, elements_checked, annotation_of_elements, ElementsChecked}
-use Rattle.dexval.proofs.nested_checking.ValueChecker.+checking.Goals.{element_measure-then-from-least-via-then-from-least, element_measure-then-from-least-via-else-from-least+then-name-len}
-use Rattle.dexval.proofs.nested_checking.ValueChecker.+checking.Goals as goal
+use Rattle.dexval.proofs.value_checking.ValueChecker.+checking.Goals.{element_measure-then-from-least-via-then-from-least, element_measure-then-from-least-via-else-from-least+then-name-len}
+use Rattle.dexval.proofs.value_checking.ValueChecker.+checking.Goals as goal
 
 pub value_measure-returns-then-at-self-clause-checked : goal.value_measure-returns-then-at-self-clause-checked
 value_measure-returns-then-at-self-clause-checked t c = λ p. nothing_after c.args.self.now.bytes.now c.args.at c.args.depth c.args.self.now.pools.now p.pools (omega arith)

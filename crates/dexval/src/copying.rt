@@ -39,12 +39,9 @@ impl Value {
             Value::Field(number) => Value::Field(*number),
             Value::Method(number) => Value::Method(*number),
             Value::Enum(number) => Value::Enum(*number),
-            Value::Array(values) => {
-                Value::Array(Box::new(*values.allocator(), copied_values(values)?)?)
-            }
-            Value::Annotation(annotation) => {
-                let alloc = *annotation.elements.allocator();
-                Value::Annotation(Box::new(alloc, annotation.copy()?)?)
+            Value::Array(held) => Value::Array(Box::new(*held.allocator(), copied_values(held)?)?),
+            Value::Annotation(held) => {
+                Value::Annotation(Box::new(*held.elements.allocator(), held.copy()?)?)
             }
             Value::Null => Value::Null,
             Value::Boolean(is) => Value::Boolean(*is),

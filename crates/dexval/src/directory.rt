@@ -64,10 +64,8 @@ impl SetTable {
         requires { IsPlaceIn self.now.sets place }
         ensures { IfOk result (λ set. set_of set ≡ set_at self.now.sets place) }
     {
-        match self.set(place) {
-            Some(set) => set.copy(),
-            None => Ok(AnnotationSet::empty(alloc)),
-        }
+        self.set(place)
+            .map_or_else(|| Ok(AnnotationSet::empty(alloc)), |set| set.copy())
     }
 
     // The sets of the list at a place, each with annotations of its own.

@@ -161,9 +161,7 @@ impl Head {
             Value::Method(number) => Head::Method(end(remap, SymbolKind::Method, *number)),
             Value::Enum(number) => Head::Enum(end(remap, SymbolKind::Field, *number)),
             Value::Array(_) => Head::Array,
-            Value::Annotation(annotation) => {
-                Head::Annotation(end(remap, SymbolKind::Typ, annotation.typ))
-            }
+            Value::Annotation(held) => Head::Annotation(end(remap, SymbolKind::Typ, held.typ)),
             Value::Null => Head::Null,
             Value::Boolean(is) => Head::Boolean(*is),
         }

@@ -30,6 +30,9 @@ pub(crate) fn room(count: u32, left: usize) -> usize {
     (count as usize).min(left).min(MOST_AT_ONCE)
 }
 
+/// An item and its size in bytes.
+type Found<T> = Result<(T, usize), ItemFault>;
+
 /// Reads nested values from the bytes of a file, whose indices refer to its pools. Where an item is not there, the fault
 /// is the refusal of the condition with this number.
 #[derive(Clone, Copy)]
@@ -49,7 +52,7 @@ impl<'r, 'p> ValueReader<'r, 'p> {
     }
 
     // The unsigned number at an offset, and its size. Error: there is none.
-    fn number_at(&self, at: usize) -> Result<(u32, usize), ItemFault>
+    fn number_at(&self, at: usize) -> Found<u32>
         requires { at ≤ length self.now.bytes.now }
         ensures found { IfOk result (λ read. Uleb128At self.now.bytes.now at read.0 read.1) }
         ensures within { IfOk result (λ read. at + read.1 ≤ length self.now.bytes.now) }
@@ -60,7 +63,7 @@ impl<'r, 'p> ValueReader<'r, 'p> {
 
     /// The value at an offset, and its size. Error: there is none that nests at most `depth` deep.
     #[cycle(reading)]
-    pub(crate) fn value_at(&self, at: usize, depth: u32) -> Result<(Value, usize), ItemFault>
+    pub(crate) fn value_at(&self, at: usize, depth: u32) -> Found<Value>
         ensures read { HasPools self.now.bytes.now self.now.pools.now
             → IfOk result (IsValueRead self.now.bytes.now at self.now.pools.now depth) }
         ensures refused { HasPools self.now.bytes.now self.now.pools.now → IfErr result
@@ -88,7 +91,7 @@ impl<'r, 'p> ValueReader<'r, 'p> {
     /// The values of the encoded_array at an offset, and its size. Error: there is no array whose values nest at most
     /// `depth` deep.
     #[cycle(reading)]
-    pub(crate) fn array_at(&self, at: usize, depth: u32) -> Result<(Vec<Value>, usize), ItemFault>
+    pub(crate) fn array_at(&self, at: usize, depth: u32) -> Found<Vec<Value>>
         requires { at ≤ length self.now.bytes.now }
         ensures read { HasPools self.now.bytes.now self.now.pools.now
             → IfOk result (IsArrayRead self.now.bytes.now at self.now.pools.now depth) }
@@ -110,7 +113,7 @@ impl<'r, 'p> ValueReader<'r, 'p> {
     // The element at an offset, and its size. Error: there is no element whose name has at least the number `least` and
     // whose value nests at most `depth` deep.
     #[cycle(reading)]
-    fn element_at(&self, at: usize, depth: u32, least: u64) -> Result<(Element, usize), ItemFault>
+    fn element_at(&self, at: usize, depth: u32, least: u64) -> Found<Element>
         requires { at ≤ length self.now.bytes.now }
         ensures read { HasPools self.now.bytes.now self.now.pools.now
             → IfOk result (IsElementRead self.now.bytes.now at self.now.pools.now depth least) }
@@ -130,12 +133,7 @@ impl<'r, 'p> ValueReader<'r, 'p> {
     // `count` elements from an offset on, and their size. Error: there are no such elements whose names rise strictly and
     // whose values nest at most `depth` deep.
     #[cycle(reading)]
-    fn elements_at(
-        &self,
-        at: usize,
-        depth: u32,
-        count: u32,
-    ) -> Result<(Vec<Element>, usize), ItemFault>
+    fn elements_at(&self, at: usize, depth: u32, count: u32) -> Found<Vec<Element>>
         requires { at ≤ length self.now.bytes.now }
         ensures read { HasPools self.now.bytes.now self.now.pools.now
             → IfOk result (AreElementsRead self.now.bytes.now at self.now.pools.now depth count) }
@@ -157,11 +155,7 @@ impl<'r, 'p> ValueReader<'r, 'p> {
 
     /// The encoded_annotation at an offset, and its size. Error: there is none whose values nest at most `depth` deep.
     #[cycle(reading)]
-    pub(crate) fn annotation_at(
-        &self,
-        at: usize,
-        depth: u32,
-    ) -> Result<(EncodedAnnotation, usize), ItemFault>
+    pub(crate) fn annotation_at(&self, at: usize, depth: u32) -> Found<EncodedAnnotation>
         requires { at ≤ length self.now.bytes.now }
         ensures read { HasPools self.now.bytes.now self.now.pools.now
             → IfOk result (IsAnnotationRead self.now.bytes.now at self.now.pools.now depth) }

@@ -33,10 +33,7 @@ fn item_weight(frame: &Frame<'_>, pools: &Pools<'_>, off: u32) -> Option<(u32, u
 {
     let bytes = frame.bytes();
     let at = off as usize;
-    if off < frame.data_off() || at >= bytes.len() {
-        return None;
-    }
-    if bytes[at] > MOST_VISIBILITY {
+    if off < frame.data_off() || at >= bytes.len() || bytes[at] > MOST_VISIBILITY {
         return None;
     }
     let checker = ValueChecker { bytes, pools };
@@ -61,9 +58,7 @@ fn set_shape(frame: &Frame<'_>, pools: &Pools<'_>, off: u32) -> Option<SetShape>
         least = u64::from(typ) + 1;
         weight += 4 + item;
     }
-    if count == 0 {
-        return Some(SetShape { count, weight: 0 });
-    }
+    let weight = if count == 0 { 0 } else { weight };
     Some(SetShape { count, weight })
 }
 

@@ -41,5 +41,5 @@ loop-i-preserved c =
 pub returns-then-count-eq0 : goal.returns-then-count-eq0
 returns-then-count-eq0 c = λ p. empty_set_checked c.args.frame.now c.args.pools.now p c.args.off c.loop-i.i c.loop-i.least c.loop-i.weight c.in_ok-count.count c.in_ok-count.ensures.0 (omega (arith, c.in_ok-count.ensures.1)) (omega arith) (omega arith) (c.loop-i.invariant.checked p)
 
-pub returns : goal.returns
-returns c = λ p. some_set_checked c.args.frame.now c.args.pools.now p c.args.off c.loop-i.i c.loop-i.least c.loop-i.weight c.in_ok-count.count c.in_ok-count.ensures.0 (omega (arith, c.in_ok-count.ensures.1)) (omega arith) (omega arith) (c.loop-i.invariant.checked p)
+pub returns-else-count-eq0 : goal.returns-else-count-eq0
+returns-else-count-eq0 c = λ p. some_set_checked c.args.frame.now c.args.pools.now p c.args.off c.loop-i.i c.loop-i.least c.loop-i.weight c.in_ok-count.count c.in_ok-count.ensures.0 (omega (arith, c.in_ok-count.ensures.1)) (omega arith) (omega arith) (c.loop-i.invariant.checked p)

@@ -1,5 +1,6 @@
 -- Lists that are made member by member from the members of others.
 use Rattle.dexval.proofs.Common.{◌≡◌, ℕ, ◌+◌, ◌<◌, ◌≤◌, List, [], ◌∷◌, ◌++◌, length, get_or, take, map, sym, ap, subst, ◌∙◌, map-append, map_more, take_all}
+use Rattle.std.proofs.lemmas.List.{take-map}
 
 module _ {X Y Z : Type 0} (f : X → Z) (g : Y → Z) (ys seen : List Y) (same : seen ≡ ys) where
   -- one more, of the next member
@@ -10,3 +11,7 @@ module _ {X Y Z : Type 0} (f : X → Z) (g : Y → Z) (ys seen : List Y) (same :
   -- all of them
   pub copied_all : (xs : List X) (i : ℕ) → length seen ≤ i → map f xs ≡ map g (take i ys) → map f xs ≡ map g ys
   copied_all xs i le before = before ∙ ap (map g) (take_all i ys (subst (λ (l : List Y). length l ≤ i) same le))
+
+-- the first members of a list that is another's image
+pub seen_so : {X Z : Type 0} (f : X → Z) (ys : List X) (i : ℕ) {zs : List Z} → map f ys ≡ zs → map f (take i ys) ≡ take i zs
+seen_so f ys i is = sym (take-map f i ys) ∙ ap (take i) is

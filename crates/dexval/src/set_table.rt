@@ -50,29 +50,6 @@ fn renumber_sets(sets: &mut Vec<AnnotationSet>, remap: &Remap)
     }
 }
 
-// The same sets.
-fn copied_sets(sets: &Vec<AnnotationSet>) -> Result<Vec<AnnotationSet>, AllocError>
-    ensures { IfOk result (λ copy. map set_of copy.items ≡ map set_of sets.now.items) }
-{
-    let mut copy = Vec::with_capacity(*sets.allocator(), sets.len())?;
-    for set in sets {
-        copy.push(set.copy()?)?;
-    }
-    Ok(copy)
-}
-
-// The same lists.
-fn copied_lists(lists: &Vec<Vec<Option<u32>>>) -> Result<Vec<Vec<Option<u32>>>, AllocError>
-    ensures { IfOk result (λ copy.
-        map (λ l. l.items) copy.items ≡ map (λ l. l.items) lists.now.items) }
-{
-    let mut copy = Vec::with_capacity(*lists.allocator(), lists.len())?;
-    for list in lists {
-        copy.push(Vec::from_slice(*lists.allocator(), list)?)?;
-    }
-    Ok(copy)
-}
-
 impl SetTable {
     /// A table without sets and lists.
     pub fn empty(alloc: Global) -> SetTable
@@ -185,9 +162,14 @@ impl SetTable {
     pub fn copy(&self) -> Result<SetTable, AllocError>
         ensures { IfOk result (λ copy. copy ≡ self.now) }
     {
-        Ok(SetTable {
-            sets: copied_sets(&self.sets)?,
-            lists: copied_lists(&self.lists)?,
-        })
+        let mut sets = Vec::with_capacity(*self.sets.allocator(), self.sets.len())?;
+        for set in &self.sets {
+            sets.push(set.copy()?)?;
+        }
+        let mut lists = Vec::with_capacity(*self.lists.allocator(), self.lists.len())?;
+        for list in &self.lists {
+            lists.push(Vec::from_slice(*self.lists.allocator(), list)?)?;
+        }
+        Ok(SetTable { sets, lists })
     }
 }

@@ -1,8 +1,8 @@
 //! The annotations of a class and its members.
 
 ghost use Rattle.std.specs.Prelude.{◌≡◌, All, IfOk, Some, map};
-ghost use Rattle.dexval.specs.Code.{set_of, directory_of, member_sets, member_lists};
-ghost use Rattle.dexval.specs.Shared.{sets_of_members, lists_of_members, shared_directory_of, HoldsItsPlaces};
+ghost use Rattle.dexval.specs.Code.{set_of, directory_of, member_sets};
+ghost use Rattle.dexval.specs.Shared.{sets_of_members, shared_directory_of, HoldsItsPlaces};
 ghost use Rattle.dexval.specs.Tables.{IsPlaceIn, set_at, sets_at};
 
 use crate::{AnnotationSet, SetTable};
@@ -95,24 +95,6 @@ impl SetTable {
         }
         Ok(copies)
     }
-
-    // Members with their lists of sets instead of the places.
-    fn copied_lists(
-        &self,
-        members: &Members<u32>,
-    ) -> Result<Members<Vec<AnnotationSet>>, AllocError>
-        requires { All (λ e. IsPlaceIn self.now.lists (Some e.1)) members.now.items }
-        ensures { IfOk result (λ copies. lists_of_members self.now members.now.items
-            ≡ member_lists copies.items) }
-    {
-        let alloc = *members.allocator();
-        let mut copies = Vec::with_capacity(alloc, members.len())?;
-        for member in members {
-            let sets = self.copied_list(alloc, member.1)?;
-            copies.push((member.0, sets))?;
-        }
-        Ok(copies)
-    }
 }
 
 impl SharedDirectory {
@@ -123,11 +105,17 @@ impl SharedDirectory {
         requires { HoldsItsPlaces self.now }
         ensures { IfOk result (λ directory. directory_of directory ≡ shared_directory_of self.now) }
     {
+        let alloc = *self.parameters.allocator();
+        let mut parameters = Vec::with_capacity(alloc, self.parameters.len())?;
+        for member in &self.parameters {
+            let sets = self.table.copied_list(alloc, member.1)?;
+            parameters.push((member.0, sets))?;
+        }
         Ok(Directory {
-            own: self.table.copied_set(*self.fields.allocator(), self.own)?,
+            own: self.table.copied_set(alloc, self.own)?,
             fields: self.table.copied_sets(&self.fields)?,
             methods: self.table.copied_sets(&self.methods)?,
-            parameters: self.table.copied_lists(&self.parameters)?,
+            parameters,
         })
     }
 }

@@ -6,11 +6,9 @@ use Rattle.dexval.proofs.+visiting.Goals as goal
 
 pub value::EncodedAnnotation::visit-loop-element-preserved : goal.value::EncodedAnnotation::visit-loop-element-preserved
 value::EncodedAnnotation::visit-loop-element-preserved g t c =
-    let same = c.deref-element-items.ensures.value in
-    let i = c.loop-element.element-index in
-    let seen = subst (λ (xs : List Element). FoldsTo g.V.Visitor.step c.symbol.new.self (flat_map part_uses (take i xs)) c.loop-element.visitor) (sym same) c.loop-element.invariant in
-    subst (λ (xs : List Element). FoldsTo g.V.Visitor.step c.symbol.new.self (flat_map part_uses (take (i + 1) xs)) c.visit.new.visitor) same
-    (visited_more g.V.Visitor.step part_uses c.deref-element-items.result.now i c.element-item.result c.element-item.result c.symbol.new.self c.loop-element.visitor c.visit.new.visitor c.loop-element-test.true c.element-item.is seen c.visit.ensures)
+    let seen = subst (λ (xs : List Element). FoldsTo g.V.Visitor.step c.symbol.new.self (flat_map part_uses (take c.loop-element.element-index xs)) c.loop-element.visitor) (sym c.deref-element-items.ensures.value) c.loop-element.invariant in
+    subst (λ (xs : List Element). FoldsTo g.V.Visitor.step c.symbol.new.self (flat_map part_uses (take (c.loop-element.element-index + 1) xs)) c.visit.new.visitor) c.deref-element-items.ensures.value
+    (visited_more g.V.Visitor.step part_uses c.deref-element-items.result.now c.loop-element.element-index c.element-item.result c.element-item.result c.symbol.new.self c.loop-element.visitor c.visit.new.visitor c.loop-element-test.true c.element-item.is seen c.visit.ensures)
 
 pub value::EncodedAnnotation::visit-returns : goal.value::EncodedAnnotation::visit-returns
 value::EncodedAnnotation::visit-returns g t c =

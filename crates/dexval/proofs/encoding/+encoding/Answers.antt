@@ -20,12 +20,10 @@ encode_array-returns g t c =
 pub encode_annotation-loop-element-preserved : goal.encode_annotation-loop-element-preserved
 encode_annotation-loop-element-preserved g t c =
     let d = c.element-item.result in
-    let same = c.deref-element-items.ensures.value in
-    let i = c.loop-element.element-index in
     let start = c.encode_count.new.out in
-    let given = subst (λ (xs : List Element). g.O.Output.gives (flat_map element_spelled (take i xs)) start c.loop-element.out) (sym same) c.loop-element.invariant in
-    subst (λ (xs : List Element). g.O.Output.gives (flat_map element_spelled (take (i + 1) xs)) start c.encode_value.new.out) same
-    (given_more g.O.Output.gives g.met.O.Output.both element_spelled c.deref-element-items.result.now i d start c.loop-element.out c.encode_value.new.out c.loop-element-test.true given
+    let given = subst (λ (xs : List Element). g.O.Output.gives (flat_map element_spelled (take c.loop-element.element-index xs)) start c.loop-element.out) (sym c.deref-element-items.ensures.value) c.loop-element.invariant in
+    subst (λ (xs : List Element). g.O.Output.gives (flat_map element_spelled (take (c.loop-element.element-index + 1) xs)) start c.encode_value.new.out) c.deref-element-items.ensures.value
+    (given_more g.O.Output.gives g.met.O.Output.both element_spelled c.deref-element-items.result.now c.loop-element.element-index d start c.loop-element.out c.encode_value.new.out c.loop-element-test.true given
     (subst (λ (e : Element). g.O.Output.gives (element_spelled e) c.loop-element.out c.encode_value.new.out) c.element-item.is (g.met.O.Output.both (uleb128 d.name) (numbered_bytes (value_of d.value)) c.loop-element.out c.uleb-in-loop-element.new.self c.encode_value.new.out c.uleb-in-loop-element.ensures c.encode_value.ensures)))
 
 pub encode_annotation-returns : goal.encode_annotation-returns

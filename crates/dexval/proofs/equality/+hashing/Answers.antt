@@ -22,19 +22,16 @@ hash_values-returns g t c =
 
 pub hash_encoded-loop-element-preserved : goal.hash_encoded-loop-element-preserved
 hash_encoded-loop-element-preserved g t c =
-    let same = c.deref-element-items.ensures.value in
-    let i = c.loop-element.element-index in
     let start = c.hash-2.new.state in
-    let fed_so = subst (λ (xs : List Element). c.loop-element.state ≡ fold g.H.Hasher.write start (flat_map element_fed (take i xs))) (sym same) c.loop-element.invariant in
-    subst (λ (xs : List Element). c.hash_value.new.state ≡ fold g.H.Hasher.write start (flat_map element_fed (take (i + 1) xs))) same
-    (fed_more g.H.Hasher.write element_fed [] c.deref-element-items.result.now i c.element-item.result start c.loop-element.state c.hash_value.new.state c.loop-element-test.true c.element-item.is fed_so
+    let fed_so = subst (λ (xs : List Element). c.loop-element.state ≡ fold g.H.Hasher.write start (flat_map element_fed (take c.loop-element.element-index xs))) (sym c.deref-element-items.ensures.value) c.loop-element.invariant in
+    subst (λ (xs : List Element). c.hash_value.new.state ≡ fold g.H.Hasher.write start (flat_map element_fed (take (c.loop-element.element-index + 1) xs))) c.deref-element-items.ensures.value
+    (fed_more g.H.Hasher.write element_fed [] c.deref-element-items.result.now c.loop-element.element-index c.element-item.result start c.loop-element.state c.hash_value.new.state c.loop-element-test.true c.element-item.is fed_so
     (fed.fed_then g.H.Hasher.write c.loop-element.state c.hash-in-loop-element.new.state c.hash_value.new.state (fed.u32 c.element-item.result.name) (value_fed c.element-item.result.value) c.hash-in-loop-element.ensures c.hash_value.ensures))
 
 pub hash_encoded-returns : goal.hash_encoded-returns
 hash_encoded-returns g t c =
-    let same = c.deref-element-items.ensures.value in
     let seen = c.deref-element-items.result.now in
     let start = c.hash-2.new.state in
-    let before = subst (λ (xs : List Element). c.loop-element.state ≡ fold g.H.Hasher.write start (flat_map element_fed (take c.loop-element.element-index xs))) (sym same) c.loop-element.invariant in
+    let before = subst (λ (xs : List Element). c.loop-element.state ≡ fold g.H.Hasher.write start (flat_map element_fed (take c.loop-element.element-index xs))) (sym c.deref-element-items.ensures.value) c.loop-element.invariant in
     let all = fed_all g.H.Hasher.write element_fed [] seen c.loop-element.element-index start c.loop-element.state c.loop-element-test.false before in
-    encoded_parts g.H.Hasher.write c.args.annotation.now c.len.result c.args.state.now c.hash.new.state start c.loop-element.state same (c.len.ensures ∙ sym c.deref-element-items.ensures.len) c.hash.ensures c.hash-2.ensures (fed.fed_along g.H.Hasher.write start c.loop-element.state (elements_are_fed seen) all)
+    encoded_parts g.H.Hasher.write c.args.annotation.now c.len.result c.args.state.now c.hash.new.state start c.loop-element.state c.deref-element-items.ensures.value (c.len.ensures ∙ sym c.deref-element-items.ensures.len) c.hash.ensures c.hash-2.ensures (fed.fed_along g.H.Hasher.write start c.loop-element.state (elements_are_fed seen) all)

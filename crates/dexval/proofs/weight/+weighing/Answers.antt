@@ -4,12 +4,10 @@ use Rattle.dexval.proofs.weight.+weighing.Goals as goal
 
 pub annotation_weight-loop-element-preserved : goal.annotation_weight-loop-element-preserved
 annotation_weight-loop-element-preserved t c =
-    let same = c.deref-element-items.ensures.value in
-    let i = c.loop-element.element-index in
     let seen = c.deref-element-items.result.now in
-    let before = subst (λ (xs : List Element). c.loop-element.weight ≡ min (2 ^ 64 - 1) (12 + sum_by element_weighs (take i xs))) (sym same) c.loop-element.invariant in
-    subst (λ (xs : List Element). c.saturating_add-weight.result ≡ min (2 ^ 64 - 1) (12 + sum_by element_weighs (take (i + 1) xs))) same
-    (omega (arith, sum_by_more element_weighs seen i c.element-item.result c.loop-element-test.true, ap element_weighs c.element-item.is, before, c.saturating_add.ensures, c.saturating_add-weight.ensures, c.value_weight-value.ensures))
+    let before = subst (λ (xs : List Element). c.loop-element.weight ≡ min (2 ^ 64 - 1) (12 + sum_by element_weighs (take c.loop-element.element-index xs))) (sym c.deref-element-items.ensures.value) c.loop-element.invariant in
+    subst (λ (xs : List Element). c.saturating_add-weight.result ≡ min (2 ^ 64 - 1) (12 + sum_by element_weighs (take (c.loop-element.element-index + 1) xs))) c.deref-element-items.ensures.value
+    (omega (arith, sum_by_more element_weighs seen c.loop-element.element-index c.element-item.result c.loop-element-test.true, ap element_weighs c.element-item.is, before, c.saturating_add.ensures, c.saturating_add-weight.ensures, c.value_weight-value.ensures))
 
 pub annotation_weight-returns : goal.annotation_weight-returns
 annotation_weight-returns t c =

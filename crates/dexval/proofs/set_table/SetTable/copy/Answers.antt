@@ -5,18 +5,16 @@ use Rattle.dexval.proofs.set_table.SetTable.copy.Goals as goal
 pub loop-set-preserved : goal.loop-set-preserved
 loop-set-preserved c =
     let ys = c.self.inside.sets.items in
-    let i = c.loop-set.set-index in
     let view : map set_of ys ≡ c.args.self.now.sets = ap (λ (t : NumberedTable). t.sets) c.self.view_is in
-    copied_more set_of set_of ys c.deref-set-items.result.now c.deref-set-items.ensures.value c.loop-set.sets.items c.push.new.self.items i c.in_ok-copy.field-0 c.set-item.result c.loop-set-test.true c.set-item.is (c.loop-set.invariant ∙ sym (seen_so set_of ys i view)) c.in_ok-push.ensures.items c.in_ok-copy.ensures
-    ∙ seen_so set_of ys (i + 1) view
+    copied_more set_of set_of ys c.deref-set-items.result.now c.deref-set-items.ensures.value c.loop-set.sets.items c.push.new.self.items c.loop-set.set-index c.in_ok-copy.field-0 c.set-item.result c.loop-set-test.true c.set-item.is (c.loop-set.invariant ∙ sym (seen_so set_of ys c.loop-set.set-index view)) c.in_ok-push.ensures.items c.in_ok-copy.ensures
+    ∙ seen_so set_of ys (c.loop-set.set-index + 1) view
 
 pub loop-list-preserved : goal.loop-list-preserved
 loop-list-preserved c =
     let ys = c.self.inside.lists.items in
-    let i = c.loop-list.list-index in
     let view : map (λ v. v.items) ys ≡ c.args.self.now.lists = ap (λ (t : NumberedTable). t.lists) c.self.view_is in
-    copied_more (λ v. v.items) (λ v. v.items) ys c.deref-list-items.result.now c.deref-list-items.ensures.value c.loop-list.lists.items c.push-in-loop-list.new.self.items i c.in_ok-from_slice.field-0 c.list-item.result c.loop-list-test.true c.list-item.is (c.loop-list.invariant ∙ sym (seen_so (λ v. v.items) ys i view)) c.in_ok-push-2.ensures.items (c.in_ok-from_slice.ensures.items ∙ c.deref.ensures.value)
-    ∙ seen_so (λ v. v.items) ys (i + 1) view
+    copied_more (λ v. v.items) (λ v. v.items) ys c.deref-list-items.result.now c.deref-list-items.ensures.value c.loop-list.lists.items c.push-in-loop-list.new.self.items c.loop-list.list-index c.in_ok-from_slice.field-0 c.list-item.result c.loop-list-test.true c.list-item.is (c.loop-list.invariant ∙ sym (seen_so (λ v. v.items) ys c.loop-list.list-index view)) c.in_ok-push-2.ensures.items (c.in_ok-from_slice.ensures.items ∙ c.deref.ensures.value)
+    ∙ seen_so (λ v. v.items) ys (c.loop-list.list-index + 1) view
 
 pub returns : goal.returns
 returns c =

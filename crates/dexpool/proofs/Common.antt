@@ -38,13 +38,13 @@ pub use Rattle.dexspec.specs.Weight.{mentions_weight, proto_weight, text_weight}
 pub use Rattle.dexstr.specs.Units.{IsAscii}
 pub use Rattle.std.specs.FinMap.{IsAntisymmetric}
 pub use Rattle.dexpool.specs.{AllMapTo, AllRanksGrow, AllTypes, AreAll, AreFields, AreMarkedToo, AreMarksOf, AreMethodNames, AreMethods, AreNames, ArePools, AreProtos, AreRising, AreTables, AreTexts, AreTypes, DenotesField, DenotesMethod, DenotesProto, FieldRowAt, HasFieldNumbers, HasFieldParts, HasIndices, HasMark, HasMethodNumbers, HasMethodParts, HasProtoParts, HasRoom, HasSpan, IsAt, IsFault, IsFieldRow, IsListed, IsMapped, IsMappedUse, IsMarkedUse, IsMethodRow, IsNumbered, IsNumbering, IsOfKind, IsParameter, IsPlaced, IsPoolRefusal, IsProtoEntry, IsText, IsType, IsTypeNumber, IsTypeOf, IsUseOf, KeepsOrder, Maps, MapsAll, MapsDown, MapsMarked, MapsTo, MapsUse, MapsWithin, MethodRowAt, ProtoRowAt, RanksAreNumbers, RanksArePlaces, RanksGrow, ReadTo, TypeRowAt, Use, count_of, field_key, field_of, file_numbers, image, image_in, is_above_last, kept, letters_of, listed, marked, marks_of, method_key, method_of, occurs, places, proto_at, proto_of, same_kind, span_of, stored_field, stored_method, stored_proto, stored_type, symbols_in, symbols_of, text_of, type_cmp, type_of, union_of}
-pub use Rattle.dexpool.specs.declared.checked_lists.CheckedList.{CheckedList}
+pub use Rattle.dexpool.specs.declared.protos.CheckedList.{CheckedList}
 pub use Rattle.dexpool.specs.declared.marks.Marks.{Marks}
 pub use Rattle.dexpool.specs.declared.rows.ProtoEntry.{ProtoEntry}
 pub use Rattle.dexpool.specs.declared.rows.Span.{Span}
 pub use Rattle.dexpool.specs.declared.symbols.SymbolKind.{SymbolKind}
-pub use Rattle.dexpool.specs.declared.tables.Tables.{Tables}
-pub use Rattle.dexpool.specs.internal.CheckedLists.{AreLetters, IsChecked, IsLetter, IsNotVoid, IsShorty, IsSpelled, NoVoid, NotListedAs, SpellNumbers, letter_in, letters_in}
+pub use Rattle.dexpool.specs.declared.numbering.Tables.{Tables}
+pub use Rattle.dexpool.specs.internal.CheckedLists.{AreLetters, IsChecked, IsLetter, IsNotVoid, AreThese, IsSpelled, NoVoid, NotListedAs, SpellNumbers, letter_in, letters_in}
 pub use Rattle.dexpool.specs.internal.Closing.{AreClosed, AreClosure, HasMarkedEntry, HasMarkedField, HasMarkedMethod, IsCut, IsMarked, entry_types, field_types, kept_places, kept_symbols, mark_all, new_numbers, number_or_none}
 pub use Rattle.dexpool.specs.internal.Joining.{AreJoinedFields, AreJoinedMethods, AreJoinedProtos, AreJoinedTexts, AreJoinedTypes, AreMapsOf, Denote, HasShorty, IsRowOf, IsUnion, Moves, lists_in, numberings_of, proto_of_row, HavePart, HaveSameParts, SameFrom, image_at, total_maps}
 pub use Rattle.dexpool.specs.internal.Marking.{HaveAllMarks}

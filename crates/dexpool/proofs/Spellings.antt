@@ -1,5 +1,5 @@
 -- Units that are the letters of numbers, one number after the other.
-use Rattle.dexpool.proofs.Common.{◌≡◌, ◌≢◌, ◌↔◌, ℕ, ◌+◌, ◌<◌, Bool, true, false, List, ◌∷◌, ◌-◌, ◌≤◌, not, length, get_or, take, drop, slice_index, ap, refl, subst, sym, ◌∙◌, arith, IsTrue, All, false≢true, drop_more, drop_all, take-map, drop-map, length-map, All-nil, All-cons, All-head, All-tail, All-map, all_seen, Span, span_of, HasSpan, letter_in, letters_in, IsNotVoid, IsLetter, SpellNumbers, IsSpelled, IsShorty}
+use Rattle.dexpool.proofs.Common.{◌≡◌, ◌≢◌, ◌↔◌, ℕ, ◌+◌, ◌<◌, Bool, true, false, List, ◌∷◌, ◌-◌, ◌≤◌, not, length, get_or, take, drop, slice_index, ap, refl, subst, sym, ◌∙◌, arith, IsTrue, All, false≢true, drop_more, drop_all, take-map, drop-map, length-map, All-nil, All-cons, All-head, All-tail, All-map, all_seen, Span, span_of, HasSpan, letter_in, letters_in, IsNotVoid, IsLetter, SpellNumbers, IsSpelled, AreThese}
 
 module _ (letters : List ℕ) where
   spell_first : (u n : ℕ) (us ns : List ℕ) → SpellNumbers letters (u ∷ us) (n ∷ ns) → IsLetter letters n u
@@ -40,13 +40,20 @@ span_letters letters ps s h = record { ordered = h.ordered; within = omega (arit
 pub part_letters : (letters ps : List ℕ) (s : Span) → span_of (letters_in letters ps) s ≡ letters_in letters (span_of ps s)
 part_letters letters ps s = ap (take (s.end - s.start)) (drop-map (letter_in letters) s.start ps) ∙ take-map (letter_in letters) (s.end - s.start) (drop s.start ps)
 
--- a text of these letters is one of the numbers that have them
-pub shorty_spelled : (letters text : List ℕ) (first : ℕ) (ns found : List ℕ) → found ≡ letters_in letters ns → (r : Bool) → (IsTrue r ↔ IsShorty found text first) → (IsTrue r ↔ IsSpelled letters text first ns)
-shorty_spelled letters text first ns found is r reported =
-    let here : IsTrue r ↔ IsShorty (letters_in letters ns) text first = subst (λ (l : List ℕ). IsTrue r ↔ IsShorty l text first) is reported in (
-      λ t. let s = here.0 t in record { text_is = s.text_is; no_void = all_seen (letter_in letters) IsNotVoid ns s.no_void },
-      λ s. here.1 (record { text_is = s.text_is; no_void = All-map IsNotVoid (letter_in letters) ns s.no_void }),
+-- units of these letters are those of the numbers that have them
+pub these_spelled : (letters units ns found : List ℕ) → found ≡ letters_in letters ns → (r : Bool) → (IsTrue r ↔ AreThese found units) → (IsTrue r ↔ SpellNumbers letters units ns)
+these_spelled letters units ns found is r reported =
+    let here : IsTrue r ↔ AreThese (letters_in letters ns) units = subst (λ (l : List ℕ). IsTrue r ↔ AreThese l units) is reported in (
+      λ t. let s = here.0 t in record { units_are = s.units_are; no_void = all_seen (letter_in letters) IsNotVoid ns (subst (All IsNotVoid) s.units_are s.no_void) },
+      λ s. here.1 (record { units_are = s.units_are; no_void = subst (All IsNotVoid) (sym s.units_are) (All-map IsNotVoid (letter_in letters) ns s.no_void) }),
     )
+
+-- after the first letter the rest decides
+pub spelled_after : (letters text rest ns : List ℕ) (unit first : ℕ) → text ≡ unit ∷ rest → unit ≡ first → (r : Bool) → (IsTrue r ↔ SpellNumbers letters rest ns) → (IsTrue r ↔ IsSpelled letters text first ns)
+spelled_after letters text rest ns unit first is same r reported = (
+  λ t. let s = reported.0 t in record { text_is = is ∙ (λ k. same k ∷ s.units_are k); no_void = s.no_void },
+  λ s. reported.1 (record { units_are = ap (λ (l : List ℕ). drop 1 l) (sym is ∙ s.text_is); no_void = s.no_void }),
+)
 
 -- ---- no void
 

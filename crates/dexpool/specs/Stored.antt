@@ -8,7 +8,7 @@ use Rattle.dexspec.specs.Symbols as symbols
 use Rattle.dexrows.specs.declared.fields.FieldRow.{FieldRow}
 use Rattle.dexrows.specs.declared.methods.MethodRow.{MethodRow}
 use Rattle.dexpool.specs.declared.rows.ProtoEntry.{ProtoEntry}
-use Rattle.dexpool.specs.declared.tables.Tables.{Tables}
+use Rattle.dexpool.specs.declared.numbering.Tables.{Tables}
 use Rattle.dexpool.specs.Tables.{text_of, type_of, span_of, type_cmp, proto_cmp, field_cmp, method_cmp, proto_of, field_of, method_of}
 use Rattle.dexpool.specs.Reading.{HasSpan}
 use Rattle.dexpool.specs.Pools.{symbols_of}

@@ -6,12 +6,12 @@ ghost use Rattle.dexpool.specs.Cut.{kept};
 ghost use Rattle.dexpool.specs.Numberings.{AreMarksOf};
 ghost use Rattle.dexpool.specs.Stored.{symbols_in, AreTables};
 ghost use Rattle.dexpool.specs.internal.Renumbering.{IsEntryWithin, IsFieldWithin};
-ghost use Rattle.dexpool.specs.internal.Closing.{mark_all, field_types, AreClosure, method_protos, protos_types, marked_types, marked_texts, HasMethodMarks};
+ghost use Rattle.dexpool.specs.internal.Closing.{mark_all, field_types, AreClosure, protos_types, HasMethodMarks};
 
 use crate::lists::Parameters;
 use crate::marks::Marks;
+use crate::numbering::Tables;
 use crate::rows::{ProtoEntry, Span};
-use crate::tables::Tables;
 use dexrows::{FieldRow, MethodRow, TypeNumbers};
 use std::alloc::AllocError;
 
@@ -50,27 +50,17 @@ fn mark_below(tables: &Tables<'_>, marks: &mut Marks)
     requires marks { AreMarksOf (symbols_in tables.now) marks.old }
     ensures { AreClosure tables.now marks.old marks.new }
 {
-    mark_by_methods(
-        &tables.methods,
-        &marks.methods,
-        &mut marks.strings,
-        &mut marks.types,
-        &mut marks.protos,
-    );
-    mark_by_fields(
-        &tables.fields,
-        &marks.fields,
-        &mut marks.strings,
-        &mut marks.types,
-    );
-    mark_by_protos(
-        &tables.protos,
-        &tables.parameters,
-        &marks.protos,
-        &mut marks.strings,
-        &mut marks.types,
-    );
-    mark_by_types(&tables.types, &marks.types, &mut marks.strings);
+    let Marks {
+        strings,
+        types,
+        protos,
+        fields,
+        methods,
+    } = marks;
+    mark_by_methods(&tables.methods, methods, strings, types, protos);
+    mark_by_fields(&tables.fields, fields, strings, types);
+    mark_by_protos(&tables.protos, &tables.parameters, protos, strings, types);
+    mark_by_types(&tables.types, types, strings);
 }
 
 // Marks the classes, names and protos of marked methods.

@@ -1,4 +1,4 @@
-//! Tables joined, one kind of symbol after the other: the rows of each part are renumbered by the images of the
+//! Numberings joined, one kind of symbol after the other: the rows of each part are renumbered by the images of the
 //! kinds below them, in which they rise still, and then joined.
 
 ghost use Rattle.std.specs.Prelude.{◌≡◌, ℕ, ◌+◌, ◌<◌, length, map, All, IfOk, OnOk, Some};
@@ -6,29 +6,46 @@ ghost use Rattle.dexrows.specs.Join.{AreSorted};
 ghost use Rattle.dexpool.specs.Numberings.{IsNumbering, union_of, PartsMapTo};
 ghost use Rattle.dexpool.specs.Orderly.{KeepOrder};
 ghost use Rattle.dexpool.specs.internal.Renumbering.{numbers_in, HasSpans};
-ghost use Rattle.dexpool.specs.internal.Joining.{proto_key, JoinsRows, JoinsProtos, AreTextsOf, AreTypesOf, AreProtosOf, AreFieldsOf, AreMethodsOf, AreTablesOf, total_maps, HaveSameParts, HavePart, SameFrom, AreRemapsOf};
+ghost use Rattle.dexpool.specs.internal.Joining.{proto_key, JoinsRows, AreTextsOf, AreTypesOf, AreProtosOf, AreFieldsOf, AreMethodsOf, AreTablesOf, total_maps, HaveSameParts, HavePart, SameFrom, AreRemapsOf};
 ghost use Rattle.dexpool.specs.Stored.{symbols_in, AreTables};
+ghost use Rattle.std.specs.List.{AllZip};
+ghost use Rattle.dexpool.specs.Laws.{MapsAll};
 
-use crate::images::Images;
 use crate::lists::Parameters;
-use crate::numbering::Numbering;
+use crate::numbering::{Numbering, Tables};
 use crate::protos::Protos;
-use crate::remap::Remap;
+use crate::remap::{Images, Remap};
 use crate::renumbering::{
     descriptors, proto_rows, renumbered_protos, renumbered_rows, renumbered_types, sorted_law,
     stored,
 };
-use crate::tables::Tables;
 use dexrows::{FieldRow, Joined, LowerPlaces, MethodRow, ProtoRow, Row, TypeRow, join};
 use dexstr::{KeyedText, Text};
 use std::alloc::{AllocError, Global};
 use std::mem;
 
-/// The types of all parts, as the numbers of their texts.
-#[derive(Drop)]
-struct JoinedTypes {
-    numbers: Vec<usize>,
-    images: Vec<Vec<u32>>,
+impl<'a> Numbering<'a> {
+    /// Joins numberings: the symbols of all parts, and for each part where its numbers lead, which is
+    /// somewhere for each of them. Of k parts with n symbols in all it compares some n times log k rows, and
+    /// sorts nothing.
+    ///
+    /// Error: the memory for the tables and the maps was refused, or the parts have 2^32 symbols of a kind or more.
+    ///
+    /// Source: this project's rule; the orders are those of "string_id_item", "type_id_item", "proto_id_item",
+    /// "field_id_item" and "method_id_item".
+    pub fn join(
+        alloc: Global,
+        parts: &[&Numbering<'a>],
+    ) -> Result<(Numbering<'a>, Vec<Remap>), AllocError>
+        ensures union { IfOk result (λ joined.
+            joined.0 ≡ union_of (map (λ part. part.now) parts.now)) }
+        ensures maps { IfOk result (λ joined. PartsMapTo parts.now joined.0 joined.1.items) }
+        ensures whole { IfOk result (λ joined.
+            AllZip MapsAll (map (λ part. part.now) parts.now) joined.1.items) }
+    {
+        let (tables, remaps) = join_tables(alloc, parts)?;
+        Ok((Numbering { tables }, remaps))
+    }
 }
 
 /// The protos of all parts.
@@ -76,7 +93,7 @@ pub(crate) fn join_tables<'a>(
     let remaps = images.remaps(alloc)?;
     let tables = Tables {
         strings: strings.rows,
-        types: types.numbers,
+        types: types.rows,
         protos: protos.table.rows,
         parameters: Parameters::own(protos.table.parameters),
         fields: fields.rows,
@@ -105,22 +122,14 @@ fn join_strings<'a>(alloc: Global, parts: &[&Numbering<'a>]) -> Result<Joined<Te
 fn keyed_texts<'a>(alloc: Global, texts: &[Text<'a>]) -> Result<Vec<KeyedText<'a>>, AllocError>
     ensures { IfOk result (λ keyed. keyed.items ≡ texts.now) }
 {
-    let mut keyed = Vec::with_capacity(alloc, texts.len())?;
-    for text in texts {
-        keyed.push(KeyedText::of(text))?;
-    }
-    Ok(keyed)
+    texts.iter().map(|text| KeyedText::of(text)).collect(alloc)
 }
 
 // The texts without their keys.
 fn plain_texts<'a>(alloc: Global, keyed: &[KeyedText<'a>]) -> Result<Vec<Text<'a>>, AllocError>
     ensures { IfOk result (λ texts. texts.items ≡ keyed.now) }
 {
-    let mut texts = Vec::with_capacity(alloc, keyed.len())?;
-    for text in keyed {
-        texts.push(text.text())?;
-    }
-    Ok(texts)
+    keyed.iter().map(|text| text.text()).collect(alloc)
 }
 
 // The types of all parts, by the joined texts.
@@ -128,7 +137,7 @@ fn join_types<'a>(
     alloc: Global,
     parts: &[&Numbering<'a>],
     strings: &Joined<Text<'a>>,
-) -> Result<JoinedTypes, AllocError>
+) -> Result<Joined<usize>, AllocError>
     requires numberings { All IsNumbering (map (λ part. part.now) parts.now) }
     requires strings { AreTextsOf parts.now strings.now }
     ensures { IfOk result (AreTypesOf parts.now strings.now) }
@@ -139,8 +148,8 @@ fn join_types<'a>(
         rows.push(renumbered_types(alloc, &part.tables().types, &strings.images[i])?)?;
     }
     let joined = join_rows(alloc, &rows)?;
-    Ok(JoinedTypes {
-        numbers: descriptors(alloc, &joined.rows)?,
+    Ok(Joined {
+        rows: descriptors(alloc, &joined.rows)?,
         images: joined.images,
     })
 }
@@ -150,7 +159,7 @@ fn join_protos<'a>(
     alloc: Global,
     parts: &[&Numbering<'a>],
     strings: &Joined<Text<'a>>,
-    types: &JoinedTypes,
+    types: &Joined<usize>,
 ) -> Result<JoinedProtos, AllocError>
     requires numberings { All IsNumbering (map (λ part. part.now) parts.now) }
     requires strings { AreTextsOf parts.now strings.now }
@@ -159,7 +168,12 @@ fn join_protos<'a>(
 {
     let tables = renumbered_tables(alloc, parts, strings, types)?;
     let rows = rows_of_tables(alloc, &tables)?;
-    joined_protos(alloc, &rows)
+    let joined = join_rows(alloc, &rows)?;
+    let table = stored(alloc, &joined.rows)?;
+    Ok(JoinedProtos {
+        table,
+        images: joined.images,
+    })
 }
 
 // The protos of each part, by the joined texts and types.
@@ -167,7 +181,7 @@ fn renumbered_tables<'a>(
     alloc: Global,
     parts: &[&Numbering<'a>],
     strings: &Joined<Text<'a>>,
-    types: &JoinedTypes,
+    types: &Joined<usize>,
 ) -> Result<Vec<Protos>, AllocError>
     requires numberings { All IsNumbering (map (λ part. part.now) parts.now) }
     requires strings { AreTextsOf parts.now strings.now }
@@ -193,20 +207,6 @@ fn renumbered_tables<'a>(
     Ok(tables)
 }
 
-// The rows of protos of each part, which are sorted, joined in one table.
-fn joined_protos(alloc: Global, parts: &[Vec<ProtoRow<'_>>]) -> Result<JoinedProtos, AllocError>
-    requires { All (λ part. AreSorted proto_key part.items) parts.now }
-    ensures spans { IfOk result (λ protos. HasSpans protos.table) }
-    ensures joined { IfOk result (JoinsProtos parts.now) }
-{
-    let joined = join_rows(alloc, parts)?;
-    let table = stored(alloc, &joined.rows)?;
-    Ok(JoinedProtos {
-        table,
-        images: joined.images,
-    })
-}
-
 // The rows of each table of protos.
 fn rows_of_tables(alloc: Global, tables: &[Protos]) -> Result<Vec<Vec<ProtoRow<'_>>>, AllocError>
     requires { All HasSpans tables.now }
@@ -225,7 +225,7 @@ fn join_fields<'a>(
     alloc: Global,
     parts: &[&Numbering<'a>],
     strings: &Joined<Text<'a>>,
-    types: &JoinedTypes,
+    types: &Joined<usize>,
 ) -> Result<Joined<FieldRow>, AllocError>
     requires numberings { All IsNumbering (map (λ part. part.now) parts.now) }
     requires strings { AreTextsOf parts.now strings.now }
@@ -251,7 +251,7 @@ fn join_methods<'a>(
     alloc: Global,
     parts: &[&Numbering<'a>],
     strings: &Joined<Text<'a>>,
-    types: &JoinedTypes,
+    types: &Joined<usize>,
     protos: &JoinedProtos,
 ) -> Result<Joined<MethodRow>, AllocError>
     requires numberings { All IsNumbering (map (λ part. part.now) parts.now) }

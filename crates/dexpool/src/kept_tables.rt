@@ -1,21 +1,75 @@
-//! Tables cut down to their marked rows: each table is cut in place, and the rows that are left are renumbered by the
+//! Numberings cut down to their marked rows: each table is cut in place, and the rows that are left are renumbered by the
 //! places of the rows below them.
 
-ghost use Rattle.std.specs.Prelude.{◌≡◌, length, IfOk};
-ghost use Rattle.dexpool.specs.declared.tables.Tables.{Tables};
+ghost use Rattle.std.specs.Prelude.{◌≡◌, length, IfOk, ◌≢◌, IfSome, IfNone};
+ghost use Rattle.dexpool.specs.declared.numbering.Tables.{Tables};
 ghost use Rattle.dexpool.specs.Cut.{kept, places};
-ghost use Rattle.dexpool.specs.Numberings.{AreMarksOf};
+ghost use Rattle.dexpool.specs.Numberings.{AreMarksOf, marked, AllMapTo};
 ghost use Rattle.dexpool.specs.Stored.{symbols_in, AreTables};
 ghost use Rattle.dexpool.specs.internal.Closing.{AreClosed, AreMarkedRows, AreKept, IsCut, kept_places};
+ghost use Rattle.dexspec.specs.Mentions.{closed};
+ghost use Rattle.dexpool.specs.Orderly.{MapsDown};
+ghost use Rattle.dexpool.specs.Uses.{MapsMarked};
 
-use crate::images::Images;
+use crate::closing::closed;
 use crate::lists::Parameters;
 use crate::marks::Marks;
-use crate::remap::Remap;
+use crate::numbering::{Numbering, Tables};
+use crate::remap::{Images, Remap};
 use crate::renumbering::{renumbered_numbers, renumbered_protos, renumbered_rows, sorted_law};
-use crate::tables::Tables;
 use dexrows::{FieldRow, LowerPlaces, MethodRow, ProtoRow, Row, TypeRow};
 use std::alloc::{AllocError, Global};
+
+impl<'a> Numbering<'a> {
+    /// Keeps the symbols that are marked, and those that they name. Returns them with the map of the numbers: a number
+    /// has an image exactly if its symbol is kept, as each marked one is, and no image is greater than its number.
+    ///
+    /// Condition: there is a mark for each symbol.
+    ///
+    /// Source: this project's rule, that a file has the symbols that its classes mention and no others.
+    pub fn keep(&self, alloc: Global, marks: &Marks) -> Result<(Numbering<'a>, Remap), AllocError>
+        requires { AreMarksOf self.now marks.now }
+        ensures kept { IfOk result (λ cut. cut.0 ≡ closed (marked self.now marks.now)) }
+        ensures map { IfOk result (λ cut. AllMapTo self.now cut.0 cut.1) }
+        ensures marked { IfOk result (λ cut. MapsMarked marks.now cut.1) }
+        ensures down { IfOk result (λ cut. MapsDown cut.1) }
+    {
+        let tables = self.tables();
+        let marks = closed(tables, marks)?;
+        let rows = marked_copies(alloc, tables, &marks)?;
+        let (tables, remap) = renumbered(alloc, rows, marks)?;
+        Ok((Numbering { tables }, remap))
+    }
+
+    /// Keeps what [`keep`](Numbering::keep) keeps of a numbering that is given up. Where that is every symbol, the
+    /// numbering is returned as it is, with no map, since no number changes.
+    ///
+    /// Condition: there is a mark for each symbol.
+    ///
+    /// Source: this project's rule, that a file has the symbols that its classes mention and no others.
+    pub fn into_kept(
+        self,
+        alloc: Global,
+        marks: &Marks,
+    ) -> Result<(Numbering<'a>, Option<Remap>), AllocError>
+        requires { AreMarksOf self marks.now }
+        ensures kept { IfOk result (λ cut. cut.0 ≡ closed (marked self.entry marks.now)) }
+        ensures whole { IfOk result (λ cut. IfNone cut.1 (cut.0 ≡ self.entry)) }
+        ensures less { IfOk result (λ cut. IfSome cut.1 (λ remap. cut.0 ≢ self.entry)) }
+        ensures map { IfOk result (λ cut. IfSome cut.1 (AllMapTo self.entry cut.0)) }
+        ensures marked { IfOk result (λ cut. IfSome cut.1 (MapsMarked marks.now)) }
+        ensures down { IfOk result (λ cut. IfSome cut.1 MapsDown) }
+    {
+        let tables = self.into_tables();
+        let closed = closed(&tables, marks)?;
+        if closed.are_all() {
+            return Ok((Numbering { tables }, None));
+        }
+        let rows = marked_rows(tables, &closed);
+        let (tables, remap) = renumbered(alloc, rows, closed)?;
+        Ok((Numbering { tables }, Some(remap)))
+    }
+}
 
 /// The marked rows by their old numbers, where what a marked row names is marked.
 pub(crate) fn marked_rows<'a>(tables: Tables<'a>, marks: &Marks) -> Tables<'a>

@@ -17,10 +17,7 @@ const ARRAY: u16 = 0x5b;
 fn first(text: &Text<'_>) -> u16
     ensures { result ≡ first_of text.now }
 {
-    match text.units().next() {
-        Some(unit) => unit,
-        None => 0,
-    }
+    text.units().next().unwrap_or(0)
 }
 
 /// Returns whether the type is a class.
@@ -38,10 +35,7 @@ pub(crate) fn is_value(descriptor: &Text<'_>) -> bool
     requires { IsDescriptor descriptor.now }
     ensures { IsTrue result ↔ IsValueType descriptor.now }
 {
-    if first(descriptor) == VOID {
-        return false;
-    }
-    true
+    first(descriptor) != VOID
 }
 
 /// Returns whether the type is a class or an array.

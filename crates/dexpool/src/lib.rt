@@ -9,20 +9,15 @@
 //! "type_id_item", "proto_id_item", "field_id_item", "method_id_item" and "type_list".
 #![tactic(auto)]
 
-mod checked_lists;
 mod closing;
 mod faults;
-mod fields;
-mod images;
 mod joined_tables;
-mod joining;
-mod keeping;
 mod kept_tables;
 mod kinds;
 mod laws;
 mod lists;
 mod marks;
-mod methods;
+mod members;
 mod names;
 mod numbering;
 mod parameters;
@@ -33,11 +28,9 @@ mod reading;
 mod remap;
 mod renumbering;
 mod rows;
-mod shared_lists;
 mod shorties;
 mod strings;
 mod symbols;
-mod tables;
 mod types;
 mod visiting;
 mod weight;

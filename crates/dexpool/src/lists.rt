@@ -71,16 +71,6 @@ fn compare_numbers(left: &[u8], right: &[u8]) -> Ordering
     left_count.cmp(&right_count)
 }
 
-// How two parts of the numbers that bytes encode compare.
-fn compare_parts(bytes: &[u8], left: Span, right: Span) -> Ordering
-    requires left { HasSpan (file_numbers bytes.now) left }
-    requires right { HasSpan (file_numbers bytes.now) right }
-    ensures { result ≡ key_cmp (span_of (file_numbers bytes.now) left)
-        (span_of (file_numbers bytes.now) right) }
-{
-    compare_numbers(file_part(bytes, left), file_part(bytes, right))
-}
-
 impl<'a> Parameters<'a> {
     /// The numbers that the bytes of a file encode, two bytes for each.
     pub(crate) fn of_file(bytes: &'a [u8]) -> Parameters<'a>
@@ -121,7 +111,7 @@ impl<'a> Parameters<'a> {
         ensures { result ≡ key_cmp (span_of self.now left) (span_of self.now right) }
     {
         if let Kept::File(bytes) = &self.kept {
-            return compare_parts(bytes, left, right);
+            return compare_numbers(file_part(bytes, left), file_part(bytes, right));
         }
         self.part(left).compare(&self.part(right))
     }
@@ -132,10 +122,7 @@ impl<'a> Parameters<'a> {
     {
         match &self.kept {
             Kept::File(bytes) => Ok(Parameters::of_file(bytes)),
-            Kept::Own(numbers) => Ok(Parameters::own(Vec::from_slice(
-                *numbers.allocator(),
-                numbers,
-            )?)),
+            Kept::Own(numbers) => Ok(Parameters::own(numbers.clone()?)),
         }
     }
 }

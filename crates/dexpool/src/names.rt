@@ -35,10 +35,8 @@ impl<'p, 'a> Names<'p, 'a> {
         ensures { MatchOption result (NoFileType self.now index) (λ t.
             IsFileType self.now index t.now) }
     {
-        if self.types.len() <= index {
-            return None;
-        }
-        Some(&self.strings[self.types[index]])
+        let text = self.types.get(index)?;
+        Some(&self.strings[*text])
     }
 }
 

@@ -1,4 +1,5 @@
-//! Numberings: symbols, each with the number of its place in the order of its kind.
+//! Numberings: symbols, each with the number of its place in the order of its kind. A numbering has five tables, each
+//! sorted, whose rows are numbers of rows below them.
 
 ghost use Rattle.std.specs.Prelude.{◌≡◌, ◌<◌, ℕ, List, length, slice_index_or, IfOk, []};
 ghost use Rattle.dexspec.specs.Symbols.{Proto, Field, Method};
@@ -7,12 +8,24 @@ ghost use Rattle.dexpool.specs.Numberings.{IsAt, IsNumbering, DenotesProto, Deno
 
 use crate::lists::Parameters;
 use crate::pools::Pools;
+use crate::rows::ProtoEntry;
 use crate::symbols::SymbolKind;
-use crate::tables::Tables;
 use dexrows::{FieldRow, MethodRow, ProtoRow};
 use dexstr::Text;
 use std::alloc::{AllocError, Global};
 use std::marker::Model;
+
+/// The five tables. A type is the number of its text.
+#[derive(Drop)]
+pub struct Tables<'a> {
+    pub(crate) strings: Vec<Text<'a>>,
+    pub(crate) types: Vec<usize>,
+    pub(crate) protos: Vec<ProtoEntry>,
+    // The types of all parameters.
+    pub(crate) parameters: Parameters<'a>,
+    pub(crate) fields: Vec<FieldRow>,
+    pub(crate) methods: Vec<MethodRow>,
+}
 
 /// Five sets of symbols: texts, types, protos, fields and methods. What a symbol names is there too. Each symbol
 /// has a number, its place in the order of its kind, from 0 on. Contracts see five lists of symbols.
@@ -194,9 +207,5 @@ impl<'a> Numbering<'a> {
 fn copied<'a>(alloc: Global, texts: &[Text<'a>]) -> Result<Vec<Text<'a>>, AllocError>
     ensures { IfOk result (λ copy. copy.items ≡ texts.now) }
 {
-    let mut copy = Vec::with_capacity(alloc, texts.len())?;
-    for text in texts {
-        copy.push(text.clone())?;
-    }
-    Ok(copy)
+    texts.iter().map(|text| text.clone()).collect(alloc)
 }

@@ -1,25 +1,24 @@
 //! The five pools of a file.
 
-ghost use Rattle.std.specs.Prelude.{◌≡◌, ◌<◌, ℕ, List, length, slice_index_or, OnOk, IfOk, IfErr};
+ghost use Rattle.std.specs.Prelude.{◌≡◌, ◌<◌, length, slice_index_or, OnOk, IfOk, IfErr};
 ghost use Rattle.dexspec.specs.Accepted.{HoldBelow, IsFrame};
 ghost use Rattle.dexspec.specs.Symbols.{Proto, Field, Method};
 ghost use Rattle.dexpool.specs.Pools.{ArePools, count_of};
 ghost use Rattle.dexpool.specs.Reading.{AreNames, file_numbers};
 ghost use Rattle.dexpool.specs.internal.FileRows.{AreFileProtos, AreFileFields, AreFileMethods};
-ghost use Rattle.dexpool.specs.Numberings.{IsAt, IsNumbered, IsOfKind, IsNumbering, DenotesProto, DenotesField, DenotesMethod};
+ghost use Rattle.dexpool.specs.Numberings.{IsAt, IsNumbered, IsOfKind, DenotesProto, DenotesField, DenotesMethod};
 ghost use Rattle.dexpool.specs.Owned.{symbol_of};
 ghost use Rattle.dexpool.specs.Faults.{IsFault};
 
 use crate::faults::ReadFault;
 use crate::lists::Parameters;
-use crate::methods::MethodReader;
+use crate::members::MethodReader;
 use crate::names::Names;
-use crate::numbering::Numbering;
+use crate::numbering::{Numbering, Tables};
 use crate::protos::read_protos;
 use crate::reading::read_table;
 use crate::rows::ProtoEntry;
-use crate::symbols::{FieldSymbol, MethodSymbol, ProtoSymbol, Symbol, SymbolKind, type_name};
-use crate::tables::Tables;
+use crate::symbols::{Symbol, SymbolKind};
 use crate::types::TypeReader;
 use dexhead::Frame;
 use dexrows::{FieldRow, MethodRow, ProtoRow};
@@ -33,14 +32,6 @@ use std::marker::Model;
 #[derive(Drop)]
 pub struct Pools<'a> {
     numbering: Numbering<'a>,
-}
-
-// The protos, fields and methods, by row.
-#[derive(Drop)]
-struct Rows {
-    protos: Vec<ProtoEntry>,
-    fields: Vec<FieldRow>,
-    methods: Vec<MethodRow>,
 }
 
 impl<'a> Model for Pools<'a> {
@@ -77,16 +68,16 @@ impl<'a> Pools<'a> {
             types: &types,
         };
         let parameters = Parameters::of_file(frame.bytes());
-        let rows = read_rows(alloc, &names, &parameters)?;
+        let (protos, fields, methods) = read_rows(alloc, &names, &parameters)?;
         Ok(Pools {
             numbering: Numbering {
                 tables: Tables {
                     strings,
                     types,
-                    protos: rows.protos,
+                    protos,
                     parameters,
-                    fields: rows.fields,
-                    methods: rows.methods,
+                    fields,
+                    methods,
                 },
             },
         })
@@ -180,12 +171,10 @@ impl<'a> Pools<'a> {
         let i = i as usize;
         Ok(match kind {
             SymbolKind::Text => Symbol::Text(Name::of(alloc, &tables.strings[i])?),
-            SymbolKind::Typ => Symbol::Typ(type_name(alloc, tables, i)?),
-            SymbolKind::Proto => Symbol::Proto(ProtoSymbol::of(alloc, tables, &tables.protos[i])?),
-            SymbolKind::Field => Symbol::Field(FieldSymbol::of(alloc, tables, &tables.fields[i])?),
-            SymbolKind::Method => {
-                Symbol::Method(MethodSymbol::of(alloc, tables, &tables.methods[i])?)
-            }
+            SymbolKind::Typ => Symbol::Typ(tables.type_name(alloc, i)?),
+            SymbolKind::Proto => Symbol::Proto(tables.proto(alloc, &tables.protos[i])?),
+            SymbolKind::Field => Symbol::Field(tables.field(alloc, &tables.fields[i])?),
+            SymbolKind::Method => Symbol::Method(tables.method(alloc, &tables.methods[i])?),
         })
     }
 }
@@ -195,14 +184,14 @@ fn read_rows<'a>(
     alloc: Global,
     names: &Names<'_, 'a>,
     parameters: &Parameters<'a>,
-) -> Result<Rows, ReadFault>
+) -> Result<(Vec<ProtoEntry>, Vec<FieldRow>, Vec<MethodRow>), ReadFault>
     requires names { AreNames names.now.frame.now names.now.strings.now names.now.types.now }
     requires file { parameters.now ≡ file_numbers names.now.frame.now }
     requires before { HoldBelow 13 names.now.frame.now }
-    ensures protos { IfOk result (λ rows. AreFileProtos names.now rows.protos.items) }
-    ensures fields { IfOk result (λ rows. AreFileFields names.now rows.fields.items) }
+    ensures protos { IfOk result (λ rows. AreFileProtos names.now rows.0.items) }
+    ensures fields { IfOk result (λ rows. AreFileFields names.now rows.1.items) }
     ensures methods { IfOk result (λ rows.
-        AreFileMethods names.now rows.protos.items rows.methods.items) }
+        AreFileMethods names.now rows.0.items rows.2.items) }
     ensures below { OnOk result (HoldBelow 16 names.now.frame.now) }
     ensures err { IfErr result (IsFault names.now.frame.now) }
 {
@@ -214,11 +203,7 @@ fn read_rows<'a>(
         protos: &protos,
     };
     let methods = read_table(alloc, &reader, &mut known_names)?;
-    Ok(Rows {
-        protos,
-        fields,
-        methods,
-    })
+    Ok((protos, fields, methods))
 }
 
 // A frame meets the conditions before those of the pools.

@@ -1,15 +1,16 @@
-//! The pool of protos.
+//! The pool of protos. A long list of parameters is checked once however many rows share it, and lists that overlap are
+//! compared with letters that were looked up once.
 
-ghost use Rattle.std.specs.Prelude.{◌≡◌, ◌<◌, MatchOption, OnOk, IfOk, IfErr};
+ghost use Rattle.std.specs.Prelude.{◌≡◌, ◌<◌, OnOk, IfOk, IfErr, ◌↔◌, true, false, IsTrue};
 ghost use Rattle.dexspec.specs.Accepted.{HoldBelow};
 ghost use Rattle.dexspec.specs.Header.{ProtoIds, table_size};
-ghost use Rattle.dexspec.specs.Rows.{HasProto};
-ghost use Rattle.dexpool.specs.Tables.{span_of, proto_cmp};
-ghost use Rattle.dexpool.specs.Reading.{AreNames, HasIndices, HasSpan, ProtoRowAt, file_numbers};
-ghost use Rattle.dexpool.specs.internal.FileRows.{IsReader, IsFileProto, AreFileProtos, AreFileLists};
+ghost use Rattle.dexpool.specs.Tables.{span_of, proto_cmp, text_of};
+ghost use Rattle.dexpool.specs.Reading.{AreNames, HasIndices, HasSpan, ProtoRowAt, file_numbers, IsPlaced};
+ghost use Rattle.dexpool.specs.internal.FileRows.{IsReader, AreFileProtos, AreFileLists, IsFileList};
 ghost use Rattle.dexpool.specs.Faults.{IsFault};
+ghost use Rattle.dexstr.specs.Units.{IsAscii};
+ghost use Rattle.dexpool.specs.internal.CheckedLists.{IsSpelled, NotListedAs};
 
-use crate::checked_lists::{CheckedList, CheckedLists, ProtoReader};
 use crate::faults::ReadFault;
 use crate::kinds::letter;
 use crate::lists::Parameters;
@@ -17,10 +18,137 @@ use crate::names::Names;
 use crate::parameters::place_at;
 use crate::reading::{TableReader, read_table};
 use crate::rows::{ProtoEntry, Span};
-use crate::shorties::letters_of;
+use crate::shorties::{are_letters, are_these, letters_of, spelling};
 use dexhead::{Condition, Frame, Table, u32_at};
+use dexrows::TypeNumbers;
+use dexstr::Text;
 use std::alloc::{AllocError, Global};
 use std::cmp::Ordering;
+use std::collections::HashMap;
+
+// Lists that are not longer are checked again: it takes no longer than to look them up.
+const SHORT: usize = 16;
+
+/// A list that was checked: where it is, and a shorty that it goes with, by the number of its text and its first
+/// letter, that of the type that is returned.
+#[derive(Clone, Copy)]
+pub(crate) struct CheckedList {
+    pub(crate) span: Span,
+    pub(crate) shorty: usize,
+    pub(crate) letter: u16,
+}
+
+/// The lists of a file that were checked.
+#[derive(Drop)]
+pub(crate) struct CheckedLists {
+    // The long ones, by offset.
+    long: HashMap<u32, CheckedList>,
+    // How many numbers these have together.
+    count: usize,
+    // The letter of each number of the file, once that is more than the file has: then lists overlap.
+    letters: Option<Vec<u8>>,
+}
+
+/// Reads the rows of protos of a file whose texts and types are read.
+#[derive(Clone, Copy)]
+pub(crate) struct ProtoReader<'r, 'p, 'a> {
+    pub(crate) alloc: Global,
+    /// The texts and types.
+    pub(crate) names: &'r Names<'p, 'a>,
+    /// The letter of each type in shorties.
+    pub(crate) letters: &'r [u8],
+    /// All numbers of the file, of which each list of types is a part.
+    pub(crate) file: &'r Parameters<'a>,
+}
+
+impl<'r, 'p, 'a> ProtoReader<'r, 'p, 'a> {
+    // Returns whether the units are the letter of a list and then those of its types.
+    fn spells(&self, lists: &CheckedLists, units: &[u8], list: CheckedList) -> bool
+        requires reader { IsReader self.now }
+        requires lists { AreFileLists self.now lists.now }
+        requires span { HasSpan (file_numbers self.now.names.now.frame.now) list.span }
+        ensures { IsTrue result ↔ IsSpelled self.now.letters.now units.now list.letter
+            (span_of (file_numbers self.now.names.now.frame.now) list.span) }
+    {
+        let [first, rest @ ..] = units else {
+            return false;
+        };
+        if u16::from(*first) != list.letter {
+            return false;
+        }
+        match &lists.letters {
+            Some(letters) => are_these(list.span.of(letters), rest),
+            None => are_letters(self.letters, rest, &self.file.part(list.span)),
+        }
+    }
+
+    /// Returns whether types of values are listed at an offset, where there is a place for them, and their shorty is
+    /// the text of the number after the letter. A long list that passed this check is not checked again.
+    pub(crate) fn has_shorty(
+        &self,
+        lists: &CheckedLists,
+        off: u32,
+        checked: CheckedList,
+        text: &Text<'_>,
+    ) -> bool
+        requires reader { IsReader self.now }
+        requires lists { AreFileLists self.now lists.now }
+        requires placed { IsPlaced self.now.names.now.frame.now off checked.span }
+        requires text { text.now ≡ text_of self.now.names.now.strings.now checked.shorty }
+        requires letter { IsAscii checked.letter }
+        ensures yes { result ≡ true → IsFileList self.now.names.now off checked }
+        ensures no { result ≡ false
+            → NotListedAs self.now.names.now.frame.now off checked.letter text.now }
+    {
+        if let Some(known) = lists.long.get(&off) {
+            if known.shorty == checked.shorty && known.letter == checked.letter {
+                return true;
+            }
+        }
+        match text.ascii() {
+            Some(units) => self.spells(lists, units, checked),
+            None => false,
+        }
+    }
+
+    /// Notes a list that was checked, if it is long.
+    ///
+    /// Error: the memory for it was refused.
+    pub(crate) fn note(
+        &self,
+        lists: &mut CheckedLists,
+        off: u32,
+        checked: CheckedList,
+    ) -> Result<(), AllocError>
+        requires reader { IsReader self.now }
+        requires lists { AreFileLists self.now lists.old }
+        requires checked { IsFileList self.now.names.now off checked }
+        ensures { OnOk result (AreFileLists self.now lists.new) }
+    {
+        let count = checked.span.len();
+        if count <= SHORT {
+            return Ok(());
+        }
+        lists.long.insert(off, checked)?;
+        self.add(lists, count)?;
+        Ok(())
+    }
+
+    // Counts the numbers of a long list, and looks the letters up once they are more than the file has.
+    fn add(&self, lists: &mut CheckedLists, count: usize) -> Result<(), AllocError>
+        requires reader { IsReader self.now }
+        requires lists { AreFileLists self.now lists.old }
+        ensures { OnOk result (AreFileLists self.now lists.new) }
+    {
+        lists.count = lists.count.saturating_add(count);
+        let bytes = self.names.frame.bytes();
+        if lists.letters.is_none() && lists.count > bytes.len() {
+            let numbers = TypeNumbers::shorts(bytes);
+            lists.letters = Some(spelling(self.alloc, self.letters, &numbers)?);
+        }
+        Ok(())
+    }
+}
 
 /// The protos by row, and the types of their parameters, each as its number.
 #[derive(Drop)]
@@ -49,49 +177,6 @@ fn indices_at(frame: &Frame<'_>, i: u32) -> Indices
     }
 }
 
-// Returns the proto of a row, if it is one. Of lists that rows share, `lists` has those that were checked.
-fn proto_at(
-    reader: &ProtoReader<'_, '_, '_>,
-    lists: &mut CheckedLists,
-    i: u32,
-) -> Result<Option<ProtoEntry>, AllocError>
-    requires reader { IsReader reader.now }
-    requires lists { AreFileLists reader.now lists.old }
-    requires row { i < table_size reader.now.names.now.frame.now ProtoIds }
-    ensures lists { IfOk result (λ _. AreFileLists reader.now lists.new) }
-    ensures proto { IfOk result (λ found.
-        MatchOption found (HasProto reader.now.names.now.frame.now i → ⊥) (IsFileProto reader.now.names.now i)) }
-{
-    let names = reader.names;
-    let indices = indices_at(names.frame, i);
-    let shorty = match names.text(indices.shorty) {
-        Some(shorty) => shorty,
-        None => return Ok(None),
-    };
-    let return_type = match names.typ(indices.return_type) {
-        Some(return_type) => return_type,
-        None => return Ok(None),
-    };
-    let span = match place_at(names.frame, indices.off) {
-        Some(span) => span,
-        None => return Ok(None),
-    };
-    let checked = CheckedList {
-        span,
-        shorty: indices.shorty,
-        letter: letter(return_type),
-    };
-    if !reader.has_shorty(lists, indices.off, checked, shorty) {
-        return Ok(None);
-    }
-    reader.note(lists, indices.off, checked)?;
-    Ok(Some(ProtoEntry {
-        shorty: indices.shorty,
-        return_type: indices.return_type,
-        parameters: span,
-    }))
-}
-
 impl TableReader for ProtoReader<'_, '_, '_> {
     ghost use Rattle.dexspec.specs.Conditions as conditions;
 
@@ -115,8 +200,36 @@ impl TableReader for ProtoReader<'_, '_, '_> {
         (Condition::Protos, self.names.frame.size(Table::ProtoIds))
     }
 
+    // Of lists that rows share, `lists` has those that were checked.
     fn row_at(&self, lists: &mut CheckedLists, i: u32) -> Result<Option<ProtoEntry>, AllocError> {
-        proto_at(self, lists, i)
+        let names = self.names;
+        let indices = indices_at(names.frame, i);
+        let shorty = match names.text(indices.shorty) {
+            Some(shorty) => shorty,
+            None => return Ok(None),
+        };
+        let return_type = match names.typ(indices.return_type) {
+            Some(return_type) => return_type,
+            None => return Ok(None),
+        };
+        let span = match place_at(names.frame, indices.off) {
+            Some(span) => span,
+            None => return Ok(None),
+        };
+        let checked = CheckedList {
+            span,
+            shorty: indices.shorty,
+            letter: letter(return_type),
+        };
+        if !self.has_shorty(lists, indices.off, checked, shorty) {
+            return Ok(None);
+        }
+        self.note(lists, indices.off, checked)?;
+        Ok(Some(ProtoEntry {
+            shorty: indices.shorty,
+            return_type: indices.return_type,
+            parameters: span,
+        }))
     }
 
     fn compare(&self, left: &ProtoEntry, right: &ProtoEntry) -> Ordering {
@@ -153,6 +266,10 @@ pub(crate) fn read_protos<'r, 'a>(
         letters: &letters,
         file,
     };
-    let mut lists = CheckedLists::none(&reader);
+    let mut lists = CheckedLists {
+        long: HashMap::new(alloc),
+        count: 0,
+        letters: None,
+    };
     read_table(alloc, &reader, &mut lists)
 }

@@ -5,6 +5,8 @@ ghost use Rattle.std.specs.Cmp.Lexicographic.{slice_cmp};
 ghost use Rattle.dexspec.specs.Texts.{text_cmp};
 ghost use Rattle.dexspec.specs.Symbols.{Proto, Field, Method, proto_cmp, field_cmp, method_cmp};
 ghost use Rattle.dexspec.specs.Lists.{rank};
+ghost use Rattle.dexpool.specs.Pools.{count_of};
+ghost use Rattle.dexpool.specs.Numberings.{IsNumbering};
 ghost use Rattle.dexpool.specs.internal.Ranking.{CountsLess, types_or};
 
 use crate::numbering::Numbering;
@@ -13,26 +15,28 @@ use dexrows::TypeNumbers;
 use dexstr::{Name, Text};
 use std::cmp::Ordering;
 
-// The number of numbers below `count` that compare as less, where these come first.
-fn count_less<F: Fn(usize) -> Ordering>(count: usize, compare: F) -> usize
-    requires { (i : ℕ) → i < count → F.pre compare i }
-    ensures within { result ≤ count }
-    ensures less { CountsLess (F.post compare) count result }
-{
-    let mut low = 0;
-    let mut high = count;
-    while low < high {
-        let middle = low + (high - low) / 2;
-        if compare(middle).is_lt() {
-            low = middle + 1;
-        } else {
-            high = middle;
-        }
-    }
-    low
-}
-
 impl<'a> Numbering<'a> {
+    // The number of numbers of a kind that compare as less, where these come first.
+    fn count_less<F: Fn(usize) -> Ordering>(&self, kind: SymbolKind, compare: F) -> usize
+        requires { (i : ℕ) → i < count_of kind self.now → F.pre compare i }
+        ensures numbering { IsNumbering self.now }
+        ensures within { result ≤ count_of kind self.now }
+        ensures less { CountsLess (F.post compare) (count_of kind self.now) result }
+    {
+        self.is_numbering();
+        let mut low = 0;
+        let mut high = self.count(kind);
+        while low < high {
+            let middle = low + (high - low) / 2;
+            if compare(middle).is_lt() {
+                low = middle + 1;
+            } else {
+                high = middle;
+            }
+        }
+        low
+    }
+
     // Compares the text of a number with another text.
     fn compare_string(&self, i: usize, text: &Text<'_>) -> Ordering
         requires { i < length self.now.texts }
@@ -114,11 +118,7 @@ impl<'a> Numbering<'a> {
     pub fn rank_string(&self, text: &Text<'_>) -> usize
         ensures { result ≡ rank text_cmp text.now self.now.texts }
     {
-        self.is_numbering();
-        count_less(
-            self.count(SymbolKind::Text),
-            |i| self.compare_string(i, text),
-        )
+        self.count_less(SymbolKind::Text, |i| self.compare_string(i, text))
     }
 
     /// The number of lesser types, for a type by its descriptor, from 0 on.
@@ -127,11 +127,7 @@ impl<'a> Numbering<'a> {
     pub fn rank_typ(&self, descriptor: &Text<'_>) -> usize
         ensures { result ≡ rank text_cmp descriptor.now self.now.types }
     {
-        self.is_numbering();
-        count_less(
-            self.count(SymbolKind::Typ),
-            |i| self.compare_type(i, descriptor),
-        )
+        self.count_less(SymbolKind::Typ, |i| self.compare_type(i, descriptor))
     }
 
     /// The same as `rank_typ`.
@@ -147,11 +143,7 @@ impl<'a> Numbering<'a> {
     pub fn rank_proto(&self, proto: &ProtoSymbol) -> usize
         ensures { result ≡ rank proto_cmp proto.now self.now.protos }
     {
-        self.is_numbering();
-        count_less(
-            self.count(SymbolKind::Proto),
-            |i| self.compare_proto(i, proto),
-        )
+        self.count_less(SymbolKind::Proto, |i| self.compare_proto(i, proto))
     }
 
     /// The number of lesser fields, from 0 on.
@@ -160,11 +152,7 @@ impl<'a> Numbering<'a> {
     pub fn rank_field(&self, field: &FieldSymbol) -> usize
         ensures { result ≡ rank field_cmp field.now self.now.fields }
     {
-        self.is_numbering();
-        count_less(
-            self.count(SymbolKind::Field),
-            |i| self.compare_field(i, field),
-        )
+        self.count_less(SymbolKind::Field, |i| self.compare_field(i, field))
     }
 
     /// The number of lesser methods, from 0 on.
@@ -173,10 +161,6 @@ impl<'a> Numbering<'a> {
     pub fn rank_method(&self, method: &MethodSymbol) -> usize
         ensures { result ≡ rank method_cmp method.now self.now.methods }
     {
-        self.is_numbering();
-        count_less(
-            self.count(SymbolKind::Method),
-            |i| self.compare_method(i, method),
-        )
+        self.count_less(SymbolKind::Method, |i| self.compare_method(i, method))
     }
 }

@@ -1,6 +1,6 @@
 //! The rows of one of the five tables of a file, read one after the other.
 
-ghost use Rattle.std.specs.Prelude.{◌≡◌, ℕ, ◌+◌, ◌<◌, true, false, List, length, slice_index_or, MatchOption, IfOk, IfErr, OnOk};
+ghost use Rattle.std.specs.Prelude.{◌≡◌, ℕ, ◌+◌, ◌<◌, true, List, length, slice_index_or, MatchOption, IfOk, IfErr, OnOk};
 ghost use Rattle.std.specs.declared.cmp.Ordering.{Ordering};
 ghost use Rattle.dexspec.specs.Accepted.{number, rows_checked, Holds, HoldBelow};
 ghost use Rattle.dexhead.specs.Conditions.{condition_meant};
@@ -98,14 +98,10 @@ fn next_row<R: TableReader>(
         MatchOption found (Holds R.condition (R.file reader.now) i → ⊥) (IsNextRow R.condition (R.is_row reader.now) (R.file reader.now) i)) }
 {
     reader.law();
-    let row = match reader.row_at(memory, i)? {
-        Some(row) => row,
-        None => return Ok(None),
-    };
-    if !is_above(reader, rows, &row) {
-        return Ok(None);
+    match reader.row_at(memory, i)? {
+        Some(row) if is_above(reader, rows, &row) => Ok(Some(row)),
+        _ => Ok(None),
     }
-    Ok(Some(row))
 }
 
 /// Reads all rows of a table, of a file that meets the conditions before this one.

@@ -1,13 +1,15 @@
-//! Rows whose numbers are replaced by those of the same symbols in other tables.
+//! Rows whose numbers are replaced by those of the same symbols in other tables. Lists of parameters that rows share or
+//! that overlap are renumbered all at once.
 
-ghost use Rattle.std.specs.Prelude.{◌≡◌, ◌<◌, ◌++◌, length, map, All, IfOk, OnOk, slice_index};
+ghost use Rattle.std.specs.Prelude.{◌≡◌, ◌<◌, ◌++◌, length, map, All, IfOk, OnOk, slice_index, ℕ, List};
 ghost use Rattle.dexrows.specs.Numbers.{among_of, lower_of};
-ghost use Rattle.dexpool.specs.internal.Renumbering.{StaySorted, moved_type, IsEntryWithin, HasSpans, numbers_in, moved_proto, AreMovedProtos};
+ghost use Rattle.dexpool.specs.internal.Renumbering.{StaySorted, moved_type, IsEntryWithin, HasSpans, numbers_in, AreMovedProtos};
+ghost use Rattle.dexpool.specs.Reading.{HasSpan};
+ghost use Rattle.dexpool.specs.internal.SharedLists.{Covers, IsPlaceWithin};
 
 use crate::lists::Parameters;
 use crate::protos::Protos;
 use crate::rows::{ProtoEntry, Span};
-use crate::shared_lists::{covering, listed, renumbered_together};
 use dexrows::{LowerPlaces, ProtoRow, Row, TypeNumbers, TypeRow};
 use std::alloc::{AllocError, Global};
 
@@ -20,13 +22,12 @@ pub(crate) fn renumbered_types(
     requires { All (λ n. n < length strings.now) types.now }
     ensures { IfOk result (λ rows. rows.items ≡ map (moved_type strings.now) types.now) }
 {
-    let mut rows = Vec::with_capacity(alloc, types.len())?;
-    for n in types {
-        rows.push(TypeRow {
+    types
+        .iter()
+        .map(|n| TypeRow {
             descriptor: strings[*n] as usize,
-        })?;
-    }
-    Ok(rows)
+        })
+        .collect(alloc)
 }
 
 /// The numbers, by their images.
@@ -44,25 +45,27 @@ pub(crate) fn renumbered_numbers(mut numbers: Vec<usize>, images: &[u32]) -> Vec
 pub(crate) fn descriptors(alloc: Global, rows: &[TypeRow]) -> Result<Vec<usize>, AllocError>
     ensures { IfOk result (λ numbers. numbers.items ≡ map (λ row. row.descriptor) rows.now) }
 {
-    let mut numbers = Vec::with_capacity(alloc, rows.len())?;
-    for row in rows {
-        numbers.push(row.descriptor)?;
-    }
-    Ok(numbers)
+    rows.iter().map(|row| row.descriptor).collect(alloc)
 }
 
-// Appends the images of numbers.
+// The image of a number, and 0 where it has none.
+fn image_in(images: &[u32], number: usize) -> usize
+    ensures { result ≡ slice_index images.now number }
+{
+    images.get(number).copied().unwrap_or(0) as usize
+}
+
+// Appends the images of numbers, and 0 for those that have none.
 fn push_images(
     numbers: &TypeNumbers<'_>,
     images: &[u32],
     to: &mut Vec<usize>,
 ) -> Result<(), AllocError>
-    requires { All (λ n. n < length images.now) numbers.now }
     ensures { OnOk result (to.new.items ≡ to.old.items
         ++ map (slice_index images.now) numbers.now) }
 {
     for i in 0..numbers.len() {
-        to.push(images[numbers.at(i)] as usize)?;
+        to.push(image_in(images, numbers.at(i)))?;
     }
     Ok(())
 }
@@ -86,7 +89,7 @@ pub(crate) fn renumbered_protos(
 {
     let range = covering(&rows);
     let count = listed(&rows);
-    if count > range.end.saturating_sub(range.start) {
+    if count > range.len() {
         let lower = LowerPlaces {
             strings,
             types,
@@ -173,3 +176,89 @@ pub(crate) fn renumbered_rows<R: Row<List = ()>>(mut rows: Vec<R>, lower: LowerP
 pub(crate) fn sorted_law<R: Row>()
     ensures { StaySorted R.key_of R.numbers_in R.mapped }
 {}
+
+/// How many parameters the rows have together.
+pub(crate) fn listed(protos: &[ProtoEntry]) -> usize {
+    protos.iter().fold(0, |count: usize, proto| {
+        count.saturating_add(proto.parameters.len())
+    })
+}
+
+// The least part that has the numbers of both.
+fn both(left: Span, right: Span) -> Span
+    ensures left { Covers result left }
+    ensures right { Covers result right }
+    ensures within { (ps : List ℕ) → HasSpan ps left → HasSpan ps right → HasSpan ps result }
+{
+    if left.start >= left.end {
+        return right;
+    }
+    if right.start >= right.end {
+        return left;
+    }
+    Span {
+        start: left.start.min(right.start),
+        end: left.end.max(right.end),
+    }
+}
+
+/// The least part that has the parameters of all rows.
+pub(crate) fn covering(protos: &[ProtoEntry]) -> Span
+    ensures covers { All (λ p. Covers result p.parameters) protos.now }
+    ensures within { (ps : List ℕ) → All (λ p. HasSpan ps p.parameters) protos.now
+        → HasSpan ps result }
+{
+    let mut range = Span { start: 0, end: 0 };
+    for entry in protos {
+        range = both(range, entry.parameters);
+    }
+    range
+}
+
+// The place of a part in a list that has the numbers of `range` only, which covers the part.
+#[tactic(auto, using(crate::proofs::SharedLists::place_in))]
+fn place_within(range: Span, part: Span) -> Span
+    requires { Covers range part }
+    ensures { IsPlaceWithin range part result }
+{
+    if part.start >= part.end {
+        return Span { start: 0, end: 0 };
+    }
+    Span {
+        start: part.start - range.start,
+        end: part.end - range.start,
+    }
+}
+
+/// The protos, by the images of their texts and types. Their parameters are parts of one list, which has an image for
+/// each number of the range.
+///
+/// Condition: the range has the parameters of each row. Error: the memory for the parameters was refused.
+pub(crate) fn renumbered_together(
+    alloc: Global,
+    mut rows: Vec<ProtoEntry>,
+    parameters: &Parameters<'_>,
+    range: Span,
+    lower: LowerPlaces<'_>,
+) -> Result<Protos, AllocError>
+    requires protos { All
+        (IsEntryWithin (length lower.strings.now) (length lower.types.now) parameters.now) rows.items }
+    requires range { HasSpan parameters.now range }
+    requires covers { All (λ p. Covers range p.parameters) rows.items }
+    ensures spans { IfOk result HasSpans }
+    ensures rows { IfOk result
+        (AreMovedProtos lower.entry.strings.now lower.entry.types.now
+        parameters.now rows.items) }
+{
+    let mut moved = Vec::with_capacity(alloc, range.len())?;
+    push_images(&parameters.part(range), lower.types, &mut moved)?;
+    for i in 0..rows.len() {
+        let entry = rows[i];
+        let place = place_within(range, entry.parameters);
+        rows[i] = entry.renumbered(lower.strings, lower.types, place);
+    }
+    Ok(Protos {
+        rows,
+        parameters: moved,
+    })
+}

@@ -45,6 +45,13 @@ pub struct Span {
 }
 
 impl Span {
+    // How many items it spans.
+    pub(crate) fn len(self) -> usize
+        ensures { result ≡ self.end - self.start }
+    {
+        self.end.saturating_sub(self.start)
+    }
+
     /// Whether it is that part.
     pub(crate) fn is(self, other: Span) -> bool
         ensures { IsTrue result → self ≡ other }
@@ -56,7 +63,7 @@ impl Span {
     pub(crate) fn longer(self, other: Span) -> Span
         ensures { (result ≡ self) ⊎ (result ≡ other) }
     {
-        if self.end.saturating_sub(self.start) < other.end.saturating_sub(other.start) {
+        if self.len() < other.len() {
             other
         } else {
             self

@@ -4,7 +4,7 @@ ghost use Rattle.std.specs.Prelude.{◌≡◌, ◌↔◌, ◌<◌, All, IsTrue, 
 ghost use Rattle.dexspec.specs.Names.{shorty_letter};
 ghost use Rattle.dexpool.specs.Tables.{type_of};
 ghost use Rattle.dexpool.specs.Reading.{AreNames};
-ghost use Rattle.dexpool.specs.internal.CheckedLists.{AreLetters, IsNotVoid, IsLetter, letter_in, letters_in, SpellNumbers, IsSpelled, AreThese, IsShorty};
+ghost use Rattle.dexpool.specs.internal.CheckedLists.{AreLetters, IsNotVoid, IsLetter, letter_in, letters_in, SpellNumbers, AreThese};
 
 use crate::kinds::letter;
 use crate::names::Names;
@@ -81,7 +81,7 @@ fn is_letter(letters: &[u8], number: usize, unit: u8) -> bool
 }
 
 // Returns whether the units are the letters of the numbers, each that of a type of values.
-fn are_letters(letters: &[u8], units: &[u8], numbers: &TypeNumbers<'_>) -> bool
+pub(crate) fn are_letters(letters: &[u8], units: &[u8], numbers: &TypeNumbers<'_>) -> bool
     ensures { IsTrue result ↔ SpellNumbers letters.now units.now numbers.now }
 {
     if units.len() != numbers.len() {
@@ -93,23 +93,6 @@ fn are_letters(letters: &[u8], units: &[u8], numbers: &TypeNumbers<'_>) -> bool
         }
     }
     true
-}
-
-/// Returns whether the units are this letter and then those of the numbers, each that of a type of values.
-///
-/// Source: "ShortyDescriptor".
-pub(crate) fn is_spelled(
-    letters: &[u8],
-    units: &[u8],
-    first: u16,
-    numbers: &TypeNumbers<'_>,
-) -> bool
-    ensures { IsTrue result ↔ IsSpelled letters.now units.now first numbers.now }
-{
-    match units {
-        [unit, rest @ ..] => u16::from(*unit) == first && are_letters(letters, rest, numbers),
-        [] => false,
-    }
 }
 
 // Returns whether void's letter is not among the units. It does not stop at the first one, so that it goes over many
@@ -126,24 +109,11 @@ fn has_no_void(units: &[u8]) -> bool
     !has_void
 }
 
-// Returns whether the units are these letters, each that of a type of values.
-fn are_these(letters: &[u8], units: &[u8]) -> bool
-    ensures { IsTrue result ↔ AreThese letters.now units.now }
-{
-    if units != letters {
-        return false;
-    }
-    has_no_void(units)
-}
-
-/// Returns whether the units are this letter and then these, each that of a type of values.
+/// Returns whether the units are these letters, each that of a type of values.
 ///
 /// Source: "ShortyDescriptor".
-pub(crate) fn is_shorty(letters: &[u8], units: &[u8], first: u16) -> bool
-    ensures { IsTrue result ↔ IsShorty letters.now units.now first }
+pub(crate) fn are_these(letters: &[u8], units: &[u8]) -> bool
+    ensures { IsTrue result ↔ AreThese letters.now units.now }
 {
-    match units {
-        [unit, rest @ ..] => u16::from(*unit) == first && are_these(letters, rest),
-        [] => false,
-    }
+    units == letters && has_no_void(units)
 }

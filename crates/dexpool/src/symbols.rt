@@ -2,11 +2,10 @@
 
 ghost use Rattle.std.specs.Prelude.{◌≡◌, ◌<◌, map, length, All, IfOk};
 ghost use Rattle.dexspec.specs.Symbols as symbols;
-ghost use Rattle.dexpool.specs.Tables.{text_of};
 ghost use Rattle.dexpool.specs.Stored.{IsProtoEntry, IsFieldRow, IsMethodRow, AreTables, stored_type, stored_proto, stored_field, stored_method};
 
+use crate::numbering::Tables;
 use crate::rows::ProtoEntry;
-use crate::tables::Tables;
 use dexrows::{FieldRow, MethodRow, TypeNumbers};
 use dexstr::Name;
 use std::alloc::{AllocError, Global};
@@ -101,48 +100,66 @@ impl Model for MethodSymbol {
     ghost view = { λ m. record { class = m.class; name = m.name; proto = m.proto } };
 }
 
-/// Returns the name of a type.
-pub(crate) fn type_name(alloc: Global, tables: &Tables<'_>, typ: usize) -> Result<Name, AllocError>
-    requires tables { AreTables tables.now }
-    requires row { typ < length tables.now.types.items }
-    ensures { IfOk result (λ name. name ≡ stored_type tables.now typ) }
-{
-    Name::of(alloc, &tables.strings[tables.types[typ]])
-}
-
-// The class and the name of a member.
-fn class_and_name(
-    alloc: Global,
-    tables: &Tables<'_>,
-    class: usize,
-    name: usize,
-) -> Result<(Name, Name), AllocError>
-    requires tables { AreTables tables.now }
-    requires class { class < length tables.now.types.items }
-    requires name { name < length tables.now.strings.items }
-    ensures class { IfOk result (λ names. names.0 ≡ stored_type tables.now class) }
-    ensures name { IfOk result (λ names. names.1 ≡ text_of tables.now.strings.items name) }
-{
-    let class = type_name(alloc, tables, class)?;
-    let name = Name::of(alloc, &tables.strings[name])?;
-    Ok((class, name))
-}
-
-// Returns the names of types.
-fn type_names(
-    alloc: Global,
-    tables: &Tables<'_>,
-    types: &TypeNumbers<'_>,
-) -> Result<Vec<Name>, AllocError>
-    requires tables { AreTables tables.now }
-    requires rows { All (λ typ. typ < length tables.now.types.items) types.now }
-    ensures { IfOk result (λ names. names.items ≡ map (stored_type tables.now) types.now) }
-{
-    let mut names = Vec::with_capacity(alloc, types.len())?;
-    for i in 0..types.len() {
-        names.push(type_name(alloc, tables, types.at(i))?)?;
+impl Tables<'_> {
+    /// Returns the name of a type.
+    pub(crate) fn type_name(&self, alloc: Global, typ: usize) -> Result<Name, AllocError>
+        requires tables { AreTables self.now }
+        requires row { typ < length self.now.types.items }
+        ensures { IfOk result (λ name. name ≡ stored_type self.now typ) }
+    {
+        Name::of(alloc, &self.strings[self.types[typ]])
     }
-    Ok(names)
+
+    // Returns the names of types.
+    fn type_names(&self, alloc: Global, types: &TypeNumbers<'_>) -> Result<Vec<Name>, AllocError>
+        requires tables { AreTables self.now }
+        requires rows { All (λ typ. typ < length self.now.types.items) types.now }
+        ensures { IfOk result (λ names. names.items ≡ map (stored_type self.now) types.now) }
+    {
+        let mut names = Vec::with_capacity(alloc, types.len())?;
+        for i in 0..types.len() {
+            names.push(self.type_name(alloc, types.at(i))?)?;
+        }
+        Ok(names)
+    }
+
+    /// The proto of a row.
+    pub(crate) fn proto(&self, alloc: Global, row: &ProtoEntry) -> Result<ProtoSymbol, AllocError>
+        requires tables { AreTables self.now }
+        requires row { IsProtoEntry self.now row.now }
+        ensures { IfOk result (λ symbol. symbol ≡ stored_proto self.now row.now) }
+    {
+        Ok(ProtoSymbol {
+            return_type: self.type_name(alloc, row.return_type)?,
+            parameters: self.type_names(alloc, &self.parameters.part(row.parameters))?,
+        })
+    }
+
+    /// The field of a row.
+    pub(crate) fn field(&self, alloc: Global, row: &FieldRow) -> Result<FieldSymbol, AllocError>
+        requires tables { AreTables self.now }
+        requires row { IsFieldRow self.now row.now }
+        ensures { IfOk result (λ symbol. symbol ≡ stored_field self.now row.now) }
+    {
+        Ok(FieldSymbol {
+            class: self.type_name(alloc, row.class as usize)?,
+            name: Name::of(alloc, &self.strings[row.name as usize])?,
+            typ: self.type_name(alloc, row.typ as usize)?,
+        })
+    }
+
+    /// The method of a row.
+    pub(crate) fn method(&self, alloc: Global, row: &MethodRow) -> Result<MethodSymbol, AllocError>
+        requires tables { AreTables self.now }
+        requires row { IsMethodRow self.now row.now }
+        ensures { IfOk result (λ symbol. symbol ≡ stored_method self.now row.now) }
+    {
+        Ok(MethodSymbol {
+            class: self.type_name(alloc, row.class as usize)?,
+            name: Name::of(alloc, &self.strings[row.name as usize])?,
+            proto: self.proto(alloc, &self.protos[row.proto as usize])?,
+        })
+    }
 }
 
 // Returns a copy of the names, in a vector of their own.
@@ -178,29 +195,9 @@ impl ProtoSymbol {
     pub fn copy(&self) -> Result<Self, AllocError>
         ensures { IfOk result (λ copy. copy ≡ self.now) }
     {
-        let ProtoSymbol {
-            return_type,
-            parameters,
-        } = self;
         Ok(ProtoSymbol {
-            return_type: return_type.copy()?,
-            parameters: copied(*parameters.allocator(), parameters)?,
-        })
-    }
-
-    /// The proto of a row.
-    pub(crate) fn of(
-        alloc: Global,
-        tables: &Tables<'_>,
-        row: &ProtoEntry,
-    ) -> Result<ProtoSymbol, AllocError>
-        requires tables { AreTables tables.now }
-        requires row { IsProtoEntry tables.now row.now }
-        ensures { IfOk result (λ symbol. symbol ≡ stored_proto tables.now row.now) }
-    {
-        Ok(ProtoSymbol {
-            return_type: type_name(alloc, tables, row.return_type)?,
-            parameters: type_names(alloc, tables, &tables.parameters.part(row.parameters))?,
+            return_type: self.return_type.copy()?,
+            parameters: copied(*self.parameters.allocator(), &self.parameters)?,
         })
     }
 }
@@ -210,27 +207,11 @@ impl FieldSymbol {
     pub fn copy(&self) -> Result<Self, AllocError>
         ensures { IfOk result (λ copy. copy ≡ self.now) }
     {
-        let FieldSymbol { class, name, typ } = self;
         Ok(FieldSymbol {
-            class: class.copy()?,
-            name: name.copy()?,
-            typ: typ.copy()?,
+            class: self.class.copy()?,
+            name: self.name.copy()?,
+            typ: self.typ.copy()?,
         })
-    }
-
-    /// The field of a row.
-    pub(crate) fn of(
-        alloc: Global,
-        tables: &Tables<'_>,
-        row: &FieldRow,
-    ) -> Result<FieldSymbol, AllocError>
-        requires tables { AreTables tables.now }
-        requires row { IsFieldRow tables.now row.now }
-        ensures { IfOk result (λ symbol. symbol ≡ stored_field tables.now row.now) }
-    {
-        let (class, name) = class_and_name(alloc, tables, row.class as usize, row.name as usize)?;
-        let typ = type_name(alloc, tables, row.typ as usize)?;
-        Ok(FieldSymbol { class, name, typ })
     }
 }
 
@@ -239,26 +220,10 @@ impl MethodSymbol {
     pub fn copy(&self) -> Result<Self, AllocError>
         ensures { IfOk result (λ copy. copy ≡ self.now) }
     {
-        let MethodSymbol { class, name, proto } = self;
         Ok(MethodSymbol {
-            class: class.copy()?,
-            name: name.copy()?,
-            proto: proto.copy()?,
+            class: self.class.copy()?,
+            name: self.name.copy()?,
+            proto: self.proto.copy()?,
         })
-    }
-
-    /// The method of a row.
-    pub(crate) fn of(
-        alloc: Global,
-        tables: &Tables<'_>,
-        row: &MethodRow,
-    ) -> Result<MethodSymbol, AllocError>
-        requires tables { AreTables tables.now }
-        requires row { IsMethodRow tables.now row.now }
-        ensures { IfOk result (λ symbol. symbol ≡ stored_method tables.now row.now) }
-    {
-        let (class, name) = class_and_name(alloc, tables, row.class as usize, row.name as usize)?;
-        let proto = ProtoSymbol::of(alloc, tables, &tables.protos[row.proto as usize])?;
-        Ok(MethodSymbol { class, name, proto })
     }
 }

@@ -84,23 +84,12 @@ pub struct Fits<'a> {
     pub fit: bool,
 }
 
-// Returns whether a number has an image below 2^32.
-fn is_mapped(remap: &Remap, kind: SymbolKind, number: u32) -> bool
-    ensures { IsTrue result ↔ IsMapped remap.now kind number }
-{
-    match remap.image(kind, number as usize) {
-        Some(image) => image < 0x1_0000_0000,
-        None => false,
-    }
-}
-
 impl Visitor for Fits<'_> {
     ghost step = { λ a u b. (b.remap.now ≡ a.remap.now) × (IsTrue b.fit ↔ IsTrue a.fit × IsMapped a.remap.now u.kind u.number) };
 
     fn symbol(&mut self, kind: SymbolKind, number: u32) {
-        if !is_mapped(self.remap, kind, number) {
-            self.fit = false;
-        }
+        let image = self.remap.image(kind, number as usize);
+        self.fit = self.fit && image.is_some_and(|image| image < 0x1_0000_0000);
     }
 }
 

@@ -1,6 +1,6 @@
 //! The weight of the symbols of a numbering.
 
-ghost use Rattle.std.specs.Prelude.{◌≡◌, ◌^◌, ◌-◌, min, sum_by, length};
+ghost use Rattle.std.specs.Prelude.{◌≡◌, ◌^◌, ◌-◌, min, sum_by};
 ghost use Rattle.dexspec.specs.Weight.{mentions_weight, text_weight};
 ghost use Rattle.dexpool.specs.internal.Weights.{entry_weight};
 
@@ -25,10 +25,8 @@ fn protos_weight(protos: &[ProtoEntry]) -> u64
 {
     let mut weight: u64 = 0;
     for proto in protos {
-        let parameters = proto.parameters.end.saturating_sub(proto.parameters.start) as u64;
-        weight = weight
-            .saturating_add(20)
-            .saturating_add(parameters.saturating_mul(2));
+        let parameters = (proto.parameters.len() as u64).saturating_mul(2);
+        weight = weight.saturating_add(20).saturating_add(parameters);
     }
     weight
 }

@@ -5,7 +5,7 @@ use Rattle.dexspec.specs.Texts.{Text}
 use Rattle.dexspec.specs.Names.{IsValueType, shorty_letter}
 use Rattle.dexspec.specs.Lists.{OrNone}
 use Rattle.dexspec.specs.Rows.{TypeListAt}
-use Rattle.dexpool.specs.declared.checked_lists.CheckedList.{CheckedList}
+use Rattle.dexpool.specs.declared.protos.CheckedList.{CheckedList}
 use Rattle.dexpool.specs.Tables.{text_of, span_of}
 use Rattle.dexpool.specs.Reading.{IsListed, letters_of, file_numbers}
 
@@ -50,11 +50,6 @@ IsNotVoid letter = letter ≢ 0x56
 pub record AreThese (letters units : List ℕ) : Type 0 where
   pub units_are : units ≡ letters
   pub no_void : All IsNotVoid units
-
--- the text is a first letter and then these, none of which is void's
-pub record IsShorty (letters text : List ℕ) (first : ℕ) : Type 0 where
-  pub text_is : text ≡ first ∷ letters
-  pub no_void : All IsNotVoid letters
 
 -- ---- lists
 

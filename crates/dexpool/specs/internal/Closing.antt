@@ -7,7 +7,7 @@ use Rattle.dexrows.specs.declared.fields.FieldRow.{FieldRow}
 use Rattle.dexrows.specs.declared.methods.MethodRow.{MethodRow}
 use Rattle.dexrows.specs.Numbers.{ProtoNumbers}
 use Rattle.dexpool.specs.declared.rows.ProtoEntry.{ProtoEntry}
-use Rattle.dexpool.specs.declared.tables.Tables.{Tables}
+use Rattle.dexpool.specs.declared.numbering.Tables.{Tables}
 use Rattle.dexpool.specs.declared.marks.Marks.{Marks}
 use Rattle.dexpool.specs.Tables.{span_of}
 use Rattle.dexpool.specs.Reading.{HasSpan}

@@ -5,9 +5,9 @@ use Rattle.dexspec.specs.Texts.{Text}
 use Rattle.dexspec.specs.Rows as rows
 use Rattle.dexpool.specs.declared.names.Names.{Names}
 use Rattle.dexpool.specs.declared.rows.ProtoEntry.{ProtoEntry}
-use Rattle.dexpool.specs.declared.checked_lists.CheckedList.{CheckedList}
-use Rattle.dexpool.specs.declared.checked_lists.ProtoReader.{ProtoReader}
-use Rattle.dexpool.specs.declared.checked_lists.CheckedLists.{CheckedLists}
+use Rattle.dexpool.specs.declared.protos.CheckedList.{CheckedList}
+use Rattle.dexpool.specs.declared.protos.ProtoReader.{ProtoReader}
+use Rattle.dexpool.specs.declared.protos.CheckedLists.{CheckedLists}
 use Rattle.dexrows.specs.declared.fields.FieldRow.{FieldRow}
 use Rattle.dexrows.specs.declared.methods.MethodRow.{MethodRow}
 use Rattle.dexpool.specs.Reading.{AreNames, IsText, IsType, FieldRowAt, ProtoRowAt, MethodRowAt, AreFields, AreProtos, AreMethods, file_numbers}

@@ -16,7 +16,6 @@ use Rattle.dexrows.specs.declared.fields.FieldRow.{FieldRow}
 use Rattle.dexrows.specs.declared.methods.MethodRow.{MethodRow}
 use Rattle.dexpool.specs.declared.rows.ProtoEntry.{ProtoEntry}
 use Rattle.dexpool.specs.declared.protos.Protos.{Protos}
-use Rattle.dexpool.specs.declared.joined_tables.JoinedTypes.{JoinedTypes}
 use Rattle.dexpool.specs.declared.joined_tables.JoinedProtos.{JoinedProtos}
 use Rattle.dexpool.specs.declared.joined_tables.JoinedImages.{JoinedImages}
 use Rattle.dexpool.specs.Tables.{text_of, type_of, span_of, proto_of, field_of, method_of}
@@ -104,33 +103,29 @@ lists_in vectors = map (λ v. v.items) vectors
 abbrev pub JoinsRows : {R : Type 0} → (R → List ℕ) → List (Vec R) → Joined R → Type 0
 JoinsRows key parts joined = IsJoin key (lists_in parts) joined.rows.items (lists_in joined.images.items)
 
--- the joined table is that of the parts
-abbrev pub JoinsProtos : List (Vec ProtoNumbers) → JoinedProtos → Type 0
-JoinsProtos parts joined = IsJoin proto_key (lists_in parts) (numbers_in joined.table) (lists_in joined.images.items)
-
 -- the texts of all parts
 abbrev pub AreTextsOf : List (Bor Mentions) → Joined Text → Type 0
 AreTextsOf parts texts = AreJoinedTexts (numberings_of parts) texts.rows.items (lists_in texts.images.items)
 
 -- the types of all parts, by these texts
-abbrev pub AreTypesOf : List (Bor Mentions) → Joined Text → JoinedTypes → Type 0
-AreTypesOf parts texts types = AreJoinedTypes (numberings_of parts) texts.rows.items types.numbers.items (lists_in types.images.items)
+abbrev pub AreTypesOf : List (Bor Mentions) → Joined Text → Joined ℕ → Type 0
+AreTypesOf parts texts types = AreJoinedTypes (numberings_of parts) texts.rows.items types.rows.items (lists_in types.images.items)
 
 -- the protos of all parts, by these texts and types
-abbrev pub AreProtosOf : List (Bor Mentions) → Joined Text → JoinedTypes → JoinedProtos → Type 0
-AreProtosOf parts texts types protos = AreJoinedProtos (numberings_of parts) texts.rows.items types.numbers.items protos.table.parameters.items protos.table.rows.items (lists_in protos.images.items)
+abbrev pub AreProtosOf : List (Bor Mentions) → Joined Text → Joined ℕ → JoinedProtos → Type 0
+AreProtosOf parts texts types protos = AreJoinedProtos (numberings_of parts) texts.rows.items types.rows.items protos.table.parameters.items protos.table.rows.items (lists_in protos.images.items)
 
 -- the fields of all parts, by these texts and types
-abbrev pub AreFieldsOf : List (Bor Mentions) → Joined Text → JoinedTypes → Joined FieldRow → Type 0
-AreFieldsOf parts texts types fields = AreJoinedFields (numberings_of parts) texts.rows.items types.numbers.items fields.rows.items (lists_in fields.images.items)
+abbrev pub AreFieldsOf : List (Bor Mentions) → Joined Text → Joined ℕ → Joined FieldRow → Type 0
+AreFieldsOf parts texts types fields = AreJoinedFields (numberings_of parts) texts.rows.items types.rows.items fields.rows.items (lists_in fields.images.items)
 
 -- the methods of all parts, by these texts, types and protos
-abbrev pub AreMethodsOf : List (Bor Mentions) → Joined Text → JoinedTypes → JoinedProtos → Joined MethodRow → Type 0
-AreMethodsOf parts texts types protos methods = AreJoinedMethods (numberings_of parts) texts.rows.items types.numbers.items protos.table.parameters.items protos.table.rows.items methods.rows.items (lists_in methods.images.items)
+abbrev pub AreMethodsOf : List (Bor Mentions) → Joined Text → Joined ℕ → JoinedProtos → Joined MethodRow → Type 0
+AreMethodsOf parts texts types protos methods = AreJoinedMethods (numberings_of parts) texts.rows.items types.rows.items protos.table.parameters.items protos.table.rows.items methods.rows.items (lists_in methods.images.items)
 
 -- each table has the protos of its part, by these texts and types
-abbrev pub AreTablesOf : List (Bor Mentions) → Joined Text → JoinedTypes → List Protos → Type 0
-AreTablesOf parts texts types tables = AllZip (λ part rows. Denote (proto_of_row texts.rows.items types.numbers.items) (IsRowOf texts.rows.items types.numbers.items) part.protos rows) (numberings_of parts) (map numbers_in tables)
+abbrev pub AreTablesOf : List (Bor Mentions) → Joined Text → Joined ℕ → List Protos → Type 0
+AreTablesOf parts texts types tables = AllZip (λ part rows. Denote (proto_of_row texts.rows.items types.rows.items) (IsRowOf texts.rows.items types.rows.items) part.protos rows) (numberings_of parts) (map numbers_in tables)
 
 -- ---- the maps of all parts
 

@@ -6,5 +6,5 @@ abbrev pub invariant-loop-i : goal.invariant-loop-i
 invariant-loop-i l = record {
   spans : All HasSpans l.tables.items;
   sorted : All (λ table. AreSorted proto_key (numbers_in table)) l.tables.items;
-  rows : AllZip (λ part rows. Denote (proto_of_row l.strings.rows.items l.types.numbers.items) (IsRowOf l.strings.rows.items l.types.numbers.items) part.protos rows) (map (λ part. part.now) (take l.i l.parts)) (map numbers_in l.tables.items);
+  rows : AllZip (λ part rows. Denote (proto_of_row l.strings.rows.items l.types.rows.items) (IsRowOf l.strings.rows.items l.types.rows.items) part.protos rows) (map (λ part. part.now) (take l.i l.parts)) (map numbers_in l.tables.items);
 }

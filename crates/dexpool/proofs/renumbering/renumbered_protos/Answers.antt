@@ -1,13 +1,10 @@
-use Rattle.dexpool.proofs.Common.{◌≡◌, [], ◌∷◌, ◌++◌, ◌+◌, ◌<◌, length, map, take, set, ap, sym, subst, ◌∙◌, arith, slice_index, All, map_more, take_more_set, length-set, ProtoNumbers, ProtoEntry, moved_proto, IsEntryWithin}
+use Rattle.dexpool.proofs.Common.{◌≡◌, [], ◌∷◌, ◌++◌, ◌+◌, ◌<◌, length, map, take, set, ap, sym, ◌∙◌, arith, slice_index, map_more, take_more_set, length-set, ProtoNumbers, ProtoEntry, moved_proto, IsEntryWithin}
 use Rattle.dexpool.proofs.InPlace.{same_at, rest_set, still_holds}
 use Rattle.dexpool.proofs.StoredProtos.{rows_more, spans_more}
 use Rattle.dexpool.proofs.renumbering.renumbered_protos.Goals as goal
 
 pub part-requires : goal.part-requires
 part-requires c = (still_holds c.args.rows.items c.loop-i.rows.items c.loop-i.i c.loop-i.invariant.rest (IsEntryWithin (length c.args.strings.now) (length c.args.types.now) c.args.parameters.now) c.index-entry.result.now c.index-entry.ensures (omega (arith, c.loop-i-test.true, c.len-i-end.ensures, c.args.rows.ok.0)) c.requires).span
-
-pub push_images-requires : goal.push_images-requires
-push_images-requires c = subst (All (λ n. n < length c.args.types.now)) (sym c.part.ensures) (still_holds c.args.rows.items c.loop-i.rows.items c.loop-i.i c.loop-i.invariant.rest (IsEntryWithin (length c.args.strings.now) (length c.args.types.now) c.args.parameters.now) c.index-entry.result.now c.index-entry.ensures (omega (arith, c.loop-i-test.true, c.len-i-end.ensures, c.args.rows.ok.0)) c.requires).parameters_in
 
 pub renumbered-requires-clause-shorty : goal.renumbered-requires-clause-shorty
 renumbered-requires-clause-shorty c = (still_holds c.args.rows.items c.loop-i.rows.items c.loop-i.i c.loop-i.invariant.rest (IsEntryWithin (length c.args.strings.now) (length c.args.types.now) c.args.parameters.now) c.index-entry.result.now c.index-entry.ensures (omega (arith, c.loop-i-test.true, c.len-i-end.ensures, c.args.rows.ok.0)) c.requires).shorty_in

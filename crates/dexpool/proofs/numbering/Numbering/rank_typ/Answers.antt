@@ -1,8 +1,8 @@
-use Rattle.dexpool.proofs.Common.{rules, get_or, [], of_calls, is_lt, text_cmp, text_total}
+use Rattle.dexpool.proofs.Common.{refl, rules, get_or, [], of_calls, is_lt, text_cmp, text_total}
 use Rattle.dexpool.proofs.Ranking.{rank_by_halving}
 use Rattle.dexpool.proofs.numbering.Numbering.rank_typ.Goals as goal
 
 pub returns : goal.returns
 returns c =
-    rank_by_halving text_cmp text_total c.args.descriptor.now c.args.self.now.types [] c.count_less.result c.count.result c.count.ensures c.count_less.ensures.within c.is_numbering.ensures.rising.types_rise
+    rank_by_halving text_cmp text_total c.args.descriptor.now c.args.self.now.types [] c.count_less.result _ refl c.count_less.ensures.within c.count_less.ensures.numbering.rising.types_rise
     (c.count_less.ensures.less (λ i. is_lt (text_cmp (get_or c.args.self.now.types i []) c.args.descriptor.now)) (λ i o lt p. search (rules, of_calls)))

@@ -17,14 +17,14 @@ index-requires-in-Field c = omega (arith, field_in c.tables-tables.result.now c.
 pub index-requires-in-Method : goal.index-requires-in-Method
 index-requires-in-Method c = omega (arith, method_in c.tables-tables.result.now c.args.self.now (c.tables-tables.ensures.symbols ∙ c.self.view_is) c.args.kind c.args.i c.requires c.in-Method.is)
 
-pub of-requires-in-Proto-clause-row : goal.of-requires-in-Proto-clause-row
-of-requires-in-Proto-clause-row c = subst (IsProtoEntry c.tables-tables.result.now) (sym c.index-in-Proto.ensures) (c.tables-tables.ensures.tables.protos_at_ranks c.args.i c.index-in-Proto.result.now
+pub proto-requires-clause-row : goal.proto-requires-clause-row
+proto-requires-clause-row c = subst (IsProtoEntry c.tables-tables.result.now) (sym c.index-in-Proto.ensures) (c.tables-tables.ensures.tables.protos_at_ranks c.args.i c.index-in-Proto.result.now
     (proto_in c.tables-tables.result.now c.args.self.now (c.tables-tables.ensures.symbols ∙ c.self.view_is) c.args.kind c.args.i c.requires c.in-Proto.is))
 
-pub of-requires-in-Field-clause-row : goal.of-requires-in-Field-clause-row
-of-requires-in-Field-clause-row c = subst (IsFieldRow c.tables-tables.result.now) (sym c.index-in-Field.ensures) (c.tables-tables.ensures.tables.fields_at_ranks c.args.i c.index-in-Field.result.now
+pub field-requires-clause-row : goal.field-requires-clause-row
+field-requires-clause-row c = subst (IsFieldRow c.tables-tables.result.now) (sym c.index-in-Field.ensures) (c.tables-tables.ensures.tables.fields_at_ranks c.args.i c.index-in-Field.result.now
     (field_in c.tables-tables.result.now c.args.self.now (c.tables-tables.ensures.symbols ∙ c.self.view_is) c.args.kind c.args.i c.requires c.in-Field.is))
 
-pub of-requires-in-Method-clause-row : goal.of-requires-in-Method-clause-row
-of-requires-in-Method-clause-row c = subst (IsMethodRow c.tables-tables.result.now) (sym c.index-in-Method.ensures) (c.tables-tables.ensures.tables.methods_at_ranks c.args.i c.index-in-Method.result.now
+pub method-requires-clause-row : goal.method-requires-clause-row
+method-requires-clause-row c = subst (IsMethodRow c.tables-tables.result.now) (sym c.index-in-Method.ensures) (c.tables-tables.ensures.tables.methods_at_ranks c.args.i c.index-in-Method.result.now
     (method_in c.tables-tables.result.now c.args.self.now (c.tables-tables.ensures.symbols ∙ c.self.view_is) c.args.kind c.args.i c.requires c.in-Method.is))

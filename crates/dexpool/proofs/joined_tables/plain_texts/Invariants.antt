@@ -1,5 +1,0 @@
-use Rattle.dexpool.proofs.Common.{◌≡◌, take}
-use Rattle.dexpool.proofs.joined_tables.plain_texts.Given as goal
-
-abbrev pub invariant-loop-text : goal.invariant-loop-text
-invariant-loop-text l = l.texts.items ≡ take l.text-index l.keyed

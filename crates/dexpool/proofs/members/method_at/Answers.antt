@@ -1,0 +1,23 @@
+use Rattle.dexpool.proofs.Common.{subst, refl, arith, false≢true, StringRow, TypeRow, file_numbers}
+use Rattle.dexpool.proofs.ReadTables.{method_names, no_proto_row, method_has_row}
+use Rattle.dexpool.proofs.members.method_at.Goals as goal
+
+pub returns-in_err-class-clause-method : goal.returns-in_err-class-clause-method
+returns-in_err-class-clause-method c = rw c.from_residual.ensures (λ holds. let m = holds.item in let h = holds.is in c.in_err-class.ensures m.class (subst (λ n. TypeRow c.args.names.now.frame.now n m.class) c.method_numbers-method.ensures.class h.class))
+
+pub returns-in_err-name-clause-method : goal.returns-in_err-name-clause-method
+returns-in_err-name-clause-method c = rw c.from_residual-in_err-name.ensures (λ holds. let m = holds.item in let h = holds.is in c.in_err-name.ensures m.name (subst (λ n. StringRow c.args.names.now.frame.now n m.name) c.method_numbers-method.ensures.name h.name))
+
+pub returns-then-not-is_method-clause-method : goal.returns-then-not-is_method-clause-method
+returns-then-not-is_method-clause-method c = λ holds. let m = holds.item in let h = holds.is in false≢true (c.if-not-is_method.ensures.method.1 (method_names c.args.names.now.frame.now c.args.i c.method_numbers-method.result m _ _ c.method_numbers-method.ensures h c.in_ok-class.ensures.row c.in_ok-name.ensures.row))
+
+pub returns-then-protos-method-clause-method : goal.returns-then-protos-method-clause-method
+returns-then-protos-method-clause-method c = λ holds.
+    no_proto_row c.args.names.now.frame.now c.args.names.now.strings.now c.args.names.now.types.now (file_numbers c.args.names.now.frame.now) c.args.protos.now c.args.i c.method_numbers-method.result holds.item
+    c.requires.protos c.method_numbers-method.ensures (omega (arith, c.if-protos-method.true)) holds.is
+
+pub returns-clause-method : goal.returns-clause-method
+returns-clause-method c =
+    method_has_row c.args.names.now.strings.now c.args.names.now.types.now (file_numbers c.args.names.now.frame.now) c.args.protos.now c.args.names.now.frame.now c.args.i c.method_numbers-method.result
+    c.in_ok-class.class.now c.in_ok-name.name.now c.requires.row c.requires.protos c.method_numbers-method.ensures c.in_ok-class.ensures c.in_ok-name.ensures
+    (omega (arith, c.if-protos-method.false)) (c.if-not-is_method.ensures.method.0 refl)

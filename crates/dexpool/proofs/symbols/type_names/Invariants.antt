@@ -1,5 +1,0 @@
-use Rattle.dexpool.proofs.Common.{◌≡◌, map, take, type_of}
-use Rattle.dexpool.proofs.symbols.type_names.Given as goal
-
-abbrev pub invariant-loop-i : goal.invariant-loop-i
-invariant-loop-i l = l.names.items ≡ map (type_of l.tables.strings.items l.tables.types.items) (take l.i l.types)

@@ -131,10 +131,5 @@ impl Hierarchy {
 pub fn first_without_depth(depths: &[Option<usize>]) -> Option<usize>
     ensures { MatchOption result (AllHaveDepths depths.now) (IsFirstWithout depths.now) }
 {
-    for i in 0..depths.len() {
-        if depths[i].is_none() {
-            return Some(i);
-        }
-    }
-    None
+    depths.iter().position(|depth| depth.is_none())
 }

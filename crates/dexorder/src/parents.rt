@@ -60,11 +60,7 @@ pub fn classes_by_type<C: HasParents>(
 pub fn class_of_type(by_type: &[Option<usize>], typ: usize) -> Option<usize>
     ensures { result ≡ slice_index_or by_type.now typ None }
 {
-    if typ < by_type.len() {
-        by_type[typ]
-    } else {
-        None
-    }
+    *by_type.get(typ)?
 }
 
 // Appends the class of a type, if it has one.

@@ -72,11 +72,8 @@ fn kind_of(bytes: &[u8]) -> Option<Kind>
         [b'V'] => Some(Kind::Void),
         [b'[', ..] => {
             let dimensions = dimensions(bytes);
-            if dimensions <= 255 && element_kind(&bytes[dimensions..]).is_some() {
-                Some(Kind::Array)
-            } else {
-                None
-            }
+            let is_array = dimensions <= 255 && element_kind(&bytes[dimensions..]).is_some();
+            is_array.then_some(Kind::Array)
         }
         _ => element_kind(bytes),
     }

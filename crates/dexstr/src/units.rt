@@ -95,21 +95,13 @@ fn first_unit(bytes: &[u8]) -> Option<(u16, &[u8])>
         0xc0..=0xdf => {
             let (low, rest) = six_bits(rest)?;
             let unit = u16::from(*lead - 0xc0) * 64 + low;
-            if unit == 0 || unit >= 0x80 {
-                Some((unit, rest))
-            } else {
-                None
-            }
+            (unit == 0 || unit >= 0x80).then_some((unit, rest))
         }
         0xe0..=0xef => {
             let (middle, rest) = six_bits(rest)?;
             let (low, rest) = six_bits(rest)?;
             let unit = (u16::from(*lead - 0xe0) * 64 + middle) * 64 + low;
-            if unit >= 0x800 {
-                Some((unit, rest))
-            } else {
-                None
-            }
+            (unit >= 0x800).then_some((unit, rest))
         }
         _ => None,
     }

@@ -13,9 +13,8 @@ ghost use Rattle.dexpool.specs.internal.CheckedLists.{IsSpelled, NotListedAs};
 
 use crate::faults::ReadFault;
 use crate::kinds::letter;
-use crate::lists::Parameters;
+use crate::lists::{Parameters, place_at};
 use crate::names::Names;
-use crate::parameters::place_at;
 use crate::reading::{TableReader, read_table};
 use crate::rows::{ProtoEntry, Span};
 use crate::shorties::{are_letters, are_these, letters_of, spelling};

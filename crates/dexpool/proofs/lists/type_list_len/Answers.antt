@@ -1,7 +1,7 @@
 use Rattle.dexpool.proofs.Common.{◌≡◌, ℕ, ◌+◌, ◌*◌, List, drop, refl, sym, ◌∙◌, subst, arith, false≢true, uint_at}
 use Rattle.dexspec.specs.Sections.{IsInData}
 use Rattle.dexpool.proofs.Bytes.{uint_at_rest}
-use Rattle.dexpool.proofs.parameters.type_list_len.Goals as goal
+use Rattle.dexpool.proofs.lists.type_list_len.Goals as goal
 
 count_is : (b rest : List ℕ) (off n : ℕ) → n ≡ uint_at rest 0 → rest ≡ drop off b → n ≡ uint_at b off
 count_is b rest off n e is = e ∙ uint_at_rest b rest off 0 off is (omega arith)

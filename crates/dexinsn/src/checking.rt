@@ -1,6 +1,6 @@
 //! Code units checked in one pass, with bits in words that are lent: nothing is kept of the units.
 
-ghost use Rattle.std.specs.Prelude.{◌≡◌, ◌^◌, ◌+◌, ◌*◌, ◌/◌, ◌<◌, ◌≤◌, [], IsSome, drop, length, IfOk, IfErr, MatchOption, OnOk, replicate, IfNone, IfSome};
+ghost use Rattle.std.specs.Prelude.{◌≡◌, ◌^◌, ◌+◌, ◌*◌, ◌/◌, ◌<◌, ◌≤◌, [], IsSome, drop, length, IfOk, IfErr, MatchOption, OnOk, replicate};
 ghost use Rattle.dexspec.specs.Opcodes as opcodes;
 ghost use Rattle.dexspec.specs.Pieces.{ints_in, piece_size};
 ghost use Rattle.dexpool.specs.Pools.{ArePools};
@@ -10,8 +10,8 @@ ghost use Rattle.dexinsn.specs.Opcode.{format_of};
 ghost use Rattle.dexinsn.specs.Payload.{ident_of};
 ghost use Rattle.dexinsn.specs.internal.LongSwitches.{ArePayloads, EndsEmpty};
 ghost use Rattle.dexinsn.specs.Split.{IsPieceAt};
-ghost use Rattle.dexinsn.specs.Checking.{AreBitsOf, AreNoted, HasNoCode, AreAllRight, HasPiecesOf, IndexCount, IsOutside, IsChecked, IsShapeAt, HasTargetsAt, begins_instruction, is_noted};
-ghost use Rattle.dexinsn.specs.internal.Checking.{AreCodeStartBits, ArePassedWhole, GainPiece, HasBranchAt, HasListedTargets, HasPayloadAt, IsFoundWith};
+ghost use Rattle.dexinsn.specs.Checking.{AreBitsOf, AreNoted, AreAllRight, HasPiecesOf, IndexCount, IsOutside, IsChecked, IsShapeAt, HasTargetsAt, begins_instruction, is_noted};
+ghost use Rattle.dexinsn.specs.internal.Checking.{AreCodeStartBits, GainPiece, HasBranchAt, HasListedTargets, HasPayloadAt, IsFoundWith};
 
 use crate::code_units::{Units, int_at, opcode_in};
 use crate::format::Format;
@@ -19,14 +19,14 @@ use crate::instruction::{branch_offset, index_at, kind_at};
 use crate::long_switches::{LongSwitches, targets_at};
 use crate::opcodes::row_of;
 use crate::payload::PayloadKind;
-use crate::piece_step::{Limits, step_at};
+use crate::piece_step::pass;
 use crate::reading::units_at;
 use crate::scratch::{Scratch, wipe};
 use crate::shape::PiecesShape;
 use crate::start_bits::{groups_right, has_place, next_bit, put_bit};
 use dexhead::{Condition, Frame, u16_at};
 use dexpool::{ItemFault, Pools};
-use std::alloc::{AllocError, Global};
+use std::alloc::AllocError;
 
 /// Returns whether a piece that begins with this unit is a payload, or an instruction that has a target.
 pub(crate) fn is_noted(first: u16) -> bool
@@ -64,33 +64,6 @@ pub(crate) fn note(units: &Units<'_>, at: usize, starts: &mut Vec<u64>, noted: &
     let first = units.at(at);
     put_bit(starts, at, PayloadKind::of(first).is_none());
     put_bit(noted, at, is_noted(first));
-}
-
-// Cuts the units, checks the indices, and sets the bits of the pieces. Returns the number of indices.
-fn pass(
-    units: &Units<'_>,
-    pools: &Pools<'_>,
-    starts: &mut Vec<u64>,
-    noted: &mut Vec<u64>,
-) -> Option<usize>
-    requires few { length units.now < 2 ^ 32 }
-    requires starts { AreBitsOf begins_instruction units.now [] starts.old.items }
-    requires noted { AreBitsOf is_noted units.now [] noted.old.items }
-    ensures none { IfNone result (HasNoCode units.now pools.now) }
-    ensures some { IfSome result
-        (ArePassedWhole units.now pools.now starts.new.items noted.new.items) }
-{
-    let limits = Limits::of(pools);
-    let mut at = 0;
-    let mut indices = 0;
-    while at < units.len() {
-        let step = step_at(units, pools, &limits, at)?;
-        put_bit(starts, at, step.is_instruction);
-        put_bit(noted, at, step.is_noted);
-        indices += step.indices;
-        at += step.units;
-    }
-    Some(indices)
 }
 
 /// Checks the targets of instructions and of switch payloads. It has the units, the words whose bits say where
@@ -216,7 +189,6 @@ impl TargetChecker<'_, '_> {
 
 // Returns the number of indices in units, if these are code and each index is in range.
 fn check_with(
-    alloc: Global,
     units: &Units<'_>,
     pools: &Pools<'_>,
     starts: &mut Vec<u64>,
@@ -233,7 +205,7 @@ fn check_with(
     let Some(indices) = pass(units, pools, starts, noted) else {
         return Ok(None);
     };
-    let switches = LongSwitches::find(alloc, units, noted)?;
+    let switches = LongSwitches::find(*noted.allocator(), units, noted)?;
     let checker = TargetChecker {
         units,
         starts,
@@ -254,17 +226,9 @@ fn check_units(bytes: &[u8], pools: &Pools<'_>, scratch: &mut Scratch) -> Result
     let words = units.len() / 64 + 2;
     wipe(&mut scratch.starts, words)?;
     wipe(&mut scratch.noted, words)?;
-    let alloc = scratch.alloc;
-    match check_with(
-        alloc,
-        &units,
-        pools,
-        &mut scratch.starts,
-        &mut scratch.noted,
-    )? {
-        Some(indices) => Ok(indices),
-        None => Err(ItemFault::Refused(Condition::Code as u8)),
-    }
+    check_with(&units, pools, &mut scratch.starts, &mut scratch.noted)?.ok_or(ItemFault::Refused(
+        Condition::Code as u8,
+    ))
 }
 
 /// Checks the registers and the pieces of the code_item at an offset, whose indices count in the pools: those of the

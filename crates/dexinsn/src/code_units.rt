@@ -1,7 +1,7 @@
 //! Code units as they are borrowed, and the numbers in them.
 
 ghost use Rattle.std.specs.Prelude.{◌≡◌, ◌<◌, ◌≤◌, ◌+◌, ◌-◌, ◌*◌, ◌/◌, ◌^◌, length, take, drop, slice_index};
-ghost use Rattle.dexspec.specs.Bytes.{signed_in, ushorts_at};
+ghost use Rattle.dexspec.specs.Bytes.{ushorts_at};
 ghost use Rattle.dexspec.specs.Pieces.{high_byte, int_in, low_byte};
 
 use dexhead::u16_at;
@@ -117,26 +117,5 @@ pub(crate) fn int_at(units: &Units<'_>, i: usize) -> i32
     requires { i + 1 < length units.now }
     ensures { result ≡ int_in units.now i }
 {
-    signed32(u32::from(units.at(i)) + 0x1_0000 * u32::from(units.at(i + 1)))
-}
-
-/// The byte as a signed number.
-pub(crate) fn signed8(value: u8) -> i32
-    ensures { result ≡ signed_in 1 value }
-{
-    i32::from(value.cast_signed())
-}
-
-/// The unit as a signed number.
-pub(crate) fn signed16(value: u16) -> i32
-    ensures { result ≡ signed_in 2 value }
-{
-    i32::from(value.cast_signed())
-}
-
-/// The bits as a signed number.
-fn signed32(value: u32) -> i32
-    ensures { result ≡ signed_in 4 value }
-{
-    value.cast_signed()
+    (u32::from(units.at(i)) + 0x1_0000 * u32::from(units.at(i + 1))).cast_signed()
 }

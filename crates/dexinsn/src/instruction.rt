@@ -7,7 +7,7 @@ ghost use Rattle.dexspec.specs.Pieces.{branch_offset, instruction_size, is_first
 ghost use Rattle.dexinsn.specs.Opcode.{format_of};
 ghost use Rattle.dexinsn.specs.Numbered.{kind_of_pool, kind_in, index_room};
 
-use crate::code_units::{Units, high_byte_of, int_at, opcode_in, signed8, signed16};
+use crate::code_units::{Units, high_byte_of, int_at, opcode_in};
 use crate::format::Format;
 use crate::opcodes::index_kind;
 use dexpool::SymbolKind;
@@ -46,10 +46,10 @@ pub(crate) fn branch_offset(format: Format, units: &Units<'_>, at: usize) -> Opt
     ensures { result ≡ branch_offset (format_of format) units.now at }
 {
     match format {
-        Format::Format10t => Some(signed8(high_byte_of(units.at(at)))),
-        Format::Format20t | Format::Format21t | Format::Format22t => Some(signed16(units.at(
-            at + 1,
-        ))),
+        Format::Format10t => Some(i32::from(high_byte_of(units.at(at)).cast_signed())),
+        Format::Format20t | Format::Format21t | Format::Format22t => {
+            Some(i32::from(units.at(at + 1).cast_signed()))
+        }
         Format::Format30t | Format::Format31t => Some(int_at(units, at + 1)),
         _ => None,
     }

@@ -76,7 +76,7 @@ impl<'p> Iterator for PieceIter<'p> {
 
     fn next(&mut self) -> Option<Piece> {
         let units = Units::of_bytes(self.bytes);
-        let (piece, indices) = first_piece(&units, self.unit, self.indices)?;
+        let (piece, indices) = piece_at(&units, self.unit, self.indices)?;
         self.unit += piece.units as usize;
         self.indices = indices;
         Some(piece)
@@ -84,23 +84,19 @@ impl<'p> Iterator for PieceIter<'p> {
 }
 
 // Returns the piece at a unit, and the indices after it; nothing at the end of the units.
-fn first_piece<'p>(
-    units: &Units<'_>,
-    unit: usize,
-    indices: &'p [Index],
-) -> Option<(Piece, &'p [Index])>
-    requires { IsListing units.now unit indices.now }
-    ensures found { IfSome result (λ x. ListsFirst units.now unit indices.now x.0 x.1.now) }
-    ensures none { IfNone result (listing units.now unit indices.now ≡ []) }
+fn piece_at<'p>(units: &Units<'_>, at: usize, indices: &'p [Index]) -> Option<(Piece, &'p [Index])>
+    requires { IsListing units.now at indices.now }
+    ensures found { IfSome result (λ x. ListsFirst units.now at indices.now x.0 x.1.now) }
+    ensures none { IfNone result (listing units.now at indices.now ≡ []) }
 {
-    if units.len() <= unit {
+    if units.len() <= at {
         return None;
     }
-    let rest = units.rest(unit);
-    let size = piece_size(unit, &rest)?;
-    let (symbol, left) = symbol_at(units, unit, indices);
+    let rest = units.rest(at);
+    let size = piece_size(at, &rest)?;
+    let (symbol, left) = symbol_at(units, at, indices);
     let piece = Piece {
-        unit: unit as u32,
+        unit: at as u32,
         units: size as u32,
         kind: kind_of(&rest, symbol),
     };

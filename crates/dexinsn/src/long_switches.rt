@@ -49,74 +49,64 @@ pub(crate) struct LongSwitches {
     pub(crate) groups: HashMap<usize, Vec<TargetGroup>>,
 }
 
-// The targets in rising order.
-fn sorted_targets(
-    alloc: Global,
-    units: &Units<'_>,
-    targets: Targets,
-) -> Result<Vec<i32>, AllocError>
-    requires small { length units.now < 2 ^ 62 }
-    requires within { targets.first + 2 * targets.count ≤ length units.now }
-    ensures { IfOk result (λ sorted.
-        IsPermutation (ints_in units.now targets.first targets.count) sorted.items) }
-{
-    let mut sorted = Vec::with_capacity(alloc, targets.count)?;
-    for i in 0..targets.count {
-        sorted.push(int_at(units, targets.first + 2 * i))?;
+impl Targets {
+    // The targets in rising order.
+    fn sorted(self, alloc: Global, units: &Units<'_>) -> Result<Vec<i32>, AllocError>
+        requires small { length units.now < 2 ^ 62 }
+        requires within { self.first + 2 * self.count ≤ length units.now }
+        ensures { IfOk result (λ sorted.
+            IsPermutation (ints_in units.now self.first self.count) sorted.items) }
+    {
+        let mut sorted = Vec::with_capacity(alloc, self.count)?;
+        for i in 0..self.count {
+            sorted.push(int_at(units, self.first + 2 * i))?;
+        }
+        sorted.sort_unstable();
+        Ok(sorted)
     }
-    sorted.sort_unstable();
-    Ok(sorted)
-}
-
-// Groups the targets of the piece at a unit, if it is a switch payload with many.
-fn note(
-    alloc: Global,
-    units: &Units<'_>,
-    groups: &mut HashMap<usize, Vec<TargetGroup>>,
-    unit: usize,
-) -> Result<(), AllocError>
-    requires piece { IsSome (piece_size unit (drop unit units.now)) }
-    requires groups { ArePayloads units.now groups.old }
-    ensures { OnOk result (ArePayloads units.now groups.new) }
-{
-    let Some(kind) = PayloadKind::of(units.at(unit)) else {
-        return Ok(());
-    };
-    let Some(targets) = targets_at(units, kind, unit) else {
-        return Ok(());
-    };
-    if targets.count <= FEW_TARGETS {
-        return Ok(());
-    }
-    let sorted = sorted_targets(alloc, units, targets)?;
-    if sorted.is_empty() {
-        return Ok(());
-    }
-    let grouped = group_targets(alloc, &sorted)?;
-    groups.insert(unit, grouped)?;
-    Ok(())
 }
 
 impl LongSwitches {
+    // Groups the targets of the piece at a unit, if it is a switch payload with many.
+    fn note(&mut self, alloc: Global, units: &Units<'_>, unit: usize) -> Result<(), AllocError>
+        requires piece { IsSome (piece_size unit (drop unit units.now)) }
+        requires groups { ArePayloads units.now self.old.groups }
+        ensures { OnOk result (ArePayloads units.now self.new.groups) }
+    {
+        let Some(kind) = PayloadKind::of(units.at(unit)) else {
+            return Ok(());
+        };
+        let Some(targets) = targets_at(units, kind, unit) else {
+            return Ok(());
+        };
+        if targets.count <= FEW_TARGETS {
+            return Ok(());
+        }
+        let sorted = targets.sorted(alloc, units)?;
+        if sorted.is_empty() {
+            return Ok(());
+        }
+        let grouped = group_targets(alloc, &sorted)?;
+        self.groups.insert(unit, grouped)?;
+        Ok(())
+    }
+
     /// The long switch payloads among the pieces whose bits are set.
-    pub(crate) fn find(
-        alloc: Global,
-        units: &Units<'_>,
-        noted: &[u64],
-    ) -> Result<LongSwitches, AllocError>
+    pub(crate) fn find(alloc: Global, units: &Units<'_>, noted: &[u64]) -> Result<Self, AllocError>
         requires few { length noted.now < 2 ^ 57 }
         requires noted { AreNoted units.now noted.now }
         ensures { IfOk result (λ switches. ArePayloads units.now switches.groups) }
     {
-        let mut groups = HashMap::new(alloc);
+        let groups = HashMap::new(alloc);
+        let mut switches = LongSwitches { groups };
         if units.len() <= FEW_TARGETS {
-            return Ok(LongSwitches { groups });
+            return Ok(switches);
         }
         let mut at = 0;
         while let Some(unit) = next_bit(noted, at) {
-            note(alloc, units, &mut groups, unit)?;
+            switches.note(alloc, units, unit)?;
             at = unit + 1;
         }
-        Ok(LongSwitches { groups })
+        Ok(switches)
     }
 }

@@ -273,19 +273,9 @@ impl Format {
     {
         match self {
             Format10x | Format12x | Format11n | Format11x | Format10t => 1,
-            Format20t
-            | Format22x
-            | Format21t
-            | Format21s
-            | Format21h
-            | Format21c
-            | Format23x
-            | Format22b
-            | Format22s
-            | Format22t
-            | Format22c => 2,
             Format30t | Format32x | Format31i | Format31t | Format31c | Format35c | Format3rc => 3,
             Format51l => 5,
+            _ => 2,
         }
     }
 
@@ -300,10 +290,11 @@ impl Format {
 /// An opcode's mnemonic; `None` exactly where version 035 leaves the opcode unused.
 ///
 /// Source: the heading "Summary of bytecode set" of the Android page "Dalvik bytecode".
+#[tactic(auto, using(crate::proofs::Table::mnemonics_are))]
 pub fn mnemonic(op: u8) -> Option<&'static str>
     ensures { option_map (λ text. text.now) result ≡ option_map (λ o. o.mnemonic) (opcode_of op) }
 {
-    Format::of(op).map(|_| mnemonic_or_empty(op))
+    Format::of(op).map(|_| mnemonic_in(&MNEMONICS, op))
 }
 
 /// The pool whose rows an opcode's index counts; `None` where the opcode has no index, or is unused.
@@ -328,14 +319,6 @@ fn row_in(rows: &[Row; 256], op: u8) -> Row
     ensures { IsRowOf op result }
 {
     rows[op as usize]
-}
-
-/// The mnemonic of an opcode, or nothing where the opcode is unused.
-#[tactic(auto, using(crate::proofs::Table::mnemonics_are))]
-fn mnemonic_or_empty(op: u8) -> &'static str
-    ensures { result.now ≡ mnemonic_of op }
-{
-    mnemonic_in(&MNEMONICS, op)
 }
 
 /// What a table that is right has as an opcode's mnemonic.

@@ -2,7 +2,7 @@ ghost use Rattle.std.specs.Prelude.{◌≡◌, ◌+◌, ◌*◌, ◌<◌, ◌≤
 ghost use Rattle.std.specs.Option.{option_map};
 ghost use Rattle.std.specs.Ordering.{int_cmp};
 ghost use Rattle.dexspec.specs.Lists.{rises};
-ghost use Rattle.dexspec.specs.Pieces.{ints_in, is_payload_ident, payload_ident, payload_size, packed_switch_ident, sparse_switch_ident, array_data_ident};
+ghost use Rattle.dexspec.specs.Pieces.{ints_in, is_payload_ident, payload_ident, payload_size, array_data_ident};
 ghost use Rattle.dexinsn.specs.Payload.{ident_of};
 
 use crate::code_units::{Units, int_at};
@@ -59,35 +59,18 @@ impl PayloadKind {
         requires { slice_index units.now 0 ≡ ident_of self }
         ensures { result ≡ payload_size units.now }
     {
-        match self {
-            PayloadKind::PackedSwitch => packed_switch_size(units),
-            PayloadKind::SparseSwitch => sparse_switch_size(units),
-            PayloadKind::ArrayData => array_data_size(units),
+        if units.len() < 2 {
+            return None;
         }
+        let size = usize::from(units.at(1));
+        let needed = match self {
+            PayloadKind::PackedSwitch => 4 + 2 * size,
+            PayloadKind::SparseSwitch => 2 + 4 * size,
+            PayloadKind::ArrayData => return array_data_size(units),
+        };
+        let fits = needed <= units.len();
+        (fits && (self != PayloadKind::SparseSwitch || keys_rise(units, size))).then_some(needed)
     }
-}
-
-fn packed_switch_size(units: &Units<'_>) -> Option<usize>
-    requires { slice_index units.now 0 ≡ packed_switch_ident }
-    ensures { result ≡ payload_size units.now }
-{
-    if units.len() < 2 {
-        return None;
-    }
-    let needed = 4 + 2 * usize::from(units.at(1));
-    (needed <= units.len()).then_some(needed)
-}
-
-fn sparse_switch_size(units: &Units<'_>) -> Option<usize>
-    requires { slice_index units.now 0 ≡ sparse_switch_ident }
-    ensures { result ≡ payload_size units.now }
-{
-    if units.len() < 2 {
-        return None;
-    }
-    let size = usize::from(units.at(1));
-    let needed = 2 + 4 * size;
-    (needed <= units.len() && keys_rise(units, size)).then_some(needed)
 }
 
 fn array_data_size(units: &Units<'_>) -> Option<usize>

@@ -1,16 +1,18 @@
 //! One piece of code units at a time, found in few tests.
 
-ghost use Rattle.std.specs.Prelude.{◌≡◌, ◌<◌, ◌≤◌, drop, length, IfSome, MatchOption, Some};
+ghost use Rattle.std.specs.Prelude.{◌≡◌, ◌^◌, ◌<◌, ◌≤◌, [], drop, length, IfNone, IfSome, MatchOption, Some};
 ghost use Rattle.dexspec.specs.Pieces.{piece_size};
 ghost use Rattle.dexspec.specs.Mentions.{Mentions};
 ghost use Rattle.dexinsn.specs.Opcode.{IsPlainRow, kind_of_index};
-ghost use Rattle.dexinsn.specs.Checking.{AreLimits, HasNoStep, IsStep, count_of_index, limit_of, slot_of};
+ghost use Rattle.dexinsn.specs.Checking.{AreBitsOf, AreLimits, HasNoCode, HasNoStep, IsStep, begins_instruction, count_of_index, is_noted, limit_of, slot_of};
+ghost use Rattle.dexinsn.specs.internal.Checking.{ArePassedWhole};
 
 use crate::checking::{index_count, is_noted};
 use crate::code_units::{Units, opcode_in};
 use crate::instruction::instruction_size;
 use crate::opcodes::{IndexKind, Row, row_of};
 use crate::payload::PayloadKind;
+use crate::start_bits::put_bit;
 use dexpool::{Pools, SymbolKind};
 
 /// The number of units of the instruction or payload that comes first, at unit `at` of the code; `None` where neither
@@ -156,14 +158,9 @@ fn any_step(units: &Units<'_>, pools: &Pools<'_>, at: usize) -> Option<Step>
     })
 }
 
-/// The piece at a unit, if its index is in range or it has none.
+// The piece at a unit, if its index is in range or it has none.
 #[inline(always)]
-pub(crate) fn step_at(
-    units: &Units<'_>,
-    pools: &Pools<'_>,
-    limits: &Limits,
-    at: usize,
-) -> Option<Step>
+fn step_at(units: &Units<'_>, pools: &Pools<'_>, limits: &Limits, at: usize) -> Option<Step>
     requires within { at < length units.now }
     requires limits { AreLimits pools.now limits.now }
     ensures { MatchOption result (HasNoStep units.now pools.now at)
@@ -173,4 +170,31 @@ pub(crate) fn step_at(
         Some(step) => Some(step),
         None => any_step(units, pools, at),
     }
+}
+
+/// Cuts the units, checks the indices, and sets the bits of the pieces. Returns the number of indices.
+pub(crate) fn pass(
+    units: &Units<'_>,
+    pools: &Pools<'_>,
+    starts: &mut Vec<u64>,
+    noted: &mut Vec<u64>,
+) -> Option<usize>
+    requires few { length units.now < 2 ^ 32 }
+    requires starts { AreBitsOf begins_instruction units.now [] starts.old.items }
+    requires noted { AreBitsOf is_noted units.now [] noted.old.items }
+    ensures none { IfNone result (HasNoCode units.now pools.now) }
+    ensures some { IfSome result
+        (ArePassedWhole units.now pools.now starts.new.items noted.new.items) }
+{
+    let limits = Limits::of(pools);
+    let mut at = 0;
+    let mut indices = 0;
+    while at < units.len() {
+        let step = step_at(units, pools, &limits, at)?;
+        put_bit(starts, at, step.is_instruction);
+        put_bit(noted, at, step.is_noted);
+        indices += step.indices;
+        at += step.units;
+    }
+    Some(indices)
 }

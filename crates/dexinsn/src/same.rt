@@ -41,25 +41,6 @@ fn agree_beside(bytes: &[u8], others: &[u8], indices: &[Index]) -> bool
     agree(bytes, others, from, units.len())
 }
 
-// Returns whether both indices are at one unit and have one image, or neither has one.
-fn eq_remapped(
-    units: &Units<'_>,
-    index: Index,
-    remap: &Remap,
-    other: Index,
-    other_remap: &Remap,
-) -> bool
-    requires { IsIndexed units.now index }
-    ensures { IsTrue result ↔ AreEqualMapped remap.now other_remap.now units.now index other }
-{
-    if index.unit != other.unit {
-        return false;
-    }
-    let kind = index_kind_at(units, index.unit as usize);
-    let image = remap.image(kind, index.number as usize);
-    image == other_remap.image(kind, other.number as usize)
-}
-
 // The units and the indices of pieces, with the map by which the numbers of the indices are remapped.
 #[derive(Clone, Copy)]
 struct RemappedPieces<'s> {
@@ -69,6 +50,18 @@ struct RemappedPieces<'s> {
 }
 
 impl RemappedPieces<'_> {
+    // Returns whether both indices are at one unit and have one image, or neither has one.
+    fn eq_index(&self, units: &Units<'_>, index: Index, other: Index, theirs: &Remap) -> bool
+        requires { IsIndexed units.now index }
+        ensures { IsTrue result
+            ↔ AreEqualMapped self.now.remap.now theirs.now units.now index other }
+    {
+        let kind = index_kind_at(units, index.unit as usize);
+        index.unit == other.unit
+            && self.remap.image(kind, index.number as usize)
+                == theirs.image(kind, other.number as usize)
+    }
+
     // Returns whether the indices are at the same units, which these are, and have the same images.
     fn eq_indices(&self, units: &Units<'_>, other: &RemappedPieces<'_>) -> bool
         requires { All (IsIndexed units.now) self.now.indices.now }
@@ -80,7 +73,7 @@ impl RemappedPieces<'_> {
             return false;
         }
         for (i, index) in self.indices.iter().enumerate() {
-            if !eq_remapped(units, *index, self.remap, other.indices[i], other.remap) {
+            if !self.eq_index(units, *index, other.indices[i], other.remap) {
                 return false;
             }
         }

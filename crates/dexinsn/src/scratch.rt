@@ -24,13 +24,6 @@ impl<'s> Model for InstructionStarts<'s> {
 }
 
 impl<'s> InstructionStarts<'s> {
-    // The units whose bits are set.
-    pub(crate) fn of(words: &'s [u64]) -> InstructionStarts<'s>
-        ensures { result ≡ bits_in words.now }
-    {
-        InstructionStarts { words }
-    }
-
     /// Returns whether an instruction begins at an address, in units from the first one.
     ///
     /// Source: "code_item", the field `insns`.
@@ -45,7 +38,6 @@ impl<'s> InstructionStarts<'s> {
 /// was checked last whether an instruction begins there.
 #[derive(Drop)]
 pub struct Scratch {
-    pub(crate) alloc: Global,
     // A bit for each unit at which an instruction begins.
     pub(crate) starts: Vec<u64>,
     // A bit for each unit at which a payload, or an instruction with a branch offset, begins.
@@ -65,7 +57,6 @@ impl Scratch {
     /// Without memory yet.
     pub fn new(alloc: Global) -> Scratch {
         Scratch {
-            alloc,
             starts: Vec::new(alloc),
             noted: Vec::new(alloc),
         }
@@ -75,7 +66,8 @@ impl Scratch {
     pub fn starts(&self) -> InstructionStarts<'_>
         ensures { result ≡ self.now }
     {
-        InstructionStarts::of(&self.starts)
+        let words = &self.starts;
+        InstructionStarts { words }
     }
 }
 

@@ -173,13 +173,7 @@ impl<'a> Pieces<'a> {
         ensures { IfOk result (λ copy. copy ≡ self.now) }
     {
         let indices = Vec::from_slice(*self.indices.allocator(), &self.indices)?;
-        Ok(Pieces {
-            registers: self.registers,
-            ins: self.ins,
-            outs: self.outs,
-            bytes: self.bytes,
-            indices,
-        })
+        Ok(Pieces { indices, ..*self })
     }
 
     /// How many symbols occur, each as often as it does.

@@ -5,7 +5,7 @@ use Rattle.dexinsn.proofs.same.RemappedPieces.eq_indices.Goals as goal
 pub loop-i-preserved : goal.loop-i-preserved
 loop-i-preserved c =
     below_more (λ k. AreEqualMapped c.args.self.now.remap.now c.args.other.now.remap.now c.args.units.now (get_or c.args.self.now.indices.now k (record { unit = 0; number = 0 })) (get_or c.args.other.now.indices.now k (record { unit = 0; number = 0 }))) c.loop-i.i c.loop-i.invariant
-    (c.eq_remapped.ensures.0 c.if-not-eq_remapped.false)
+    (c.eq_index.ensures.0 c.if-not-eq_index.false)
 
 pub returns : goal.returns
 returns c = (

@@ -2,7 +2,7 @@ use Rattle.dexinsn.proofs.Common.{◌≡◌, ℕ, Some, sym, subst, ◌∙◌, i
 use Rattle.std.specs.HashMap.{get}
 use Rattle.dexinsn.proofs.IndexRoom.{size_is, piece_within}
 use Rattle.dexinsn.proofs.TargetGroups.{sorted_grouped}
-use Rattle.dexinsn.proofs.long_switches.note.Goals as goal
+use Rattle.dexinsn.proofs.long_switches.LongSwitches.note.Goals as goal
 
 one_value : (a b : Vec TargetGroup Global) → Some a ≡ Some b → b ≡ a
 one_value a b e = cc

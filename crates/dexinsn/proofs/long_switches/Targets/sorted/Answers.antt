@@ -1,10 +1,10 @@
 use Rattle.dexinsn.proofs.Common.{◌+◌, ◌-◌, ◌*◌, sym, ap, subst, ◌++◌, ◌∷◌, [], List, ℤ, ◌≡◌, to_z, of_z, w32, rules, arith, SFits, to_z-of_z, ints_in}
 use Rattle.dexinsn.proofs.TargetGroups.{one_read}
-use Rattle.dexinsn.proofs.long_switches.sorted_targets.Goals as goal
+use Rattle.dexinsn.proofs.long_switches.Targets.sorted.Goals as goal
 
 pub loop-i-preserved : goal.loop-i-preserved
 loop-i-preserved c =
-    let t = c.args.targets in
+    let t = c.args.self in
     let fits : SFits w32 c.int_at.result = search rules in
     let number : c.loop-i.sorted.items ++ to_z w32 (of_z w32 c.int_at.result) ∷ [] ≡ c.loop-i.sorted.items ++ c.int_at.result ∷ [] = ap (λ (z : ℤ). c.loop-i.sorted.items ++ z ∷ []) (to_z-of_z w32 c.int_at.result fits) in
     let pushed : c.push.new.self.items ≡ c.loop-i.sorted.items ++ c.int_at.result ∷ [] = subst (λ (read : List ℤ). c.push.new.self.items ≡ read) number c.in_ok-push.ensures.items in

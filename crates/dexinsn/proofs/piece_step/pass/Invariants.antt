@@ -1,5 +1,5 @@
 use Rattle.dexinsn.proofs.Common.{◌-◌, length, ArePassed}
-use Rattle.dexinsn.proofs.checking.pass.Given as goal
+use Rattle.dexinsn.proofs.piece_step.pass.Given as goal
 
 abbrev pub invariant-loop-at : goal.invariant-loop-at
 invariant-loop-at l = ArePassed l.units l.pools l.starts.items l.noted.items l.at l.indices

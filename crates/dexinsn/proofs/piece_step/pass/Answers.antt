@@ -1,7 +1,7 @@
 use Rattle.dexinsn.proofs.Common.{drop, arith, length-drop, begins_instruction, is_noted}
 use Rattle.dexinsn.proofs.IndexRoom.{piece_size-fits}
 use Rattle.dexinsn.proofs.Passed.{bits_put, no_step, one_passed}
-use Rattle.dexinsn.proofs.checking.pass.Goals as goal
+use Rattle.dexinsn.proofs.piece_step.pass.Goals as goal
 
 pub put_bit-requires : goal.put_bit-requires
 put_bit-requires c = omega (arith, c.loop-at.invariant.starts_are.room)

@@ -93,12 +93,8 @@ impl<'a> Debug<'a> {
         ensures { IfOk result (λ copy. copy ≡ self.now) }
     {
         Ok(Debug {
-            bytes: self.bytes,
             indices: Vec::from_slice(*self.indices.allocator(), &self.indices)?,
-            names: self.names,
-            at: self.at,
-            count: self.count,
-            line_start: self.line_start,
+            ..*self
         })
     }
 }

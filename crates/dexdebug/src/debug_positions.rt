@@ -56,22 +56,6 @@ fn next_line(line: i64, operation: &Operation) -> i64
     line + line_step(operation)
 }
 
-// Keeps a position, if it is recorded.
-fn keep(
-    found: &mut Vec<(u64, i64)>,
-    is_recorded: bool,
-    address: u64,
-    line: i64,
-) -> Result<(), AllocError>
-    ensures { OnOk result (found.new.items
-        ≡ with_position is_recorded found.old.items address line) }
-{
-    if is_recorded {
-        found.push((address, line))?;
-    }
-    Ok(())
-}
-
 // The positions of operations, from a line on.
 fn positions_from(
     alloc: Global,
@@ -88,7 +72,9 @@ fn positions_from(
     for operation in operations {
         address += address_step(&operation);
         line = next_line(line, &operation);
-        keep(&mut found, is_special(&operation), address, line)?;
+        if is_special(&operation) {
+            found.push((address, line))?;
+        }
     }
     Ok(found)
 }

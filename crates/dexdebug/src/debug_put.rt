@@ -31,20 +31,15 @@ fn encode_index<O: Output>(number: Option<u32>, out: &mut O)
 }
 
 // Writes the operands that declare a local variable.
-fn encode_local<O: Output>(
-    register_num: u32,
-    name_idx: Option<u32>,
-    type_idx: Option<u32>,
-    out: &mut O,
-)
-    requires name { FitsIndex name_idx }
-    requires typ { FitsIndex type_idx }
+fn encode_local<O: Output>(register_num: u32, name: Option<u32>, typ: Option<u32>, out: &mut O)
+    requires name { FitsIndex name }
+    requires typ { FitsIndex typ }
     ensures { O.gives (uleb128 register_num
-        ++ (uleb128p1 name_idx ++ uleb128p1 type_idx)) out.old out.new }
+        ++ (uleb128p1 name ++ uleb128p1 typ)) out.old out.new }
 {
     out.uleb(register_num);
-    encode_index(name_idx, out);
-    encode_index(type_idx, out);
+    encode_index(name, out);
+    encode_index(typ, out);
 }
 
 // Writes an opcode and a number.
@@ -160,20 +155,6 @@ fn most_len(debug: &Debug<'_>) -> usize
     11 + 5 * debug.names as usize + 21 * debug.count as usize
 }
 
-// Reserves room for a debug program. It is measured only where there is no room for the longest one.
-fn make_room(debug: &Debug<'_>, out: &mut Vec<u8>) -> Result<(), AllocError>
-    ensures items { out.new.items ≡ out.old.items }
-    ensures len { vec_len out.new ≡ vec_len out.old }
-    ensures room { OnOk result (HasRoomFor (numbered_debug_bytes debug.now) out.new) }
-    ensures succeeds { HasRoomFor (numbered_debug_bytes debug.now) out.old → IsOk result }
-    ensures capacity { vec_capacity out.old ≤ vec_capacity out.new }
-{
-    if most_len(debug) <= out.capacity() - out.len() {
-        return Ok(());
-    }
-    out.reserve(debug.item_len())
-}
-
 /// Appends the debug_info_item, every number in its shortest encoding. It is that of the symbolic debug program that
 /// `debug` denotes in the numbering, each index the rank of its symbol.
 ///
@@ -194,7 +175,10 @@ pub fn put_debug(
 {
     numbering.is_numbering();
     debug_bytes_law();
-    make_room(debug, out)?;
+    // It is measured only where there is no room for the longest one.
+    if most_len(debug) > out.capacity() - out.len() {
+        out.reserve(debug.item_len())?;
+    }
     debug.encode(out);
     Ok(())
 }

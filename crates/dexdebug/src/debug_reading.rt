@@ -58,26 +58,11 @@ pub struct DebugShape {
     pub weight: u64,
 }
 
-// The unsigned number at a place, and how many bytes it has.
-#[inline(always)]
-fn number_at(bytes: &[u8], at: usize) -> Option<(u32, usize)>
-    requires { at ≤ length bytes.now }
-    ensures found { IfSome result (λ read. Uleb128At bytes.now at read.0 read.1) }
-    ensures within { IfSome result (λ read. at + read.1 ≤ length bytes.now) }
-    ensures only { (v n : ℕ) → Uleb128At bytes.now at v n → result ≡ Some (v, n) }
-{
-    read_u(bytes, at).ok()
-}
-
-// The signed number at a place, and how many bytes it has.
-#[inline(always)]
-fn lines_at(bytes: &[u8], at: usize) -> Option<(i32, usize)>
-    requires { at ≤ length bytes.now }
-    ensures found { IfSome result (λ read. Sleb128At bytes.now at read.0 read.1) }
-    ensures within { IfSome result (λ read. at + read.1 ≤ length bytes.now) }
-    ensures only { (v : ℤ) (n : ℕ) → Sleb128At bytes.now at v n → result ≡ Some (v, n) }
-{
-    read_s(bytes, at).ok()
+/// Reads parts of debug programs in the bytes of a file that has so many texts and types.
+#[derive(Clone, Copy)]
+pub(crate) struct DebugReader<'b> {
+    pub(crate) bytes: &'b [u8],
+    pub(crate) counts: Counts,
 }
 
 // Whether the number, if there is one, is below a count.
@@ -88,252 +73,246 @@ fn is_below(number: Option<u32>, count: usize) -> bool
     number.is_none_or(|number| (number as usize) < count)
 }
 
-// The index below a count, or none, at a place, and how many bytes it has.
-#[inline(always)]
-fn index_at(bytes: &[u8], at: usize, count: usize) -> Option<(Option<u32>, usize)>
-    requires { at ≤ length bytes.now }
-    ensures found { IfSome result (λ read. IndexAt count bytes.now at read.0 read.1) }
-    ensures within { IfSome result (λ read. at + read.1 ≤ length bytes.now) }
-    ensures only { (i : Option ℕ) (n : ℕ) → IndexAt count bytes.now at i n → result ≡ Some (i, n) }
-{
-    match read_p1(bytes, at) {
-        Ok((number, len)) => is_below(number, count).then_some((number, len)),
-        Err(_) => None,
+impl<'b> DebugReader<'b> {
+    // The unsigned number at a place, and how many bytes it has.
+    #[inline(always)]
+    fn number_at(&self, at: usize) -> Option<(u32, usize)>
+        requires { at ≤ length self.now.bytes.now }
+        ensures found { IfSome result (λ read. Uleb128At self.now.bytes.now at read.0 read.1) }
+        ensures within { IfSome result (λ read. at + read.1 ≤ length self.now.bytes.now) }
+        ensures only { (v n : ℕ) → Uleb128At self.now.bytes.now at v n → result ≡ Some (v, n) }
+    {
+        read_u(self.bytes, at).ok()
     }
-}
 
-// The description of a local variable at an offset: its register, the numbers of its name and its type, and how many
-// bytes they have.
-#[inline(always)]
-fn local_at(
-    bytes: &[u8],
-    at: usize,
-    counts: Counts,
-) -> Option<(u32, Option<u32>, Option<u32>, usize)>
-    requires { at ≤ length bytes.now }
-    ensures found { IfSome result (λ read.
-        LocalAt counts bytes.now at read.0 read.1 read.2 read.3) }
-    ensures within { IfSome result (λ read. at + read.3 ≤ length bytes.now) }
-    ensures only { IsOnlyLocal counts bytes.now at result }
-{
-    let (register_num, register_len) = number_at(bytes, at)?;
-    let (name_idx, name_len) = index_at(bytes, at + register_len, counts.texts)?;
-    let (type_idx, type_len) = index_at(bytes, at + register_len + name_len, counts.types)?;
-    Some((
-        register_num,
-        name_idx,
-        type_idx,
-        register_len + name_len + type_len,
-    ))
-}
-
-// The operation of an opcode, whose operands are at a place, and how many bytes they have.
-#[inline(always)]
-pub(crate) fn operation_at(
-    bytes: &[u8],
-    at: usize,
-    opcode: u8,
-    counts: Counts,
-) -> Option<(Operation, usize)>
-    requires within { at ≤ length bytes.now }
-    requires some { 0 < opcode }
-    ensures found { IfSome result (λ read. OperandsAt counts opcode bytes.now at read.0 read.1) }
-    ensures within { IfSome result (λ read. at + read.1 ≤ length bytes.now) }
-    ensures only { (op : Operation) (n : ℕ) → OperandsAt counts opcode bytes.now at op n
-        → result ≡ Some (op, n) }
-{
-    match opcode {
-        DBG_ADVANCE_PC => {
-            let (addr_diff, len) = number_at(bytes, at)?;
-            Some((Operation::AdvancePc(addr_diff), len))
-        }
-        DBG_ADVANCE_LINE => {
-            let (line_diff, len) = lines_at(bytes, at)?;
-            Some((Operation::AdvanceLine(line_diff), len))
-        }
-        DBG_START_LOCAL => {
-            let (register_num, name_idx, type_idx, len) = local_at(bytes, at, counts)?;
-            let operation = Operation::StartLocal {
-                register_num,
-                name_idx,
-                type_idx,
-            };
-            Some((operation, len))
-        }
-        DBG_START_LOCAL_EXTENDED => {
-            let (register_num, name_idx, type_idx, local_len) = local_at(bytes, at, counts)?;
-            let (sig_idx, sig_len) = index_at(bytes, at + local_len, counts.texts)?;
-            let operation = Operation::StartLocalExtended {
-                register_num,
-                name_idx,
-                type_idx,
-                sig_idx,
-            };
-            Some((operation, local_len + sig_len))
-        }
-        DBG_END_LOCAL => {
-            let (register_num, len) = number_at(bytes, at)?;
-            Some((Operation::EndLocal(register_num), len))
-        }
-        DBG_RESTART_LOCAL => {
-            let (register_num, len) = number_at(bytes, at)?;
-            Some((Operation::RestartLocal(register_num), len))
-        }
-        DBG_SET_PROLOGUE_END => Some((Operation::SetPrologueEnd, 0)),
-        DBG_SET_EPILOGUE_BEGIN => Some((Operation::SetEpilogueBegin, 0)),
-        DBG_SET_FILE => {
-            let (name_idx, len) = index_at(bytes, at, counts.texts)?;
-            Some((Operation::SetFile(name_idx), len))
-        }
-        _ => Some((Operation::Special(opcode), 0)),
+    // The signed number at a place, and how many bytes it has.
+    #[inline(always)]
+    fn lines_at(&self, at: usize) -> Option<(i32, usize)>
+        requires { at ≤ length self.now.bytes.now }
+        ensures found { IfSome result (λ read. Sleb128At self.now.bytes.now at read.0 read.1) }
+        ensures within { IfSome result (λ read. at + read.1 ≤ length self.now.bytes.now) }
+        ensures only { (v : ℤ) (n : ℕ) → Sleb128At self.now.bytes.now at v n → result ≡ Some (v, n) }
+    {
+        read_s(self.bytes, at).ok()
     }
-}
 
-// The end of `count` names from an offset on, if they are there.
-fn names_end(bytes: &[u8], from: usize, count: u32, texts: usize) -> Option<usize>
-    requires { from ≤ length bytes.now }
-    ensures { MatchOption result (NoNames texts bytes.now from count)
-        (EndNames texts bytes.now from count) }
-{
-    let mut at = from;
-    for _ in 0..count {
-        let (_, len) = index_at(bytes, at, texts)?;
-        at += len;
-    }
-    Some(at)
-}
-
-// The number of operations from an offset on, up to the end, and their weight.
-fn check_operations(bytes: &[u8], from: usize, counts: Counts) -> Option<Tally>
-    requires within { from ≤ length bytes.now }
-    requires following { 0 < from }
-    requires small { length bytes.now ≤ 2 ^ 30 }
-    ensures { MatchOption result (NoProgram counts bytes.now from)
-        (AreTallied counts bytes.now from) }
-{
-    let mut operations = 0;
-    let mut indices = 0;
-    let mut weight = 0;
-    let mut at = from;
-    while at < bytes.len() {
-        let opcode = bytes[at];
-        if opcode == DBG_END_SEQUENCE {
-            return Some(Tally {
-                operations,
-                indices,
-                weight,
-            });
+    // The index below a count, or none, at a place, and how many bytes it has.
+    #[inline(always)]
+    fn index_at(&self, at: usize, count: usize) -> Option<(Option<u32>, usize)>
+        requires { at ≤ length self.now.bytes.now }
+        ensures found { IfSome result (λ read. IndexAt count self.now.bytes.now at read.0 read.1) }
+        ensures within { IfSome result (λ read. at + read.1 ≤ length self.now.bytes.now) }
+        ensures only { (i : Option ℕ) (n : ℕ) → IndexAt count self.now.bytes.now at i n → result ≡ Some (i, n) }
+    {
+        match read_p1(self.bytes, at) {
+            Ok((number, len)) => is_below(number, count).then_some((number, len)),
+            Err(_) => None,
         }
-        let (operation, len) = operation_at(bytes, at + 1, opcode, counts)?;
-        operations += 1;
-        indices += operation.index_count();
-        weight += 1 + 5 * operation.operands();
-        at += 1 + len;
     }
-    None
-}
 
-// The shape of the debug_info_item at an offset, if one is there. Nothing is kept of it.
-fn check_numbered(bytes: &[u8], at: usize, counts: Counts) -> Option<DebugShape>
-    requires within { at ≤ length bytes.now }
-    requires small { length bytes.now ≤ 2 ^ 30 }
-    ensures { MatchOption result (NoNumberedDebug counts bytes.now at)
-        (IsShape counts bytes.now at) }
-{
-    let (line_start, start_len) = number_at(bytes, at)?;
-    let (names, count_len) = number_at(bytes, at + start_len)?;
-    let names_at = at + start_len + count_len;
-    let operations_at = names_end(bytes, names_at, names, counts.texts)?;
-    let tally = check_operations(bytes, operations_at, counts)?;
-    Some(DebugShape {
-        line_start,
-        names_at,
-        names,
-        operations_at,
-        tally,
-        weight: 11 + 5 * u64::from(names) + tally.weight,
-    })
-}
-
-// Stores the names.
-fn keep_names(
-    indices: &mut Vec<Index>,
-    bytes: &[u8],
-    shape: DebugShape,
-    texts: usize,
-) -> Result<(), AllocError>
-    requires within { shape.names_at ≤ length bytes.now }
-    requires are_encoded { HaveNames texts bytes.now shape.names_at shape.names }
-    ensures { OnOk result (KeepsNames texts bytes.now shape.names_at shape.names indices.old.items
-        indices.new.items) }
-{
-    let mut at = shape.names_at;
-    for _ in 0..shape.names {
-        let (name, len) = index_at(bytes, at, texts).unwrap();
-        indices.push(Index::text(name))?;
-        at += len;
+    // The description of a local variable at an offset: its register, the numbers of its name and its type, and how many
+    // bytes they have.
+    #[inline(always)]
+    fn local_at(&self, at: usize) -> Option<(u32, Option<u32>, Option<u32>, usize)>
+        requires { at ≤ length self.now.bytes.now }
+        ensures found { IfSome result (λ read.
+            LocalAt self.now.counts self.now.bytes.now at read.0 read.1 read.2 read.3) }
+        ensures within { IfSome result (λ read. at + read.3 ≤ length self.now.bytes.now) }
+        ensures only { IsOnlyLocal self.now.counts self.now.bytes.now at result }
+    {
+        let (register_num, register_len) = self.number_at(at)?;
+        let (name_idx, name_len) = self.index_at(at + register_len, self.counts.texts)?;
+        let (type_idx, type_len) = self.index_at(at + register_len + name_len, self.counts.types)?;
+        let len = register_len + name_len + type_len;
+        Some((register_num, name_idx, type_idx, len))
     }
-    Ok(())
-}
 
-// Stores the symbols of the operations.
-fn keep_symbols(
-    indices: &mut Vec<Index>,
-    bytes: &[u8],
-    shape: DebugShape,
-    counts: Counts,
-) -> Result<(), AllocError>
-    requires within { shape.operations_at ≤ length bytes.now }
-    requires tallied { AreTallied counts bytes.now shape.operations_at shape.tally }
-    ensures { OnOk result (KeepsSymbols counts bytes.now shape.operations_at shape.tally
-        indices.old.items indices.new.items) }
-{
-    if shape.tally.indices == 0 {
-        return Ok(());
+    // The operation of an opcode, whose operands are at a place, and how many bytes they have.
+    #[inline(always)]
+    pub(crate) fn operation_at(&self, at: usize, opcode: u8) -> Option<(Operation, usize)>
+        requires within { at ≤ length self.now.bytes.now }
+        requires some { 0 < opcode }
+        ensures found { IfSome result (λ read. OperandsAt self.now.counts opcode self.now.bytes.now at read.0 read.1) }
+        ensures within { IfSome result (λ read. at + read.1 ≤ length self.now.bytes.now) }
+        ensures only { (op : Operation) (n : ℕ) → OperandsAt self.now.counts opcode self.now.bytes.now at op n
+            → result ≡ Some (op, n) }
+    {
+        match opcode {
+            DBG_ADVANCE_PC => {
+                let (addr_diff, len) = self.number_at(at)?;
+                Some((Operation::AdvancePc(addr_diff), len))
+            }
+            DBG_ADVANCE_LINE => {
+                let (line_diff, len) = self.lines_at(at)?;
+                Some((Operation::AdvanceLine(line_diff), len))
+            }
+            DBG_START_LOCAL => {
+                let (register_num, name_idx, type_idx, len) = self.local_at(at)?;
+                let operation = Operation::StartLocal {
+                    register_num,
+                    name_idx,
+                    type_idx,
+                };
+                Some((operation, len))
+            }
+            DBG_START_LOCAL_EXTENDED => {
+                let (register_num, name_idx, type_idx, local_len) = self.local_at(at)?;
+                let (sig_idx, sig_len) = self.index_at(at + local_len, self.counts.texts)?;
+                let operation = Operation::StartLocalExtended {
+                    register_num,
+                    name_idx,
+                    type_idx,
+                    sig_idx,
+                };
+                Some((operation, local_len + sig_len))
+            }
+            DBG_END_LOCAL => {
+                let (register_num, len) = self.number_at(at)?;
+                Some((Operation::EndLocal(register_num), len))
+            }
+            DBG_RESTART_LOCAL => {
+                let (register_num, len) = self.number_at(at)?;
+                Some((Operation::RestartLocal(register_num), len))
+            }
+            DBG_SET_PROLOGUE_END => Some((Operation::SetPrologueEnd, 0)),
+            DBG_SET_EPILOGUE_BEGIN => Some((Operation::SetEpilogueBegin, 0)),
+            DBG_SET_FILE => {
+                let (name_idx, len) = self.index_at(at, self.counts.texts)?;
+                Some((Operation::SetFile(name_idx), len))
+            }
+            _ => Some((Operation::Special(opcode), 0)),
+        }
     }
-    let mut at = shape.operations_at;
-    for _ in 0..shape.tally.operations {
-        let (operation, len) = operation_at(bytes, at + 1, bytes[at], counts).unwrap();
-        keep_indices(indices, operation)?;
-        at += 1 + len;
-    }
-    Ok(())
-}
 
-// The debug program at an offset, in exactly the memory that it takes.
-fn build_numbered<'a>(
-    alloc: Global,
-    bytes: &'a [u8],
-    at: usize,
-    counts: Counts,
-    shape: DebugShape,
-) -> Result<Debug<'a>, AllocError>
-    requires within { at ≤ length bytes.now }
-    requires small { length bytes.now ≤ 2 ^ 30 }
-    requires shape { IsShape counts bytes.now at shape }
-    ensures { IfOk result (NumberedDebugAt counts bytes.now at) }
-{
-    let mut indices = Vec::with_capacity(alloc, shape.names as usize + shape.tally.indices)?;
-    keep_names(&mut indices, bytes, shape, counts.texts)?;
-    keep_symbols(&mut indices, bytes, shape, counts)?;
-    Ok(Debug {
-        bytes,
-        indices,
-        names: shape.names,
-        at: shape.operations_at as u32,
-        count: shape.tally.operations as u32,
-        line_start: shape.line_start,
-    })
+    // The end of `count` names from an offset on, if they are there.
+    fn names_end(&self, from: usize, count: u32) -> Option<usize>
+        requires { from ≤ length self.now.bytes.now }
+        ensures { MatchOption result (NoNames self.now.counts.texts self.now.bytes.now from count)
+            (EndNames self.now.counts.texts self.now.bytes.now from count) }
+    {
+        let mut at = from;
+        for _ in 0..count {
+            let (_, len) = self.index_at(at, self.counts.texts)?;
+            at += len;
+        }
+        Some(at)
+    }
+
+    // The number of operations from an offset on, up to the end, and their weight.
+    fn check_operations(&self, from: usize) -> Option<Tally>
+        requires within { from ≤ length self.now.bytes.now }
+        requires following { 0 < from }
+        requires small { length self.now.bytes.now ≤ 2 ^ 30 }
+        ensures { MatchOption result (NoProgram self.now.counts self.now.bytes.now from)
+            (AreTallied self.now.counts self.now.bytes.now from) }
+    {
+        let mut operations = 0;
+        let mut indices = 0;
+        let mut weight = 0;
+        let mut at = from;
+        while at < self.bytes.len() {
+            let opcode = self.bytes[at];
+            if opcode == DBG_END_SEQUENCE {
+                return Some(Tally {
+                    operations,
+                    indices,
+                    weight,
+                });
+            }
+            let (operation, len) = self.operation_at(at + 1, opcode)?;
+            operations += 1;
+            indices += operation.index_count();
+            weight += 1 + 5 * operation.operands();
+            at += 1 + len;
+        }
+        None
+    }
+
+    // The shape of the debug_info_item at an offset, if one is there. Nothing is kept of it.
+    fn check_numbered(&self, at: usize) -> Option<DebugShape>
+        requires within { at ≤ length self.now.bytes.now }
+        requires small { length self.now.bytes.now ≤ 2 ^ 30 }
+        ensures { MatchOption result (NoNumberedDebug self.now.counts self.now.bytes.now at)
+            (IsShape self.now.counts self.now.bytes.now at) }
+    {
+        let (line_start, start_len) = self.number_at(at)?;
+        let (names, count_len) = self.number_at(at + start_len)?;
+        let names_at = at + start_len + count_len;
+        let operations_at = self.names_end(names_at, names)?;
+        let tally = self.check_operations(operations_at)?;
+        Some(DebugShape {
+            line_start,
+            names_at,
+            names,
+            operations_at,
+            tally,
+            weight: 11 + 5 * u64::from(names) + tally.weight,
+        })
+    }
+
+    // Stores the names.
+    fn keep_names(&self, indices: &mut Vec<Index>, shape: DebugShape) -> Result<(), AllocError>
+        requires within { shape.names_at ≤ length self.now.bytes.now }
+        requires are_encoded { HaveNames self.now.counts.texts self.now.bytes.now shape.names_at shape.names }
+        ensures { OnOk result (KeepsNames self.now.counts.texts self.now.bytes.now shape.names_at shape.names indices.old.items
+            indices.new.items) }
+    {
+        let mut at = shape.names_at;
+        for _ in 0..shape.names {
+            let (name, len) = self.index_at(at, self.counts.texts).unwrap();
+            indices.push(Index::text(name))?;
+            at += len;
+        }
+        Ok(())
+    }
+
+    // Stores the symbols of the operations.
+    fn keep_symbols(&self, indices: &mut Vec<Index>, shape: DebugShape) -> Result<(), AllocError>
+        requires within { shape.operations_at ≤ length self.now.bytes.now }
+        requires tallied { AreTallied self.now.counts self.now.bytes.now shape.operations_at shape.tally }
+        ensures { OnOk result (KeepsSymbols self.now.counts self.now.bytes.now shape.operations_at shape.tally
+            indices.old.items indices.new.items) }
+    {
+        if shape.tally.indices == 0 {
+            return Ok(());
+        }
+        let mut at = shape.operations_at;
+        for _ in 0..shape.tally.operations {
+            let (operation, len) = self.operation_at(at + 1, self.bytes[at]).unwrap();
+            keep_indices(indices, operation)?;
+            at += 1 + len;
+        }
+        Ok(())
+    }
+
+    // The debug program at an offset, in exactly the memory that it takes.
+    fn debug_at(&self, alloc: Global, at: usize, shape: DebugShape) -> Result<Debug<'b>, AllocError>
+        requires within { at ≤ length self.now.bytes.now }
+        requires small { length self.now.bytes.now ≤ 2 ^ 30 }
+        requires shape { IsShape self.now.counts self.now.bytes.now at shape }
+        ensures { IfOk result (NumberedDebugAt self.now.counts self.now.bytes.now at) }
+    {
+        let mut indices = Vec::with_capacity(alloc, shape.names as usize + shape.tally.indices)?;
+        self.keep_names(&mut indices, shape)?;
+        self.keep_symbols(&mut indices, shape)?;
+        Ok(Debug {
+            bytes: self.bytes,
+            indices,
+            names: shape.names,
+            at: shape.operations_at as u32,
+            count: shape.tally.operations as u32,
+            line_start: shape.line_start,
+        })
+    }
 }
 
 // How many texts and types the pools have.
 fn counts_of(pools: &Pools<'_>) -> Counts
     ensures { result ≡ counts_of pools.now }
 {
-    Counts {
-        texts: pools.len(SymbolKind::Text),
-        types: pools.len(SymbolKind::Typ),
-    }
+    let texts = pools.len(SymbolKind::Text);
+    let types = pools.len(SymbolKind::Typ);
+    Counts { texts, types }
 }
 
 // The shape of the debug_info_item at an offset, if one is there.
@@ -345,7 +324,8 @@ fn shape_at(frame: &Frame<'_>, pools: &Pools<'_>, off: u32) -> Option<DebugShape
     if off < frame.data_off() || bytes.len() < off as usize {
         return None;
     }
-    check_numbered(bytes, off as usize, counts_of(pools))
+    let counts = counts_of(pools);
+    DebugReader { bytes, counts }.check_numbered(off as usize)
 }
 
 /// Checks the debug_info_item at an offset, whose indices count in the pools: those of the file. Nothing is kept of it.
@@ -383,8 +363,9 @@ pub fn build_debug<'a>(
     requires { IsShapeAt frame.now off pools.now shape }
     ensures { ArePools frame.now pools.now → IfOk result (IsDebugAt frame.now off pools.now) }
 {
+    let bytes = frame.bytes();
     let counts = counts_of(pools);
-    build_numbered(alloc, frame.bytes(), off as usize, counts, shape)
+    DebugReader { bytes, counts }.debug_at(alloc, off as usize, shape)
 }
 
 /// Reads the debug_info_item at an offset, whose indices count in the pools: those of the file.

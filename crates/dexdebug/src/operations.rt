@@ -8,7 +8,7 @@ ghost use Rattle.dexdebug.specs.Operations.{number_in};
 
 use crate::debug_opcodes::DBG_FIRST_SPECIAL;
 use crate::debug_operation::Operation;
-use crate::debug_reading::{EVERY, operation_at};
+use crate::debug_reading::{DebugReader, EVERY};
 use crate::indices::Index;
 use std::alloc::AllocError;
 use std::marker::Model;
@@ -91,7 +91,11 @@ impl<'p> Iterator for OperationIter<'p> {
             self.count -= 1;
             return Some(Operation::Special(opcode));
         }
-        let (operation, len) = operation_at(self.bytes, self.at + 1, opcode, EVERY).unwrap();
+        let reader = DebugReader {
+            bytes: self.bytes,
+            counts: EVERY,
+        };
+        let (operation, len) = reader.operation_at(self.at + 1, opcode).unwrap();
         self.at += 1 + len;
         self.count -= 1;
         let places = operation.index_count();
@@ -112,23 +116,14 @@ pub(crate) fn keep_indices(indices: &mut Vec<Index>, operation: Operation) -> Re
     requires { IsFormedOperation operation }
     ensures { OnOk result (indices.new.items ≡ indices.old.items ++ indices_of operation) }
 {
-    match operation {
-        Operation::StartLocal {
-            name_idx,
-            type_idx,
-            ..
-        } => indices.extend_from_slice(&[Index::text(name_idx), Index::typ(type_idx)]),
-        Operation::StartLocalExtended {
-            name_idx,
-            type_idx,
-            sig_idx,
-            ..
-        } => indices.extend_from_slice(&[
-            Index::text(name_idx),
-            Index::typ(type_idx),
-            Index::text(sig_idx),
-        ]),
-        Operation::SetFile(name_idx) => indices.extend_from_slice(&[Index::text(name_idx)]),
-        _ => Ok(()),
+    let count = operation.index_count();
+    if count == 0 {
+        return Ok(());
     }
+    let all = [
+        Index::text(operation.name_idx()),
+        Index::typ(operation.type_idx()),
+        Index::text(operation.sig_idx()),
+    ];
+    indices.extend_from_slice(&all[..count])
 }

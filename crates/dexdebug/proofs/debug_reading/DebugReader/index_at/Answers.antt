@@ -1,7 +1,7 @@
 use Rattle.dexdebug.proofs.Common.{◌≡◌, ◌<◌, Bool, true, false, Option, Some, None, refl, sym, subst, IfSome}
 use Rattle.std.specs.Bool.{then_some}
 use Rattle.dexdebug.proofs.DebugRead.{some_of, some_parts}
-use Rattle.dexdebug.proofs.debug_reading.index_at.Goals as goal
+use Rattle.dexdebug.proofs.debug_reading.DebugReader.index_at.Goals as goal
 
 -- what is read, if it passes a test
 by_test : {X : Type 0} (P : Option X → Type 0) (x : X) (b : Bool) (r : Option X) → r ≡ then_some b x → (b ≡ true → P (Some x)) → (b ≡ false → P None) → P r

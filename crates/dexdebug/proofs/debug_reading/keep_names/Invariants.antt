@@ -1,5 +1,0 @@
-use Rattle.dexdebug.proofs.DebugRuns.{NamesKept}
-use Rattle.dexdebug.proofs.debug_reading.keep_names.Given as goal
-
-abbrev pub invariant-loop : goal.invariant-loop
-invariant-loop l = NamesKept l.texts l.bytes l.fn.shape.names_at l.fn.shape.names l.counter l.at l.initial.indices.items l.indices.items

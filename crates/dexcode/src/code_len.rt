@@ -13,7 +13,7 @@ use crate::code_laws::{code_bytes_law, code_weight_law};
 use crate::code_put::encode_list;
 use crate::handlers::Handler;
 use crate::tries::{Tries, Try};
-use dexhead::{Count, Encode};
+use dexhead::{Count, encoded_len};
 use dexinsn::Pieces;
 
 // The number of catches, 0 or less where there is an address for all else.
@@ -34,9 +34,7 @@ pub(crate) fn handler_len(handler: &Handler) -> usize
     ensures len { result ≡ length (numbered_handler_bytes handler.now) }
     ensures few { result ≤ 10 + 10 * length handler.now.catches }
 {
-    let mut count = Count { len: 0 };
-    handler.encode(&mut count);
-    count.len
+    encoded_len(handler)
 }
 
 // Returns the length of the list of handlers.

@@ -5,8 +5,8 @@ ghost use Rattle.std.specs.List.{flat_map};
 ghost use Rattle.dexspec.specs.Code.{most_handlers};
 ghost use Rattle.dexspec.specs.Numbers.{uleb128};
 ghost use Rattle.dexspec.specs.internal.Writing.{Puts};
-ghost use Rattle.dexcode.specs.CodePut.{HasShortTypes, AreShort, ArePlaces, gap_bytes, handler_count, numbered_catch_bytes, numbered_handler_bytes, numbered_head_bytes, numbered_item_bytes, numbered_code_bytes, numbered_list_bytes, numbered_table_bytes, numbered_tries_bytes, placed_try_bytes, unit_count, DenotedWeighsMore, IsOkWithRoomForDenoted, PutsDenotedCode};
-ghost use Rattle.dexcode.specs.Numbered.{AreStored, all_named, handlers_of, handlers_weight};
+ghost use Rattle.dexcode.specs.CodePut.{HasShortTypes, AreShort, ArePlaces, gap_bytes, handler_count, numbered_catch_bytes, numbered_handler_bytes, numbered_head_bytes, numbered_item_bytes, numbered_code_bytes, numbered_list_bytes, numbered_tries_bytes, placed_try_bytes, unit_count, DenotedWeighsMore, IsOkWithRoomForDenoted, PutsDenotedCode};
+ghost use Rattle.dexcode.specs.Numbered.{handlers_of, handlers_weight};
 
 use crate::code::Code;
 use crate::code_laws::{code_bytes_law, code_weight_law};
@@ -99,17 +99,6 @@ fn encode_items<O: Output>(tries: &[Try], places: &[u16], out: &mut O)
     }
 }
 
-// Writes tries and the handlers that they name, which begin at the places.
-fn encode_table<O: Output>(tries: &[Try], handlers: &[Handler], places: &[u16], out: &mut O)
-    requires stored { AreStored handlers.now tries.now }
-    requires placed { ArePlaces handlers.now places.now }
-    ensures { O.gives
-        (numbered_table_bytes handlers.now (all_named handlers.now tries.now)) out.old out.new }
-{
-    encode_items(tries, places, out);
-    encode_list(handlers, out);
-}
-
 // Writes a zero where the number of units is odd.
 fn encode_gap<O: Output>(units: u32, out: &mut O)
     ensures { O.gives (gap_bytes units) out.old out.new }
@@ -119,24 +108,18 @@ fn encode_gap<O: Output>(units: u32, out: &mut O)
     }
 }
 
-// Writes the padding after `units` units, the tries and the handlers.
-fn encode_tries<O: Output>(
-    units: u32,
-    tries: &[Try],
-    handlers: &[Handler],
-    places: &[u16],
-    out: &mut O,
-)
-    requires stored { AreStored handlers.now tries.now }
-    requires placed { ArePlaces handlers.now places.now }
-    ensures { O.gives
-        (numbered_tries_bytes units (all_named handlers.now tries.now)) out.old out.new }
+// Writes the padding after `units` units, the tries and the handlers, which begin at the places.
+fn encode_tries<O: Output>(units: u32, tries: &Tries<'_>, places: &[u16], out: &mut O)
+    requires { ArePlaces (handlers_of tries.now) places.now }
+    ensures { O.gives (numbered_tries_bytes units tries.now) out.old out.new }
 {
-    if tries.is_empty() {
+    let (items, handlers) = tries.parts();
+    if items.is_empty() {
         return;
     }
     encode_gap(units, out);
-    encode_table(tries, handlers, places, out);
+    encode_items(items, places, out);
+    encode_list(handlers, out);
 }
 
 // Writes the numbers before the units.
@@ -168,7 +151,7 @@ fn encode_placed<O: Output>(
     place_handlers(handlers, places);
     encode_head(pieces, items.len() as u16, debug_off, out);
     pieces.encode(out);
-    encode_tries(unit_count(pieces), items, handlers, places, out);
+    encode_tries(unit_count(pieces), tries, places, out);
 }
 
 // Writes a code item.

@@ -1,49 +1,20 @@
 //! Code items read from a file.
 
-ghost use Rattle.std.specs.Prelude.{◌≤◌, ◌+◌, ◌*◌, [], length, unwrap_or, IfOk, IfErr};
+ghost use Rattle.std.specs.Prelude.{◌≤◌, ◌+◌, length, IfOk, IfErr};
 ghost use Rattle.std.specs.Option.{option_map};
-ghost use Rattle.dexspec.specs.Bytes.{uint_at};
 ghost use Rattle.dexpool.specs.Pools.{ArePools};
 ghost use Rattle.dexcode.specs.Checking.{IsProgramFault};
-ghost use Rattle.dexcode.specs.Reading.{TriesAt, IsTriesFault, IsCodeAt, IsCodeFault};
+ghost use Rattle.dexcode.specs.Reading.{IsCodeAt, IsCodeFault};
 ghost use Rattle.dexcode.specs.internal.Extras.{IsDebugOf};
-ghost use Rattle.dexcode.specs.internal.TriesReading.{HasNoTries};
 
 use crate::code::Code;
 use crate::extras::Extras;
-use crate::stored_tries::StoredTries;
 use crate::tries_reader::TriesReader;
 use dexdebug::{Debug, read_debug};
-use dexhead::{Condition, Frame, u16_at, u32_at};
+use dexhead::{Frame, u32_at};
 use dexinsn::{Scratch, build_pieces, check_pieces};
 use dexpool::{ItemFault, Pools, SymbolKind};
 use std::alloc::Global;
-
-impl TriesReader<'_, '_> {
-    // The tries of the code_item at an offset, if it has any, where its units are in the data.
-    pub(crate) fn read_tries(&self, off: usize) -> Result<Option<StoredTries>, ItemFault>
-        requires { off + 16 + 2 * uint_at self.now.bytes.now (off + 12)
-            ≤ length self.now.bytes.now }
-        ensures tries { IfOk result (λ tries. TriesAt self.now.starts.now self.now.types
-            self.now.bytes.now off (unwrap_or tries [])) }
-        ensures fault { IfErr result (IsTriesFault
-            (HasNoTries self.now.starts.now self.now.types self.now.bytes.now off)) }
-    {
-        let count = u16_at(self.bytes, off + 6);
-        if count == 0 {
-            return Ok(None);
-        }
-        let units = u32_at(self.bytes, off + 12);
-        let following = off + 16 + 2 * units as usize;
-        if units % 2 == 0 {
-            return Ok(Some(self.read_try_table(following, count, units)?));
-        }
-        if self.bytes.len() < following + 2 || u16_at(self.bytes, following) != 0 {
-            return Err(ItemFault::Refused(Condition::Tries as u8));
-        }
-        Ok(Some(self.read_try_table(following + 2, count, units)?))
-    }
-}
 
 // Reads the debug program of the code_item at an offset, if it has one.
 fn read_program<'a>(

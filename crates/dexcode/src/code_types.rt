@@ -5,27 +5,13 @@ ghost use Rattle.dexcode.specs.CodePut.{HasShortTypes};
 ghost use Rattle.dexcode.specs.Numbered.{handlers_of};
 
 use crate::code::Code;
-use crate::handlers::{Catch, Handler};
-
-// Returns whether the number of each type has 16 bits.
-fn are_short(catches: &[Catch]) -> bool
-    ensures { IsTrue result ↔ All (λ c. c.typ < 2 ^ 16) catches.now }
-{
-    catches.iter().all(|catch| catch.typ < 0x1_0000)
-}
+use crate::handlers::Handler;
 
 // Returns whether the number of each type that a handler catches has 16 bits.
 fn has_short_types(handler: &Handler) -> bool
     ensures { IsTrue result ↔ HasShortTypes handler.now }
 {
-    are_short(handler.catches())
-}
-
-// Returns whether the number of each type that the handlers catch has 16 bits.
-fn have_short_types(handlers: &[Handler]) -> bool
-    ensures { IsTrue result ↔ All HasShortTypes handlers.now }
-{
-    handlers.iter().all(|handler| has_short_types(handler))
+    handler.catches().iter().all(|catch| catch.typ < 0x1_0000)
 }
 
 impl<'a> Code<'a> {
@@ -36,6 +22,9 @@ impl<'a> Code<'a> {
     pub fn types_fit(&self) -> bool
         ensures { IsTrue result ↔ All HasShortTypes (handlers_of self.now.tries) }
     {
-        have_short_types(self.tries().handlers())
+        self.tries()
+            .handlers()
+            .iter()
+            .all(|handler| has_short_types(handler))
     }
 }

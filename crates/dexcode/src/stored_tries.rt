@@ -16,21 +16,12 @@ use std::marker::Model;
 
 /// Tries, and the handlers that they name, each once and in order of first use. Contracts see tries with their
 /// handlers.
+#[derive(Drop)]
 pub(crate) struct StoredTries {
     /// The tries, each with the number of its handler.
     pub(crate) tries: Vec<Try>,
     /// The handlers that they name, each once.
     pub(crate) handlers: Vec<Handler>,
-}
-
-// So that tries are dropped by one call.
-impl Drop for StoredTries {
-    fn drop(self) {
-        let StoredTries {
-            tries: _,
-            handlers: _,
-        } = self;
-    }
 }
 
 impl Model for StoredTries {
@@ -113,11 +104,7 @@ fn are_light(handlers: &[Handler]) -> bool
 {
     let mut weight = 5;
     for handler in handlers {
-        let catches = handler.catches.len();
-        if catches > MOST_HANDLERS {
-            return false;
-        }
-        weight += 10 + 8 * catches;
+        weight += 10 + 8 * handler.catches.len().min(MOST_HANDLERS);
         if weight > MOST_HANDLERS {
             return false;
         }

@@ -1,14 +1,15 @@
 //! The reader of tries and their handlers.
 
-ghost use Rattle.std.specs.Prelude.{◌≡◌, ◌<◌, ◌≤◌, ◌+◌, ◌*◌, ℕ, List, Option, Some, None, length, slice_index, slice_index_or, IfOk, IfErr, IfSome, IfNone};
+ghost use Rattle.std.specs.Prelude.{◌≡◌, ◌<◌, ◌≤◌, ◌+◌, ◌*◌, ℕ, List, [], Option, Some, None, length, slice_index, slice_index_or, unwrap_or, IfOk, IfErr, IfSome, IfNone};
+ghost use Rattle.dexspec.specs.Bytes.{uint_at};
 ghost use Rattle.dexspec.specs.Lists.{Sequence};
 ghost use Rattle.dexspec.specs.Numbers.{Uleb128At};
 ghost use Rattle.dexcode.specs.Numbered.{NumberedHandler};
-ghost use Rattle.dexcode.specs.Reading.{IsStart, CatchAt, CatchAllAt, ListedTryAt, TryItemsAt, IsNumberPut, IsTriesFault};
+ghost use Rattle.dexcode.specs.Reading.{TriesAt, IsStart, CatchAt, CatchAllAt, ListedTryAt, TryItemsAt, IsNumberPut, IsTriesFault};
 ghost use Rattle.dexcode.specs.declared.handlers.Catch.{Catch as Caught};
 ghost use Rattle.dexcode.specs.declared.tries.Try.{Try as Meant};
 ghost use Rattle.dexcode.specs.internal.NamedHandlers.{HasHandler, HasList, HaveCatches, IsHandlerAt};
-ghost use Rattle.dexcode.specs.internal.TriesReading.{AreTriesRead, HaveHandlers, NoCatches, NoHandlerAt, NoHandlers, NoList, NoTries, NoTryItems};
+ghost use Rattle.dexcode.specs.internal.TriesReading.{HasNoTries, AreTriesRead, NoCatches, NoHandlerAt, NoList, NoTries, NoTryItems};
 
 use crate::handlers::{Catch, Handler};
 use crate::stored_tries::StoredTries;
@@ -81,13 +82,32 @@ fn handler_at(numbers: &[Option<u32>], off: u16) -> Option<usize>
 }
 
 impl TriesReader<'_, '_> {
+    // The tries of the code_item at an offset, if it has any, where its units are in the data.
+    pub(crate) fn read_tries(&self, off: usize) -> Result<Option<StoredTries>, ItemFault>
+        requires { off + 16 + 2 * uint_at self.now.bytes.now (off + 12)
+            ≤ length self.now.bytes.now }
+        ensures tries { IfOk result (λ tries. TriesAt self.now.starts.now self.now.types
+            self.now.bytes.now off (unwrap_or tries [])) }
+        ensures fault { IfErr result (IsTriesFault
+            (HasNoTries self.now.starts.now self.now.types self.now.bytes.now off)) }
+    {
+        let count = u16_at(self.bytes, off + 6);
+        if count == 0 {
+            return Ok(None);
+        }
+        let units = u32_at(self.bytes, off + 12);
+        let following = off + 16 + 2 * units as usize;
+        if units % 2 == 0 {
+            return Ok(Some(self.read_try_table(following, count, units)?));
+        }
+        if self.bytes.len() < following + 2 || u16_at(self.bytes, following) != 0 {
+            return Err(ItemFault::Refused(Condition::Tries as u8));
+        }
+        Ok(Some(self.read_try_table(following + 2, count, units)?))
+    }
+
     // `count` tries from an offset on, and the list of their handlers after them.
-    pub(crate) fn read_try_table(
-        &self,
-        at: usize,
-        count: u16,
-        units: u32,
-    ) -> Result<StoredTries, ItemFault>
+    fn read_try_table(&self, at: usize, count: u16, units: u32) -> Result<StoredTries, ItemFault>
         requires { at ≤ length self.now.bytes.now }
         ensures tries { IfOk result (λ tries. TryItemsAt self.now.starts.now self.now.types units
             self.now.bytes.now at count tries) }
@@ -140,34 +160,6 @@ impl TriesReader<'_, '_> {
         Ok(tries)
     }
 
-    // Reads `count` handlers at `first`, of the list at `list`. Returns by the bytes of the list the number of the
-    // handler that begins there.
-    fn read_handlers(
-        &self,
-        list: usize,
-        first: usize,
-        count: u32,
-    ) -> Result<Vec<Option<u32>>, ItemFault>
-        requires order { list ≤ first }
-        requires within { first ≤ length self.now.bytes.now }
-        ensures handlers { IfOk result (HaveHandlers self.now.starts.now self.now.types
-            self.now.bytes.now list first count) }
-        ensures fault { IfErr result (IsTriesFault
-            (NoHandlers self.now.starts.now self.now.types self.now.bytes.now first count)) }
-    {
-        let mut numbers = Vec::new(self.alloc);
-        let mut size = 0;
-        for number in 0..count {
-            let place = first + size;
-            let Some(len) = self.handler_len(place) else {
-                return Err(ItemFault::Refused(Condition::Tries as u8));
-            };
-            put_number(&mut numbers, place - list, number)?;
-            size += len;
-        }
-        Ok(numbers)
-    }
-
     // Reads the list of handlers at `at`. Returns by the bytes of the list the number of the handler that begins
     // there. No handler is kept.
     fn read_list(&self, at: usize) -> Result<Vec<Option<u32>>, ItemFault>
@@ -180,7 +172,18 @@ impl TriesReader<'_, '_> {
         let Ok((count, count_size)) = read_u(self.bytes, at) else {
             return Err(ItemFault::Refused(Condition::Tries as u8));
         };
-        self.read_handlers(at, at + count_size, count)
+        let first = at + count_size;
+        let mut numbers = Vec::new(self.alloc);
+        let mut size = 0;
+        for number in 0..count {
+            let place = first + size;
+            let Some(len) = self.handler_len(place) else {
+                return Err(ItemFault::Refused(Condition::Tries as u8));
+            };
+            put_number(&mut numbers, place - at, number)?;
+            size += len;
+        }
+        Ok(numbers)
     }
 
     // Reads the address at `at`, if an instruction begins there, and returns the number of bytes that encode it.

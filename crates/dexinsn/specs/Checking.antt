@@ -111,7 +111,7 @@ slot_of None = 5
 
 -- the limits are those of the symbols
 abbrev pub AreLimits : Mentions → Limits → Type 0
-AreLimits m l = (index : Option SymbolKind) → slice_index l.below (slot_of index) ≡ limit_of m index
+AreLimits m l = (index : Option SymbolKind) → slice_index l.0 (slot_of index) ≡ limit_of m index
 
 -- what there is of the piece that begins at the unit, which is in range
 pub record IsStep (us : List ℕ) (m : Mentions) (at : ℕ) (s : Step) : Type 0 where

@@ -17,9 +17,7 @@ pub(crate) enum Source<'a> {
 
 /// 16-bit code units, borrowed. Contracts see a list of numbers.
 #[derive(Drop)]
-pub(crate) struct Units<'a> {
-    source: Source<'a>,
-}
+pub(crate) struct Units<'a>(Source<'a>);
 
 impl<'a> Model for Units<'a> {
     ghost use Rattle.std.specs.Prelude.{ℕ, List};
@@ -27,9 +25,9 @@ impl<'a> Model for Units<'a> {
 
     ghost Value = { List ℕ };
 
-    ghost view = { λ units. units_from units.source };
+    ghost view = { λ units. units_from units.0 };
 
-    ghost invariant = { λ units. IsInMemory units.source };
+    ghost invariant = { λ units. IsInMemory units.0 };
 }
 
 #[tactic(auto, using(crate::proofs::Halves::unit_from, crate::proofs::Halves::length_from, crate::proofs::Halves::rest_from))]
@@ -38,18 +36,14 @@ impl<'a> Units<'a> {
     pub(crate) fn of_numbers(numbers: &'a [u16]) -> Units<'a>
         ensures { result ≡ numbers.now }
     {
-        Units {
-            source: Source::Numbers(numbers),
-        }
+        Units(Source::Numbers(numbers))
     }
 
     /// The units that the bytes encode, two bytes for each.
     pub(crate) fn of_bytes(bytes: &'a [u8]) -> Units<'a>
         ensures { result ≡ ushorts_at bytes.now 0 (length bytes.now / 2) }
     {
-        Units {
-            source: Source::Bytes(bytes),
-        }
+        Units(Source::Bytes(bytes))
     }
 
     /// The number of units.
@@ -57,7 +51,7 @@ impl<'a> Units<'a> {
         ensures len { result ≡ length self.now }
         ensures small { length self.now < 2 ^ 62 }
     {
-        match self.source {
+        match self.0 {
             Source::Numbers(numbers) => numbers.len(),
             Source::Bytes(bytes) => bytes.len() / 2,
         }
@@ -69,7 +63,7 @@ impl<'a> Units<'a> {
         ensures is { result ≡ slice_index self.now i }
         ensures small { length self.now < 2 ^ 62 }
     {
-        match self.source {
+        match self.0 {
             Source::Numbers(numbers) => numbers[i],
             Source::Bytes(bytes) => u16_at(bytes, 2 * i),
         }
@@ -80,7 +74,7 @@ impl<'a> Units<'a> {
         requires { at ≤ length self.now }
         ensures { result ≡ drop at self.now }
     {
-        match self.source {
+        match self.0 {
             Source::Numbers(numbers) => Units::of_numbers(numbers.split_at(at).1),
             Source::Bytes(bytes) => Units::of_bytes(bytes.split_at(2 * at).1),
         }

@@ -45,9 +45,7 @@ pub(crate) struct Step {
 
 /// The limits of indices: the number of symbols of each kind, and 2^16 where there is no index.
 #[derive(Clone, Copy)]
-pub(crate) struct Limits {
-    below: [usize; 6],
-}
+pub(crate) struct Limits([usize; 6]);
 
 // Returns the place of the limit of an index.
 #[inline(always)]
@@ -74,16 +72,14 @@ impl Limits {
     pub(crate) fn of(pools: &Pools<'_>) -> Limits
         ensures { AreLimits pools.now result }
     {
-        Limits {
-            below: [
-                pools.len(SymbolKind::Text),
-                pools.len(SymbolKind::Typ),
-                pools.len(SymbolKind::Proto),
-                pools.len(SymbolKind::Field),
-                pools.len(SymbolKind::Method),
-                0x1_0000,
-            ],
-        }
+        Limits([
+            pools.len(SymbolKind::Text),
+            pools.len(SymbolKind::Typ),
+            pools.len(SymbolKind::Proto),
+            pools.len(SymbolKind::Field),
+            pools.len(SymbolKind::Method),
+            0x1_0000,
+        ])
     }
 
     // Returns the limit of an index of the kind.
@@ -92,7 +88,7 @@ impl Limits {
         ensures { (m : Mentions) → AreLimits m self.now
             → result ≡ limit_of m (kind_of_index index) }
     {
-        self.below[slot_of(index)]
+        self.0[slot_of(index)]
     }
 }
 

@@ -8,13 +8,10 @@ use std::alloc::{AllocError, Global};
 
 impl TargetGroup {
     // The group of one target.
-    fn of(target: i32) -> TargetGroup
-        ensures { (test : ℤ → Bool) → AllInGroup test result ↔ (test target ≡ true) }
+    fn of(first: i32) -> TargetGroup
+        ensures { (test : ℤ → Bool) → AllInGroup test result ↔ (test first ≡ true) }
     {
-        TargetGroup {
-            first: target,
-            bits: 1,
-        }
+        TargetGroup { first, bits: 1 }
     }
 
     // The group with one target more, if that is near.
@@ -25,10 +22,9 @@ impl TargetGroup {
         if distance < 0 || 64 <= distance {
             return None;
         }
-        Some(TargetGroup {
-            first: self.first,
-            bits: self.bits | 1 << distance as u32,
-        })
+        let first = self.first;
+        let bits = self.bits | 1 << distance as u32;
+        Some(TargetGroup { first, bits })
     }
 }
 

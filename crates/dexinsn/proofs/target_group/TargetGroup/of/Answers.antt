@@ -4,4 +4,4 @@ use Rattle.dexinsn.proofs.target_group.TargetGroup.of.Goals as goal
 
 pub returns : goal.returns
 returns c = λ test.
-    subst (λ (z : ℤ). AllFrom test z 1 ↔ (test c.args.target ≡ true)) (sym (to_z-of_z w32 c.args.target c.ranges.target)) (one_target test c.args.target)
+    subst (λ (z : ℤ). AllFrom test z 1 ↔ (test c.args.first ≡ true)) (sym (to_z-of_z w32 c.args.first c.ranges.first)) (one_target test c.args.first)

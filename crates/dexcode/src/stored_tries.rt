@@ -1,17 +1,10 @@
 //! Tries and the handlers that they name, as they are stored.
 
-ghost use Rattle.std.specs.Prelude.{◌≡◌, ◌↔◌, ◌^◌, ◌<◌, ◌≤◌, ◌+◌, ◌*◌, IsTrue, List, length, IfOk, IfSome};
-ghost use Rattle.dexspec.specs.Code.{most_handlers};
-ghost use Rattle.dexcode.specs.Numbered.{handlers_weight};
-ghost use Rattle.dexcode.specs.internal.NamedHandlers.{HaveListed};
-ghost use Rattle.dexcode.specs.internal.TriesReading.{HaveLightHandlers, IsFoundNamed, IsMissedHeavy};
+ghost use Rattle.std.specs.Prelude.{◌≡◌, IfOk};
 
 use crate::handlers::Handler;
 use crate::tries::{Tries, Try};
-use crate::tries_reader::TriesReader;
-use dexhead::u16_at;
-use indexmap::IndexSet;
-use std::alloc::{AllocError, Global};
+use std::alloc::AllocError;
 use std::marker::Model;
 
 /// Tries, and the handlers that they name, each once and in order of first use. Contracts see tries with their
@@ -54,69 +47,6 @@ impl StoredTries {
         let handlers = copied(&self.handlers)?;
         Ok(StoredTries { tries, handlers })
     }
-
-    // Tries with the handlers that their try_items at a place name, or `None` where these weigh more than they may. A
-    // handler that no try names is not kept.
-    pub(crate) fn of(
-        reader: &TriesReader<'_, '_>,
-        at: usize,
-        list: usize,
-        tries: &[Try],
-    ) -> Result<Option<StoredTries>, AllocError>
-        requires listed { HaveListed reader.now.starts.now reader.now.types reader.now.bytes.now at
-            list tries.now }
-        requires room { at + 8 * length tries.now ≤ length reader.now.bytes.now }
-        requires few { length tries.now < 2 ^ 16 }
-        ensures some { IsFoundNamed reader.now.starts.now reader.now.types reader.now.bytes.now at
-            list tries.now result }
-        ensures light { IfOk result (λ found. IfSome found HaveLightHandlers) }
-        ensures heavy { IsMissedHeavy reader.now.starts.now reader.now.types reader.now.bytes.now at
-            list tries.now result }
-    {
-        let alloc = reader.alloc;
-        let mut numbers = Vec::new(alloc);
-        let mut handlers = IndexSet::new(alloc);
-        let mut numbered = Vec::with_capacity(alloc, tries.len())?;
-        let mut place = at;
-        for item in tries {
-            let off = u16_at(reader.bytes, place + 6);
-            let handler = reader.number_of(list, off, &mut handlers, &mut numbers)?;
-            numbered.push(Try { handler, ..*item })?;
-            place += 8;
-        }
-        let handlers = listed_in(alloc, handlers)?;
-        if !are_light(&handlers) {
-            return Ok(None);
-        }
-        Ok(Some(StoredTries {
-            tries: numbered,
-            handlers,
-        }))
-    }
-}
-
-// The most that the handlers of a code_item may weigh.
-const MOST_HANDLERS: usize = 65_535;
-
-// Whether the handlers weigh no more than they may.
-fn are_light(handlers: &[Handler]) -> bool
-    ensures { IsTrue result ↔ (handlers_weight handlers.now ≤ most_handlers) }
-{
-    let mut weight = 5;
-    for handler in handlers {
-        weight += 10 + 8 * handler.catches.len().min(MOST_HANDLERS);
-        if weight > MOST_HANDLERS {
-            return false;
-        }
-    }
-    true
-}
-
-// The handlers of a set, in its order.
-fn listed_in(alloc: Global, handlers: IndexSet<Handler>) -> Result<Vec<Handler>, AllocError>
-    ensures { IfOk result (λ list. list.items ≡ handlers.keys) }
-{
-    handlers.into_iter().collect(alloc)
 }
 
 // The same handlers in a list of their own.

@@ -1,15 +1,16 @@
 //! The reader of tries and their handlers.
 
-ghost use Rattle.std.specs.Prelude.{◌≡◌, ◌<◌, ◌≤◌, ◌+◌, ◌*◌, ℕ, List, [], Option, Some, None, length, slice_index, slice_index_or, unwrap_or, IfOk, IfErr, IfSome, IfNone};
+ghost use Rattle.std.specs.Prelude.{◌≡◌, ◌↔◌, ◌^◌, ◌<◌, ◌≤◌, ◌+◌, ◌*◌, ℕ, List, [], Option, Some, None, length, slice_index, slice_index_or, unwrap_or, IsTrue, IfOk, IfErr, IfSome, IfNone};
+ghost use Rattle.dexspec.specs.Code.{most_handlers};
 ghost use Rattle.dexspec.specs.Bytes.{uint_at};
 ghost use Rattle.dexspec.specs.Lists.{Sequence};
 ghost use Rattle.dexspec.specs.Numbers.{Uleb128At};
-ghost use Rattle.dexcode.specs.Numbered.{NumberedHandler};
+ghost use Rattle.dexcode.specs.Numbered.{NumberedHandler, handlers_weight};
 ghost use Rattle.dexcode.specs.Reading.{TriesAt, IsStart, CatchAt, CatchAllAt, ListedTryAt, TryItemsAt, IsNumberPut, IsTriesFault};
 ghost use Rattle.dexcode.specs.declared.handlers.Catch.{Catch as Caught};
 ghost use Rattle.dexcode.specs.declared.tries.Try.{Try as Meant};
-ghost use Rattle.dexcode.specs.internal.NamedHandlers.{HasHandler, HasList, HaveCatches, IsHandlerAt};
-ghost use Rattle.dexcode.specs.internal.TriesReading.{HasNoTries, AreTriesRead, NoCatches, NoHandlerAt, NoList, NoTries, NoTryItems};
+ghost use Rattle.dexcode.specs.internal.NamedHandlers.{HasHandler, HasList, HaveCatches, HaveListed, IsHandlerAt};
+ghost use Rattle.dexcode.specs.internal.TriesReading.{HasNoTries, HaveLightHandlers, IsFoundNamed, AreHeavy, AreTriesRead, NoCatches, NoHandlerAt, NoList, NoTries, NoTryItems};
 
 use crate::handlers::{Catch, Handler};
 use crate::stored_tries::StoredTries;
@@ -18,6 +19,7 @@ use dexhead::{Condition, u16_at, u32_at};
 use dexinsn::InstructionStarts;
 use dexleb::{read_s, read_u};
 use dexpool::ItemFault;
+use indexmap::IndexSet;
 use std::alloc::{AllocError, Global};
 
 // The last byte of a list that the offset of a try can name.
@@ -58,6 +60,30 @@ fn read_try(bytes: &[u8], at: usize, units: u32, numbers: &[Option<u32>]) -> Opt
         insn_count,
         handler,
     })
+}
+
+// The most that the handlers of a code_item may weigh.
+const MOST_HANDLERS: usize = 65_535;
+
+// Whether the handlers weigh no more than they may.
+fn are_light(handlers: &[Handler]) -> bool
+    ensures { IsTrue result ↔ (handlers_weight handlers.now ≤ most_handlers) }
+{
+    let mut weight = 5;
+    for handler in handlers {
+        weight += 10 + 8 * handler.catches.len().min(MOST_HANDLERS);
+        if weight > MOST_HANDLERS {
+            return false;
+        }
+    }
+    true
+}
+
+// The handlers of a set, in its order.
+fn listed_in(alloc: Global, handlers: IndexSet<Handler>) -> Result<Vec<Handler>, AllocError>
+    ensures { IfOk result (λ list. list.items ≡ handlers.keys) }
+{
+    handlers.into_iter().collect(alloc)
 }
 
 // Sets the number of a handler at its offset from the start of its list.
@@ -122,11 +148,38 @@ impl TriesReader<'_, '_> {
         let list_at = at + size;
         let numbers = self.read_list(list_at)?;
         let items = self.read_try_items(at, count, units, &numbers)?;
-        let tries = StoredTries::of(self, at, list_at, &items)?;
-        match tries {
-            Some(tries) => Ok(tries),
-            None => Err(ItemFault::Refused(Condition::Tries as u8)),
+        self.named(at, list_at, &items)
+    }
+
+    // Tries with the handlers that their try_items at a place name, or a refusal where these weigh more than they may. A
+    // handler that no try names is not kept.
+    fn named(&self, at: usize, list: usize, items: &[Try]) -> Result<StoredTries, ItemFault>
+        requires listed { HaveListed self.now.starts.now self.now.types self.now.bytes.now at
+            list items.now }
+        requires room { at + 8 * length items.now ≤ length self.now.bytes.now }
+        requires few { length items.now < 2 ^ 16 }
+        ensures some { IsFoundNamed self.now.starts.now self.now.types self.now.bytes.now at
+            list items.now result }
+        ensures light { IfOk result HaveLightHandlers }
+        ensures heavy { IfErr result (IsTriesFault
+            (AreHeavy self.now.starts.now self.now.types self.now.bytes.now at list items.now)) }
+    {
+        let alloc = self.alloc;
+        let mut numbers = Vec::new(alloc);
+        let mut handlers = IndexSet::new(alloc);
+        let mut tries = Vec::with_capacity(alloc, items.len())?;
+        let mut place = at;
+        for item in items {
+            let off = u16_at(self.bytes, place + 6);
+            let handler = self.number_of(list, off, &mut handlers, &mut numbers)?;
+            tries.push(Try { handler, ..*item })?;
+            place += 8;
         }
+        let handlers = listed_in(alloc, handlers)?;
+        if !are_light(&handlers) {
+            return Err(ItemFault::Refused(Condition::Tries as u8));
+        }
+        Ok(StoredTries { tries, handlers })
     }
 
     // Reads `count` tries at an offset, where the handlers of the list are numbered by its bytes.

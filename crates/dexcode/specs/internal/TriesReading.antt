@@ -1,8 +1,8 @@
 -- Catches, handlers and tries as they are read, and when there are none.
-use Rattle.std.specs.Prelude.{◌≡◌, ℕ, ◌+◌, ◌<◌, ◌≤◌, Bool, List, length, Option, Result, IfOk, IfSome, IfNone}
-use Rattle.std.specs.declared.alloc.AllocError.{AllocError}
+use Rattle.std.specs.Prelude.{◌≡◌, ℕ, ◌+◌, ◌<◌, ◌≤◌, Bool, List, length, Option, Result, IfOk}
 use Rattle.std.specs.Global.{Vec}
 use Rattle.dexspec.specs.Code.{most_handlers}
+use Rattle.dexpool.specs.declared.faults.ItemFault.{ItemFault}
 use Rattle.dexspec.specs.Lists.{Sequence}
 use Rattle.dexspec.specs.Numbers.{Uleb128At}
 use Rattle.dexcode.specs.declared.handlers.Catch.{Catch}
@@ -58,9 +58,9 @@ abbrev pub HaveLightHandlers : List NumberedTry → Type 0
 HaveLightHandlers ts = handlers_weight (handlers_of ts) ≤ most_handlers
 
 -- where tries are found, they are those with the handlers of their numbers
-abbrev pub IsFoundNamed : List Bool → ℕ → List ℕ → ℕ → ℕ → List Try → Result (Option (List NumberedTry)) AllocError → Type 0
-IsFoundNamed starts types b o list ts result = (all : List NumberedHandler) → AreListed starts types b o list all ts → IfOk result (λ found. IfSome found (λ some. some ≡ all_named all ts))
+abbrev pub IsFoundNamed : List Bool → ℕ → List ℕ → ℕ → ℕ → List Try → Result (List NumberedTry) ItemFault → Type 0
+IsFoundNamed starts types b o list ts result = (all : List NumberedHandler) → AreListed starts types b o list all ts → IfOk result (λ found. found ≡ all_named all ts)
 
--- where none are found, the handlers of their numbers weigh more than they may
-abbrev pub IsMissedHeavy : List Bool → ℕ → List ℕ → ℕ → ℕ → List Try → Result (Option (List NumberedTry)) AllocError → Type 0
-IsMissedHeavy starts types b o list ts result = (all : List NumberedHandler) → AreListed starts types b o list all ts → IfOk result (λ found. IfNone found (most_handlers < handlers_weight (handlers_of (all_named all ts))))
+-- the handlers of their numbers weigh more than they may
+abbrev pub AreHeavy : List Bool → ℕ → List ℕ → ℕ → ℕ → List Try → Type 0
+AreHeavy starts types b o list ts = (all : List NumberedHandler) → AreListed starts types b o list all ts → most_handlers < handlers_weight (handlers_of (all_named all ts))

@@ -147,14 +147,6 @@ impl Debug<'_> {
     }
 }
 
-// No debug program with as many names and operations has more bytes.
-#[tactic(auto, using(crate::proofs::DebugMeanings::bytes_most, crate::proofs::StoredOperations::names_many, crate::proofs::StoredOperations::operations_many))]
-fn most_len(debug: &Debug<'_>) -> usize
-    ensures { length (numbered_debug_bytes debug.now) ≤ result }
-{
-    11 + 5 * debug.names as usize + 21 * debug.count as usize
-}
-
 /// Appends the debug_info_item, every number in its shortest encoding. It is that of the symbolic debug program that
 /// `debug` denotes in the numbering, each index the rank of its symbol.
 ///
@@ -162,6 +154,7 @@ fn most_len(debug: &Debug<'_>) -> usize
 /// length of the item ([`Debug::item_len`]), or its weight ([`Debug::weight`]).
 ///
 /// Source: "debug_info_item".
+#[tactic(auto, using(crate::proofs::DebugMeanings::bytes_most, crate::proofs::StoredOperations::names_many, crate::proofs::StoredOperations::operations_many))]
 pub fn put_debug(
     debug: &Debug<'_>,
     numbering: &Numbering<'_>,
@@ -175,8 +168,9 @@ pub fn put_debug(
 {
     numbering.is_numbering();
     debug_bytes_law();
-    // It is measured only where there is no room for the longest one.
-    if most_len(debug) > out.capacity() - out.len() {
+    // It is measured only where there is no room for the longest program with as many names and operations.
+    let most = 11 + 5 * debug.names as usize + 21 * debug.count as usize;
+    if most > out.capacity() - out.len() {
         out.reserve(debug.item_len())?;
     }
     debug.encode(out);

@@ -1,6 +1,6 @@
 //! Code items written.
 
-ghost use Rattle.std.specs.Prelude.{◌^◌, ◌<◌, ◌≤◌, All, ⊤, length, option_to_list};
+ghost use Rattle.std.specs.Prelude.{◌↔◌, ◌^◌, ◌<◌, ◌≤◌, IsTrue, All, ⊤, length, option_to_list};
 ghost use Rattle.std.specs.List.{flat_map};
 ghost use Rattle.dexspec.specs.Code.{most_handlers};
 ghost use Rattle.dexspec.specs.Numbers.{uleb128};
@@ -164,6 +164,28 @@ fn encode_item<O: Output>(pieces: &Pieces<'_>, tries: &Tries<'_>, debug_off: u32
         return encode_placed(pieces, tries, &mut [0; FEW_PLACES], debug_off, out);
     }
     encode_placed(pieces, tries, &mut [0; MOST_PLACES], debug_off, out);
+}
+
+// Returns whether the number of each type that a handler catches has 16 bits.
+fn has_short_types(handler: &Handler) -> bool
+    ensures { IsTrue result ↔ HasShortTypes handler.now }
+{
+    handler.catches().iter().all(|catch| catch.typ < 0x1_0000)
+}
+
+impl<'a> Code<'a> {
+    /// Returns whether the number of each type that a handler catches is below 2^16, as [`put_code`](crate::put_code)
+    /// asks.
+    ///
+    /// Source: "encoded_type_addr_pair", the field `type_idx`.
+    pub fn types_fit(&self) -> bool
+        ensures { IsTrue result ↔ All HasShortTypes (handlers_of self.now.tries) }
+    {
+        self.tries()
+            .handlers()
+            .iter()
+            .all(|handler| has_short_types(handler))
+    }
 }
 
 /// Code with the offset of its debug program, to be encoded as a code_item: registers, units with the numbers of their

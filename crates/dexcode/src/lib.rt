@@ -32,7 +32,6 @@ mod code_len;
 mod code_numbers;
 mod code_put;
 mod code_reading;
-mod code_types;
 mod extras;
 mod handlers;
 mod named_handlers;

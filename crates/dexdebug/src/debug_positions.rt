@@ -44,18 +44,6 @@ fn is_special(operation: &Operation) -> bool
     matches!(operation, Operation::Special(_))
 }
 
-// Returns the line after an operation.
-fn next_line(line: i64, operation: &Operation) -> i64
-    requires special { IsSpecial operation.now }
-    requires low { pos 0 ≤ℤ (line +ℤ pos (2 ^ 61)) }
-    requires high { line ≤ℤ pos (2 ^ 62) }
-    ensures sum { result ≡ line +ℤ recorded.line_step (unindexed_operation operation.now) }
-    ensures low { line ≤ℤ (result +ℤ pos (2 ^ 31)) }
-    ensures high { result ≤ℤ (line +ℤ pos (2 ^ 31)) }
-{
-    line + line_step(operation)
-}
-
 // The positions of operations, from a line on.
 fn positions_from(
     alloc: Global,
@@ -71,7 +59,7 @@ fn positions_from(
     let mut line = i64::from(line_start);
     for operation in operations {
         address += address_step(&operation);
-        line = next_line(line, &operation);
+        line += line_step(&operation);
         if is_special(&operation) {
             found.push((address, line))?;
         }

@@ -48,10 +48,7 @@ impl OptionalNumber {
     pub(crate) fn get(self) -> Option<u32>
         ensures { result ≡ self }
     {
-        if self.stored == NO_INDEX {
-            return None;
-        }
-        Some(self.stored)
+        (self.stored != NO_INDEX).then_some(self.stored)
     }
 }
 

@@ -14,10 +14,7 @@ impl Renumber for Catch {
     ghost remapped = { renumbered_catch };
 
     fn renumber(&mut self, remap: &Remap) {
-        self.typ = match remap.image(SymbolKind::Typ, self.typ as usize) {
-            Some(image) => image as u32,
-            None => self.typ,
-        };
+        self.typ = remap.or_same(SymbolKind::Typ, self.typ as usize) as u32;
     }
 }
 

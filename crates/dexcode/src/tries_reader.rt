@@ -248,9 +248,7 @@ impl TriesReader<'_, '_> {
         ensures address { IfSome result (λ x. Uleb128At self.now.bytes.now at x.0 x.1) }
         ensures start { IfSome result (λ x. IsStart self.now.starts.now x.0) }
     {
-        let Ok((addr, size)) = read_u(self.bytes, at) else {
-            return None;
-        };
+        let (addr, size) = read_u(self.bytes, at).ok()?;
         self.starts.contains(addr).then_some((addr, size))
     }
 

@@ -87,9 +87,7 @@ pub(crate) fn unit_bytes(bytes: &[u8], from: usize, to: usize) -> &[u8]
     requires within { 2 * to ≤ length bytes.now }
     ensures { result.now ≡ take (2 * (to - from)) (drop (2 * from) bytes.now) }
 {
-    let (_, rest) = bytes.split_at(2 * from);
-    let (part, _) = rest.split_at(2 * (to - from));
-    part
+    bytes.split_at(2 * from).1.split_at(2 * (to - from)).0
 }
 
 /// The opcode of the instruction that begins with this unit.

@@ -26,10 +26,8 @@ impl CheckedDebugs {
     pub fn none(alloc: Global) -> CheckedDebugs
         ensures { (b : List ℕ) → AreCheckedDebugs b result }
     {
-        CheckedDebugs {
-            alloc,
-            weights: HashMap::new(alloc),
-        }
+        let weights = HashMap::new(alloc);
+        CheckedDebugs { alloc, weights }
     }
 }
 

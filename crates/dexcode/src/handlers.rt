@@ -126,9 +126,6 @@ impl Handler {
         ensures { IfOk result (λ copy. copy ≡ self.now) }
     {
         let catches = Vec::from_slice(*self.catches.allocator(), &self.catches)?;
-        Ok(Handler {
-            catches,
-            catch_all_addr: self.catch_all_addr,
-        })
+        Ok(Handler { catches, ..*self })
     }
 }

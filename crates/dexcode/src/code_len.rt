@@ -2,7 +2,7 @@
 
 ghost use Rattle.std.specs.Prelude.{◌≡◌, ◌+◌, ◌*◌, ◌^◌, ◌<◌, ◌≤◌, ℕ, length};
 ghost use Rattle.dexspec.specs.Code.{most_handlers};
-ghost use Rattle.dexcode.specs.CodePut.{gap_bytes, handler_count, numbered_code_bytes, numbered_handler_bytes, numbered_list_bytes, unit_count, IsCodeLen, numbered_code_weight, numbered_tries_weight};
+ghost use Rattle.dexcode.specs.CodePut.{handler_count, numbered_code_bytes, numbered_handler_bytes, numbered_list_bytes, unit_count, IsCodeLen, numbered_code_weight, numbered_tries_weight};
 ghost use Rattle.dexcode.specs.Numbered.{handlers_weight, ForDenoted};
 ghost use Rattle.dexcode.specs.internal.Writing.{IsPlacedLen};
 ghost use Rattle.dexspec.specs.Code as symbolic;
@@ -48,14 +48,6 @@ fn list_len(handlers: &[Handler]) -> usize
     count.len
 }
 
-// Returns the length of the padding after the units: 2 bytes if their number is odd.
-fn gap_len(units: u32) -> usize
-    ensures len { result ≡ length (gap_bytes units) }
-    ensures few { result ≤ 2 }
-{
-    if units % 2 == 1 { 2 } else { 0 }
-}
-
 // Returns the number of units of the pieces.
 pub(crate) fn unit_count(pieces: &Pieces<'_>) -> u32
     ensures { result ≡ unit_count pieces.now }
@@ -73,7 +65,8 @@ fn placed_len(units: u32, tries: &[Try], list: usize) -> usize
     if tries.is_empty() {
         return front;
     }
-    front + gap_len(units) + 8 * tries.len() + list
+    // The units are padded with 2 bytes if their number is odd.
+    front + 2 * (units % 2) as usize + 8 * tries.len() + list
 }
 
 impl<'a> Code<'a> {

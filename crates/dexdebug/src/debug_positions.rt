@@ -1,9 +1,9 @@
 //! The positions that a debug program records.
 
-ghost use Rattle.std.specs.Prelude.{◌≡◌, ◌^◌, ◌<◌, ◌≤◌, ◌≤ℤ◌, ◌+ℤ◌, pos, All, IfOk, OnOk, length};
+ghost use Rattle.std.specs.Prelude.{◌≡◌, ◌^◌, ◌<◌, ◌≤◌, ◌≤ℤ◌, ◌+ℤ◌, pos, All, IfOk, length};
 ghost use Rattle.dexdebug.specs.Positions as recorded;
 ghost use Rattle.dexdebug.specs.Debug.{unindexed, unindexed_operation, IsSpecial, IsFormedOperation};
-ghost use Rattle.dexdebug.specs.internal.Writing.{positions_of, with_position};
+ghost use Rattle.dexdebug.specs.internal.Writing.{positions_of};
 
 use crate::debug::Debug;
 use crate::debug_operation::Operation;

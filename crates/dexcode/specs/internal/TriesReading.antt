@@ -1,6 +1,5 @@
 -- Catches, handlers and tries as they are read, and when there are none.
 use Rattle.std.specs.Prelude.{◌≡◌, ℕ, ◌+◌, ◌<◌, ◌≤◌, Bool, List, length, Option, Result, IfOk}
-use Rattle.std.specs.Global.{Vec}
 use Rattle.dexspec.specs.Code.{most_handlers}
 use Rattle.dexpool.specs.declared.faults.ItemFault.{ItemFault}
 use Rattle.dexspec.specs.Lists.{Sequence}
@@ -8,7 +7,7 @@ use Rattle.dexspec.specs.Numbers.{Uleb128At}
 use Rattle.dexcode.specs.declared.handlers.Catch.{Catch}
 use Rattle.dexcode.specs.declared.tries.Try.{Try}
 use Rattle.dexcode.specs.Numbered.{NumberedHandler, NumberedTry, all_named, handlers_of, handlers_weight}
-use Rattle.dexcode.specs.Reading.{AreApartFrom, CatchAt, HandlerAt, HandlersRead, ListedTryAt, TriesAt, TriesRead, TryItemsAt}
+use Rattle.dexcode.specs.Reading.{AreApartFrom, CatchAt, HandlerAt, ListedTryAt, TriesAt, TriesRead, TryItemsAt}
 use Rattle.dexcode.specs.internal.NamedHandlers.{AreListed}
 
 -- ---- what is not there
@@ -20,10 +19,6 @@ NoCatches starts types b o count = (cs : List Catch) (n : ℕ) → length cs ≡
 -- at offset o is no handler, of any size
 abbrev pub NoHandlerAt : List Bool → ℕ → List ℕ → ℕ → Type 0
 NoHandlerAt starts types b o = (h : NumberedHandler) (n : ℕ) → HandlerAt starts types b o h n → ⊥
-
--- there are not `count` handlers from offset o on
-abbrev pub NoHandlers : List Bool → ℕ → List ℕ → ℕ → ℕ → Type 0
-NoHandlers starts types b o count = (hs : List NumberedHandler) (n : ℕ) → length hs ≡ count → Sequence (HandlerAt starts types) b o hs n → ⊥
 
 -- at offset o is no handler list
 abbrev pub NoList : List Bool → ℕ → List ℕ → ℕ → Type 0
@@ -42,10 +37,6 @@ abbrev pub HasNoTries : List Bool → ℕ → List ℕ → ℕ → Type 0
 HasNoTries starts types b off = (ts : List NumberedTry) → TriesAt starts types b off ts → ⊥
 
 -- ---- what is
-
--- from offset `first` on are `count` handlers, whose numbers are by the bytes of the list at offset o
-abbrev pub HaveHandlers : List Bool → ℕ → List ℕ → ℕ → ℕ → ℕ → Vec (Option ℕ) → Type 0
-HaveHandlers starts types b o first count numbers = (hs : List NumberedHandler) × (size : ℕ) × HandlersRead starts types b o first count hs numbers.items size
 
 -- these `count` try_items are at offset o, up to an address
 abbrev pub AreTriesRead : ℕ → List (Option ℕ) → List ℕ → ℕ → ℕ → List Try → Type 0

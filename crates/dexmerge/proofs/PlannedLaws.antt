@@ -1,10 +1,10 @@
 -- The definitions of the parts of a plan.
-use Rattle.dexmerge.proofs.Common.{◌≡◌, ℕ, zero, suc, ◌<◌, List, [], ◌∷◌, ◌++◌, length, get_or, map, refl, sym, ap, ◌∙◌, subst, arith, inl, inr, slice_index_or, Bor, Contains, flat_map, append-nil, flat_map-append, Contains-append_left, Contains-append_right, Contains-append_cases, Contains-get_or, Definition, Collection, definitions, AreSame, AreWithin, Caps, Cause, IsFirstCause, IsPlanFor, AreLeaves, Plan, Leaf, Node, leaves, all_leaves, Contains-nil, Contains-cons_cases, Contains-flat_map, Contains-flat_map_source, IsGood-within, IsCause-within, first_cause-same, All-contains, AreAmong-append, append_assoc, AreAmong, AreAmong-refl}
+use Rattle.dexmerge.proofs.Common.{◌≡◌, ℕ, zero, suc, ◌<◌, List, [], ◌∷◌, ◌++◌, length, get_or, map, refl, sym, ap, ◌∙◌, subst, arith, inl, inr, slice_index_or, Contains, flat_map, append-nil, flat_map-append, Contains-append_left, Contains-append_right, Contains-append_cases, Contains-get_or, Definition, Collection, definitions, AreSame, AreWithin, Caps, Cause, IsFirstCause, IsPlanFor, AreLeaves, Plan, Leaf, Node, leaves, all_leaves, Contains-nil, Contains-cons_cases, Contains-flat_map, Contains-flat_map_source, IsGood-within, IsCause-within, first_cause-same, All-contains, AreAmong-append, append_assoc, AreAmong, AreAmong-refl}
 use Rattle.dexspec.specs.Merging as merging
 use Rattle.dexmerge.specs.declared.faults.MergeFault.{MergeFault}
 use Rattle.dexmerge.specs.declared.faults.MergeFault.TheVariants as fault
 use Rattle.dexmerge.proofs.Marked.{part_leaves}
-use Rattle.dexmerge.specs.{referents, definitions_in, all_definitions, plans_of, IsMerged, Reports, planned}
+use Rattle.dexmerge.specs.{plans_of, IsMerged, Reports, planned}
 use Rattle.dexmerge.specs.internal.Parts.{files_in, nodes_in, of_files, of_plans, AreKnown, IsCauseOf}
 
 -- ---- what faults report
@@ -127,7 +127,7 @@ module _ (files : List Collection) where
 -- ---- what a node makes
 
 -- the programs of a node have its definitions
-programs_same : (files : List Collection) (ps : List Plan) (inner given : List Collection) → flat_map definitions given ≡ of_files files (files_in ps) → AreSame (flat_map definitions inner) (of_plans files (nodes_in ps)) → AreSame (flat_map definitions (inner ++ given)) (planned files (Node (plans_of ps)))
+pub programs_same : (files : List Collection) (ps : List Plan) (inner given : List Collection) → flat_map definitions given ≡ of_files files (files_in ps) → AreSame (flat_map definitions inner) (of_plans files (nodes_in ps)) → AreSame (flat_map definitions (inner ++ given)) (planned files (Node (plans_of ps)))
 programs_same files ps inner given is same =
     let own : List Definition = flat_map definitions inner in
     let all : flat_map definitions (inner ++ given) ≡ own ++ of_files files (files_in ps) = flat_map-append definitions inner given ∙ ap (λ (l : List Definition). own ++ l) is in
@@ -141,11 +141,6 @@ programs_same files ps inner given is same =
       | inl first ↦ Contains-append_right E D d first
       | inr last ↦ Contains-append_left E D d last
     ]
-
--- the same, where the files of the leaves were added to an empty list
-pub node_programs : (files : List Collection) (ps : List Plan) (inner : List Collection) (given all none : List (Bor Collection)) → given ≡ all → none ≡ [] → definitions_in all ≡ definitions_in none ++ of_files files (files_in ps) →
-    AreSame (flat_map definitions inner) (of_plans files (nodes_in ps)) → AreSame (all_definitions inner given) (planned files (Node (plans_of ps)))
-node_programs files ps inner given all none same empty added = programs_same files ps inner (referents given) (ap definitions_in same ∙ added ∙ ap (λ (l : List (Bor Collection)). definitions_in l ++ of_files files (files_in ps)) empty)
 
 -- the files of a part are known
 pub part_known : (files : List Collection) (ps : List Plan) (p : Plan) → Contains ps p → AreKnown files (Node (plans_of ps)) → AreKnown files p

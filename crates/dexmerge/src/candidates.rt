@@ -74,10 +74,7 @@ impl<'a, 'b> HasParents for Candidate<'a, 'b> {
     }
 
     fn superclass(&self) -> Option<usize> {
-        match self.class.superclass() {
-            Some(superclass) => Some(self.remapped(superclass)),
-            None => None,
-        }
+        Some(self.remapped(self.class.superclass()?))
     }
 
     fn interface_count(&self) -> usize {

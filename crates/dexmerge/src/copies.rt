@@ -17,10 +17,7 @@ fn are_same(candidates: &[Candidate<'_, '_>], i: usize, k: usize) -> bool
     ensures { IsTrue result
         ↔ (class_at (classes_of candidates.now) i ≡ class_at (classes_of candidates.now) k) }
 {
-    if i == k {
-        return true;
-    }
-    candidates[i].is_same(&candidates[k])
+    i == k || candidates[i].is_same(&candidates[k])
 }
 
 // Whether the candidate is the same class as the one that is kept of its name.
@@ -39,10 +36,7 @@ fn is_equal_copy(candidates: &[Candidate<'_, '_>], places: &[Option<usize>], i: 
 fn lesser(least: Option<usize>, name: usize) -> Option<usize>
     ensures { result ≡ lesser_of least name }
 {
-    match least {
-        Some(least) => Some(least.min(name)),
-        None => Some(name),
-    }
+    Some(least.map_or(name, |least| least.min(name)))
 }
 
 /// The least name of different candidates, if there is one.
@@ -76,13 +70,10 @@ fn push_kept<'a, 'b>(
         → AreIn kept.new.items candidates.now) }
     ensures kept { OnOk result (AddsKept candidates.now place kept.old.items kept.new.items) }
 {
-    match place {
-        Some(i) => {
-            kept.push(candidates[i])?;
-            Ok(())
-        }
-        None => Ok(()),
+    if let Some(i) = place {
+        kept.push(candidates[i])?;
     }
+    Ok(())
 }
 
 /// The candidates that are kept, by name.

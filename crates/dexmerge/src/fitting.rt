@@ -38,12 +38,9 @@ fn has_more(numbering: &Numbering<'_>, kind: SymbolKind, cap: u32) -> bool
 fn greater(number: Option<usize>, other: Option<usize>) -> Option<usize>
     ensures { (cap : ℕ) → is_from cap result ≡ (is_from cap number || is_from cap other) }
 {
-    match number {
-        Some(number) => match other {
-            Some(other) => Some(number.max(other)),
-            None => Some(number),
-        },
-        None => other,
+    match (number, other) {
+        (Some(number), Some(other)) => Some(number.max(other)),
+        _ => number.or(other),
     }
 }
 
@@ -66,10 +63,7 @@ pub(crate) fn greatest_short_string(classes: &[Candidate<'_, '_>]) -> Option<usi
 fn is_from(cap: usize, number: Option<usize>) -> bool
     ensures { result ≡ is_from cap number }
 {
-    match number {
-        Some(number) => number >= cap,
-        None => false,
-    }
+    number.is_some_and(|number| number >= cap)
 }
 
 // Whether the number of a text that a `const-string` names is not below a cap. No code is read where there are no more
@@ -107,22 +101,18 @@ pub(crate) fn first_exceeded(
     ensures { result ≡ first_over caps.now numbering.now (classes_of classes.now) }
 {
     if has_more(numbering, SymbolKind::Typ, caps.types()) {
-        return Some(CapKind::Types as u8);
+        Some(CapKind::Types as u8)
+    } else if has_more(numbering, SymbolKind::Proto, caps.protos()) {
+        Some(CapKind::Protos as u8)
+    } else if has_more(numbering, SymbolKind::Field, caps.fields()) {
+        Some(CapKind::Fields as u8)
+    } else if has_more(numbering, SymbolKind::Method, caps.methods()) {
+        Some(CapKind::Methods as u8)
+    } else if has_text_from(numbering, classes, caps.short_strings()) {
+        Some(CapKind::ShortStrings as u8)
+    } else if is_heavier(numbering, classes, caps) {
+        Some(CapKind::Weight as u8)
+    } else {
+        None
     }
-    if has_more(numbering, SymbolKind::Proto, caps.protos()) {
-        return Some(CapKind::Protos as u8);
-    }
-    if has_more(numbering, SymbolKind::Field, caps.fields()) {
-        return Some(CapKind::Fields as u8);
-    }
-    if has_more(numbering, SymbolKind::Method, caps.methods()) {
-        return Some(CapKind::Methods as u8);
-    }
-    if has_text_from(numbering, classes, caps.short_strings()) {
-        return Some(CapKind::ShortStrings as u8);
-    }
-    if is_heavier(numbering, classes, caps) {
-        return Some(CapKind::Weight as u8);
-    }
-    None
 }

@@ -1,20 +1,18 @@
 //! What a union holds, in numbers.
 
-ghost use Rattle.std.specs.Prelude.{◌≡◌, ◌≤◌, All, List, IfOk, IfErr};
-ghost use Rattle.dexspec.specs.Classes.{Definition};
+ghost use Rattle.std.specs.Prelude.{◌≡◌, ◌≤◌, All, IfOk, IfErr};
 ghost use Rattle.dexclass.specs.Uses.{IsKnownClass};
 ghost use Rattle.dexmerge.specs.Candidates.{IsOfPart, classes_of};
 ghost use Rattle.dexmerge.specs.Counting.{AreCounts, AreCountsOver, above_it};
 ghost use Rattle.dexmerge.specs.Faults.{ReportsUnderAnyCaps};
 ghost use Rattle.dexmerge.specs.Parts.{definitions_in};
-ghost use Rattle.dexmerge.specs.internal.Unions.{AreOnce, OnceReports, OnceCounted};
 
 use crate::candidates::{Candidate, candidates};
 use crate::cycles::class_depths;
 use crate::faults::MergeFault;
 use crate::fitting::{greatest_short_string, weight};
 use crate::merging::joined;
-use crate::union_checks::{name_of, one_of_each};
+use crate::union_checks::one_of_each;
 use dexclass::Program;
 use dexpool::{Numbering, SymbolKind};
 use std::alloc::Global;
@@ -70,24 +68,6 @@ fn counts_of(numbering: &Numbering<'_>, classes: &[Candidate<'_, '_>]) -> Counts
     }
 }
 
-// What classes, one of each name, hold, unless one is above itself.
-fn measure_once(
-    alloc: Global,
-    numbering: &Numbering<'_>,
-    classes: &[Candidate<'_, '_>],
-) -> Result<Counts, MergeFault>
-    requires { (D : List Definition) × AreOnce numbering.now D classes.now }
-    ensures counts { IfOk result (OnceCounted numbering.now classes.now) }
-    ensures fault { IfErr result (OnceReports numbering.now classes.now) }
-{
-    let types = numbering.count(SymbolKind::Typ);
-    let _depths = match class_depths(alloc, classes, types)? {
-        Ok(depths) => depths,
-        Err(i) => return Err(MergeFault::Cycle(name_of(alloc, numbering, classes, i)?)),
-    };
-    Ok(counts_of(numbering, classes))
-}
-
 /// What the program of all classes of the parts holds, in any order and with any repeats: the numbers that caps bound,
 /// and those of its classes and strings. No cap is asked.
 ///
@@ -100,5 +80,6 @@ pub fn measure(alloc: Global, parts: &[&Program<'_>]) -> Result<Counts, MergeFau
     let (numbering, remaps) = joined(alloc, parts)?;
     let copies = candidates(alloc, parts, &remaps)?;
     let classes = one_of_each(alloc, &numbering, &copies)?;
-    measure_once(alloc, &numbering, &classes)
+    let _depths = class_depths(alloc, &numbering, &classes)?;
+    Ok(counts_of(&numbering, &classes))
 }

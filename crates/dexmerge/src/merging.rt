@@ -8,7 +8,8 @@ ghost use Rattle.dexlaws.specs.Causes.{GoodHasNoCause};
 ghost use Rattle.dexlaws.specs.Growth.{Absorbs};
 ghost use Rattle.dexmerge.specs.Faults.{IsMerged, Reports};
 ghost use Rattle.dexmerge.specs.Parts.{referents, definitions_in, all_parts, all_definitions};
-ghost use Rattle.dexmerge.specs.internal.Unions.{IsJoined, IsMergeable, HasDepths};
+ghost use Rattle.dexmerge.specs.internal.Unions.{IsChecked, IsJoined};
+ghost use Rattle.dexclass.specs.Parents.{AreDepthsByName};
 
 use crate::caps::Caps;
 use crate::class_union::collect_classes;
@@ -17,17 +18,6 @@ use crate::union_checks::check;
 use dexclass::Program;
 use dexpool::{Numbering, Remap, SymbolKind};
 use std::alloc::{AllocError, Global};
-
-// What is found of parts that can be merged.
-#[derive(Drop)]
-struct Mergeable<'a> {
-    // The numbering of all parts.
-    numbering: Numbering<'a>,
-    // The map of the numbers of each part.
-    remaps: Vec<Remap>,
-    // A place for each type, and at the number of each class's name the depth of that class.
-    depths: Vec<Option<usize>>,
-}
 
 // The parts: those that are owned, and then the files.
 fn all_parts<'a, 'b>(
@@ -64,26 +54,25 @@ pub(crate) fn joined<'a>(
     Ok((numbering, remaps))
 }
 
-// What is found of parts, where they can be merged.
+// What is found of parts, where they can be merged: their numbering, the map of the numbers of each, and with a place
+// for each type, at the number of each class's name the depth of that class.
 fn checked<'a>(
     alloc: Global,
     owned: &[Program<'a>],
     files: &[&Program<'a>],
     caps: &Caps,
-) -> Result<Mergeable<'a>, MergeFault>
-    ensures good { IfOk result (IsMergeable caps.now owned.now files.now) }
-    ensures depths { IfOk result (HasDepths owned.now files.now) }
+) -> Result<(Numbering<'a>, Vec<Remap>, Vec<Option<usize>>), MergeFault>
+    ensures good { IfOk result (λ found.
+        IsChecked caps.now (all_parts owned.now files.now) found.0 found.1.items) }
+    ensures depths { IfOk result (λ found.
+        AreDepthsByName found.0 (all_definitions owned.now files.now) found.2.items) }
     ensures fault { IfErr result
         (Reports (IsFirstCause caps.now (all_definitions owned.now files.now))) }
 {
     let parts = all_parts(alloc, owned, files)?;
     let (numbering, remaps) = joined(alloc, &parts)?;
     let depths = check(alloc, &numbering, &parts, &remaps, caps)?;
-    Ok(Mergeable {
-        numbering,
-        remaps,
-        depths,
-    })
+    Ok((numbering, remaps, depths))
 }
 
 /// The program of all classes of programs, as [`merge`] has it. Classes of those that are owned are moved, those of
@@ -98,11 +87,7 @@ pub(crate) fn merge_all<'a>(
     ensures fault { IfErr result
         (Reports (IsFirstCause caps.now (all_definitions owned.entry.items files.now))) }
 {
-    let Mergeable {
-        numbering,
-        remaps,
-        depths,
-    } = checked(alloc, &owned, files, caps)?;
+    let (numbering, remaps, depths) = checked(alloc, &owned, files, caps)?;
     caps.are_caps();
     let types = numbering.count(SymbolKind::Typ);
     let classes = collect_classes(alloc, owned, files, &remaps, types)?;

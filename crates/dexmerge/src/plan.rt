@@ -50,12 +50,7 @@ fn mark_files(plan: &Plan, depth: usize, is_named: &mut Vec<bool>) -> bool
 fn are_all_named(is_named: &[bool]) -> bool
     ensures { MatchBool result (AreAllNamed is_named.now) (HasUnnamed is_named.now) }
 {
-    for i in 0..is_named.len() {
-        if !is_named[i] {
-            return false;
-        }
-    }
-    true
+    is_named.iter().all(|is_named| *is_named)
 }
 
 /// Whether the plan names each of `files` files and no other, and is at most 64 deep.

@@ -1,20 +1,19 @@
 //! Programs merged by a plan.
 
-ghost use Rattle.std.specs.Prelude.{◌≡◌, ◌<◌, ◌++◌, [], All, IfOk, IfErr, OnOk, length, map, slice_index_or};
-ghost use Rattle.std.specs.List.{flat_map};
-ghost use Rattle.dexspec.specs.Files.{definitions, AreSame};
-ghost use Rattle.dexspec.specs.Merging.{IsFirstCause, all_leaves};
+ghost use Rattle.std.specs.Prelude.{◌≡◌, ◌<◌, [], IfOk, IfErr, length, map, slice_index_or};
+ghost use Rattle.dexspec.specs.Files.{definitions};
 ghost use Rattle.dexlaws.specs.Causes.{GoodHasNoCause};
-ghost use Rattle.dexmerge.specs.Plans.{plan_of, plans_of, node_of};
+ghost use Rattle.dexmerge.specs.Plans.{plan_of};
 ghost use Rattle.dexmerge.specs.Faults.{IsMerged, IsPlanned, IsPlanFault, Reports, planned};
-ghost use Rattle.dexmerge.specs.internal.Parts.{AreKnown, IsCauseOf, of_nodes, AppendsLeaves};
+ghost use Rattle.dexmerge.specs.internal.Parts.{AreKnown, IsCauseOf};
 
 use crate::caps::Caps;
 use crate::faults::{MergeFault, PlanFault};
 use crate::merging::{merge, merge_all};
 use crate::plan::{Plan, is_plan_for};
 use dexclass::Program;
-use std::alloc::{AllocError, Global};
+use std::alloc::Global;
+use std::slice;
 
 // A file, by its number.
 fn file<'a, 'b>(files: &'b [Program<'a>], number: usize) -> &'b Program<'a>
@@ -22,59 +21,6 @@ fn file<'a, 'b>(files: &'b [Program<'a>], number: usize) -> &'b Program<'a>
     ensures { definitions result.now ≡ slice_index_or (map definitions files.now) number [] }
 {
     &files[number]
-}
-
-// Appends the files of those parts that are leaves.
-fn push_files<'a, 'b>(
-    files: &'b [Program<'a>],
-    parts: &[Plan],
-    programs: &mut Vec<&'b Program<'a>>,
-) -> Result<(), AllocError>
-    requires { All (λ i. i < length files.now) (all_leaves (plans_of (map plan_of parts.now))) }
-    ensures { OnOk result
-        (AppendsLeaves files.now parts.now programs.old.items programs.new.items) }
-{
-    for part in parts {
-        match part {
-            Plan::Leaf(number) => programs.push(file(files, *number))?,
-            Plan::Node(_) => continue,
-        }
-    }
-    Ok(())
-}
-
-// Merges one file alone.
-fn merge_leaf<'a>(
-    alloc: Global,
-    program: &Program<'a>,
-    caps: &Caps,
-) -> Result<Program<'a>, MergeFault>
-    ensures merged { IfOk result (IsMerged caps.now (definitions program.now ++ [])) }
-    ensures fault { IfErr result
-        (Reports (IsFirstCause caps.now (definitions program.now ++ []))) }
-{
-    let mut leaf = Vec::with_capacity(alloc, 1)?;
-    leaf.push(program)?;
-    merge(alloc, &leaf, caps)
-}
-
-// Merges the parts of a node. Those that are nodes have been merged, and what they made is moved.
-fn merge_node<'a>(
-    alloc: Global,
-    files: &[Program<'a>],
-    parts: &[Plan],
-    inner: Vec<Program<'a>>,
-    caps: &Caps,
-) -> Result<Program<'a>, MergeFault>
-    requires known { AreKnown files.now (node_of parts.now) }
-    requires inner { AreSame (flat_map definitions inner.items) (of_nodes files.now parts.now) }
-    ensures merged { IfOk result (IsMerged caps.now (planned files.now (node_of parts.now))) }
-    ensures fault { IfErr result
-        (Reports (IsFirstCause caps.now (planned files.now (node_of parts.now)))) }
-{
-    let mut programs = Vec::with_capacity(alloc, parts.len())?;
-    push_files(files, parts, &mut programs)?;
-    merge_all(alloc, inner, &programs, caps)
 }
 
 // Merges the files of a plan. Each node is merged by itself; files are borrowed, and what inner nodes made is moved.
@@ -89,16 +35,17 @@ fn merge_parts<'a>(
     ensures fault { IfErr result (Reports (IsCauseOf caps.now files.now (plan_of plan.now))) }
 {
     match plan {
-        Plan::Leaf(number) => merge_leaf(alloc, file(files, *number), caps),
+        Plan::Leaf(number) => merge(alloc, slice::from_ref(&file(files, *number)), caps),
         Plan::Node(parts) => {
+            let mut programs = Vec::with_capacity(alloc, parts.len())?;
             let mut inner = Vec::new(alloc);
             for part in parts {
                 match part {
-                    Plan::Leaf(_) => continue,
+                    Plan::Leaf(number) => programs.push(file(files, *number))?,
                     Plan::Node(_) => inner.push(merge_parts(alloc, files, part, caps)?)?,
                 }
             }
-            merge_node(alloc, files, parts, inner, caps)
+            merge_all(alloc, inner, &programs, caps)
         }
     }
 }

@@ -1,13 +1,10 @@
 //! Whether the classes of parts can be merged: conflicts are checked first, then cycles, and then caps.
 
-ghost use Rattle.std.specs.Prelude.{◌≡◌, ◌<◌, length, List, IfOk, IfErr};
+ghost use Rattle.std.specs.Prelude.{List, IfOk, IfErr};
 ghost use Rattle.dexspec.specs.Classes.{Definition};
 ghost use Rattle.dexspec.specs.Merging.{IsFirstCause};
-ghost use Rattle.dexclass.specs.Numbered.{type_at};
-ghost use Rattle.dexclass.specs.Parents.{name_number};
 ghost use Rattle.dexmerge.specs.Faults.{Reports};
-ghost use Rattle.dexmerge.specs.Candidates.{classes_of};
-ghost use Rattle.dexmerge.specs.internal.Unions.{AreCopies, AreOnce, IsJoined, AreKeptOnce, CopiesReport, OnceReportsUnder, PartsAreGood, OnceGood};
+ghost use Rattle.dexmerge.specs.internal.Unions.{AreCopies, IsJoined, AreKeptOnce, CopiesReport, PartsAreGood};
 ghost use Rattle.dexmerge.specs.Parts.{referents, definitions_in};
 
 use crate::candidates::{Candidate, candidates};
@@ -17,10 +14,10 @@ use crate::cycles::{class_depths, depths_by_name};
 use crate::faults::MergeFault;
 use crate::fitting::first_exceeded;
 use dexclass::{Program, same_law};
-use dexorder::{HasParents, classes_by_type};
+use dexorder::classes_by_type;
 use dexpool::{Numbering, Remap, SymbolKind};
 use dexstr::Name;
-use std::alloc::{AllocError, Global};
+use std::alloc::Global;
 
 /// One class of each name. Different classes of one name are a conflict.
 pub(crate) fn one_of_each<'a, 'b>(
@@ -37,45 +34,6 @@ pub(crate) fn one_of_each<'a, 'b>(
     match first_conflict(candidates, &places) {
         Some(name) => Err(MergeFault::Conflict(Name::of(alloc, numbering.typ(name))?)),
         None => Ok(kept(alloc, candidates, &places)?),
-    }
-}
-
-/// The name of a class.
-pub(crate) fn name_of(
-    alloc: Global,
-    numbering: &Numbering<'_>,
-    classes: &[Candidate<'_, '_>],
-    i: usize,
-) -> Result<Name, AllocError>
-    requires class { i < length classes.now }
-    requires name { name_number (classes_of classes.now) i < length numbering.now.types }
-    ensures { IfOk result (λ name.
-        name ≡ type_at numbering.now (name_number (classes_of classes.now) i)) }
-{
-    Name::of(alloc, numbering.typ(classes[i].name()))
-}
-
-// Whether classes, one of each name, can be merged: cycles are checked, and then caps. Returns the depths of the
-// classes, at the numbers of their names.
-fn check_once(
-    alloc: Global,
-    numbering: &Numbering<'_>,
-    classes: &[Candidate<'_, '_>],
-    caps: &Caps,
-) -> Result<Vec<Option<usize>>, MergeFault>
-    requires { (D : List Definition) × AreOnce numbering.now D classes.now }
-    ensures good { IfOk result (λ depths.
-        OnceGood caps.now numbering.now classes.now depths.items) }
-    ensures fault { IfErr result (OnceReportsUnder caps.now numbering.now classes.now) }
-{
-    let types = numbering.count(SymbolKind::Typ);
-    let depths = match class_depths(alloc, classes, types)? {
-        Ok(depths) => depths,
-        Err(i) => return Err(MergeFault::Cycle(name_of(alloc, numbering, classes, i)?)),
-    };
-    match first_exceeded(numbering, classes, caps) {
-        Some(cap) => Err(MergeFault::Cap(cap)),
-        None => Ok(depths_by_name(alloc, classes, &depths, types)?),
     }
 }
 
@@ -98,5 +56,9 @@ pub(crate) fn check(
 {
     let copies = candidates(alloc, parts, remaps)?;
     let classes = one_of_each(alloc, numbering, &copies)?;
-    check_once(alloc, numbering, &classes, caps)
+    let depths = class_depths(alloc, numbering, &classes)?;
+    match first_exceeded(numbering, &classes, caps) {
+        Some(cap) => Err(MergeFault::Cap(cap)),
+        None => Ok(depths_by_name(alloc, &classes, &depths, numbering.count(SymbolKind::Typ))?),
+    }
 }

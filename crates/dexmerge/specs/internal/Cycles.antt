@@ -35,10 +35,6 @@ pub record IsFirstCycle (m : Mentions) (cs : List NumberedClass) (i : ℕ) : Typ
 abbrev pub KeptHaveDepths : List Candidate → List (Option ℕ) → Type 0
 KeptHaveDepths cs depths = (m : Mentions) → AreKept m (classes_of cs) → HaveDepths m (classes_of cs) depths
 
--- of kept classes, this is the first without a depth
-abbrev pub KeptHaveCycle : List Candidate → ℕ → Type 0
-KeptHaveCycle cs i = (m : Mentions) → AreKept m (classes_of cs) → IsFirstCycle m (classes_of cs) i
-
 -- the depths of kept classes are at the numbers of their names
 abbrev pub KeptAreByName : ℕ → List Candidate → List (Option ℕ) → List (Option ℕ) → Type 0
 KeptAreByName types cs depths by_name = (m : Mentions) → length m.types ≡ types → AreKept m (classes_of cs)

@@ -1,14 +1,10 @@
 -- The files that the parts of a plan name, and the parts that are nodes.
-use Rattle.std.specs.Prelude.{◌≡◌, ℕ, ◌<◌, List, [], ◌∷◌, ◌++◌, map, length, All, slice_index_or}
-use Rattle.std.specs.Borrow.{Bor}
+use Rattle.std.specs.Prelude.{ℕ, ◌<◌, List, [], ◌∷◌, map, length, All, slice_index_or}
 use Rattle.std.specs.List.{flat_map}
 use Rattle.dexspec.specs.Classes.{Definition}
 use Rattle.dexspec.specs.Files.{Collection, definitions}
 use Rattle.dexspec.specs.Merging.{Caps, Cause, IsCause, IsFirstCause, IsFlat, Plan, Leaf, Node, leaves}
 use Rattle.dexmerge.specs.Faults.{planned}
-use Rattle.dexmerge.specs.Parts.{definitions_in}
-use Rattle.dexmerge.specs.Plans.{plan_of}
-use Rattle.dexmerge.specs.declared.plan.Plan as code
 
 -- the files of the parts that are leaves
 abbrev pub files_in : List Plan → List ℕ
@@ -29,18 +25,6 @@ of_files files numbers = flat_map (λ i. slice_index_or (map definitions files) 
 -- the definitions of plans
 abbrev pub of_plans : List Collection → List Plan → List Definition
 of_plans files ps = flat_map (planned files) ps
-
--- the definitions of the parts that are leaves
-abbrev pub of_leaves : List Collection → List code.Plan → List Definition
-of_leaves files parts = of_files files (files_in (map plan_of parts))
-
--- the definitions of the parts that are nodes
-abbrev pub of_nodes : List Collection → List code.Plan → List Definition
-of_nodes files parts = of_plans files (nodes_in (map plan_of parts))
-
--- the definitions of the parts that are leaves are added to those of the programs
-abbrev pub AppendsLeaves : List Collection → List code.Plan → List (Bor Collection) → List (Bor Collection) → Type 0
-AppendsLeaves files parts old new = definitions_in new ≡ definitions_in old ++ of_leaves files parts
 
 -- the files that the plan names are there
 abbrev pub AreKnown : List Collection → Plan → Type 0

@@ -7,16 +7,16 @@ use Rattle.dexmerge.proofs.merging.merge_all.Goals as goal
 use Rattle.dexmerge.proofs.merging.merge_all.Goals.{In_ok-classes}
 
 -- the parts can be merged under the greatest caps
-checked : (c : In_ok-classes) → IsChecked greatest_caps (all_parts c.args.owned.items c.args.files.now) c.in_ok-numbering.field-0.numbering c.deref-2.result.now
+checked : (c : In_ok-classes) → IsChecked greatest_caps (all_parts c.args.owned.items c.args.files.now) c.in_ok-numbering.numbering c.deref-2.result.now
 checked c = checked_parts c.args.caps.now c.args.owned.items c.deref.result.now c.args.files.now _ _ c.deref-2.result.now c.are_caps.ensures c.deref.ensures.value c.deref-2.ensures.value c.in_ok-numbering.ensures.good
 
 -- and these are their classes, one of each name
-each : (c : In_ok-classes) → AreOneOfEach c.in_ok-numbering.field-0.numbering (all_definitions c.args.owned.items c.args.files.now) c.in_ok-classes.classes.items
-each c = c.in_ok-classes.ensures c.in_ok-numbering.field-0.numbering (sym c.count-types.ensures) (checked c)
+each : (c : In_ok-classes) → AreOneOfEach c.in_ok-numbering.numbering (all_definitions c.args.owned.items c.args.files.now) c.in_ok-classes.classes.items
+each c = c.in_ok-classes.ensures c.in_ok-numbering.numbering (sym c.count-types.ensures) (checked c)
 
 pub collect_classes-requires : goal.collect_classes-requires
 collect_classes-requires c = (
-  c.in_ok-numbering.field-0.numbering,
+  c.in_ok-numbering.numbering,
   sym c.count-types.ensures,
   checked_parts c.args.caps.now c.args.owned.items c.deref.result.now c.args.files.now _ _ c.deref-2.result.now c.are_caps.ensures c.deref.ensures.value c.deref-2.ensures.value c.in_ok-numbering.ensures.good,
 )
@@ -29,8 +29,8 @@ of_known-requires-clause-mergeable c =
 pub of_known-requires-clause-depths : goal.of_known-requires-clause-depths
 of_known-requires-clause-depths c =
     let at = (goal.at.of_known-requires-clause-depths c).In_ok-classes in
-    let m = c.in_ok-numbering.field-0.numbering in
-    let depths = c.in_ok-numbering.field-0.depths.items in
+    let m = c.in_ok-numbering.numbering in
+    let depths = c.in_ok-numbering.depths.items in
     let known : AreDepthsByName m (all_definitions c.args.owned.items c.args.files.now) depths = subst (λ (l : List Collection). AreDepthsByName m (all_definitions l c.args.files.now) depths) c.deref.ensures.value c.in_ok-numbering.ensures.depths in
     subst (AreDepthsByName m (map (definition_of m) c.in_ok-classes.classes.items)) (sym c.deref-3.ensures.value) (depths_are m (all_definitions c.args.owned.items c.args.files.now) c.in_ok-classes.classes.items depths (checked at).good (each at) known)
 

@@ -9,7 +9,7 @@ ghost use Rattle.dexspec.specs.Classes.{no_index};
 ghost use Rattle.dexspec.specs.Canonical.{class_offsets};
 ghost use Rattle.dexcanon.specs.internal.ClassRows.{class_row, no_offsets};
 ghost use Rattle.dexcanon.specs.internal.Ready.{CanBeMade, ordered_in};
-ghost use Rattle.dexcanon.specs.internal.Adding.{class_rows, offsets_of};
+ghost use Rattle.dexcanon.specs.internal.Adding.{class_rows};
 
 use crate::contents::{Contents, ItemList};
 use dexclass::Class;
@@ -17,37 +17,20 @@ use dexhead::Output;
 use dexlayout::encode_numbers;
 use dexpool::SymbolKind;
 
-// The offsets of what a class contains, each 0 where it has none: interfaces, annotations directory, class data and
-// static values.
-#[derive(Drop)]
-struct ClassOffsets {
-    interfaces: u32,
-    annotations: u32,
-    class_data: u32,
-    static_values: u32,
-}
-
-impl ClassOffsets {
-    // Those of the class at a place, by the layout of the file.
-    fn of(contents: &Contents<'_, '_, '_>, i: usize) -> ClassOffsets
-        requires ready { CanBeMade contents.now }
-        requires within { i < length contents.now.classes.now }
-        ensures { offsets_of result
-            ≡ slice_index_or (class_offsets (ordered_in contents.now)) i no_offsets }
-    {
-        let layout = contents.layout;
-        let lists = layout.type_lists().places().offsets();
-        let list = contents.numbering.count(SymbolKind::Proto) + i;
-        let directories = layout.directories().places().offsets();
-        let class_data = layout.class_data().places().offsets();
-        let static_values = layout.static_values().places().offsets();
-        ClassOffsets {
-            interfaces: lists[list],
-            annotations: directories[i],
-            class_data: class_data[i],
-            static_values: static_values[i],
-        }
-    }
+// The offsets of what the class at a place contains, by the layout of the file, each 0 where it has none: interfaces,
+// annotations directory, class data and static values.
+fn offsets_of(contents: &Contents<'_, '_, '_>, i: usize) -> (u32, u32, u32, u32)
+    requires ready { CanBeMade contents.now }
+    requires within { i < length contents.now.classes.now }
+    ensures { result ≡ slice_index_or (class_offsets (ordered_in contents.now)) i no_offsets }
+{
+    let layout = contents.layout;
+    let lists = layout.type_lists().places().offsets();
+    let list = contents.numbering.count(SymbolKind::Proto) + i;
+    let directories = layout.directories().places().offsets();
+    let class_data = layout.class_data().places().offsets();
+    let static_values = layout.static_values().places().offsets();
+    (lists[list], directories[i], class_data[i], static_values[i])
 }
 
 // A number, or the index that names nothing.
@@ -59,23 +42,22 @@ fn index(number: Option<usize>) -> u32
 }
 
 // The numbers of a class row.
-fn row_of(class: &Class<'_>, offsets: &ClassOffsets) -> [u32; 8]
+fn row_of(class: &Class<'_>, offsets: (u32, u32, u32, u32)) -> [u32; 8]
     requires name { class.now.name < 2 ^ 32 }
     requires superclass { IfSome class.now.superclass (λ n. n < 2 ^ 32) }
     requires source { IfSome class.now.source (λ n. n < 2 ^ 32) }
-    ensures { flat_map uint result ≡ class_row class.now (offsets_of offsets.now) }
+    ensures { flat_map uint result ≡ class_row class.now offsets }
 {
-    let superclass = index(class.superclass());
-    let source = index(class.source());
+    let (interfaces, annotations, class_data, static_values) = offsets;
     [
         class.name() as u32,
         class.flags().bits(),
-        superclass,
-        offsets.interfaces,
-        source,
-        offsets.annotations,
-        offsets.class_data,
-        offsets.static_values,
+        index(class.superclass()),
+        interfaces,
+        index(class.source()),
+        annotations,
+        class_data,
+        static_values,
     ]
 }
 
@@ -92,8 +74,7 @@ impl ItemList for ClassDefs {
     fn encode_item<O: Output>(contents: &Contents<'_, '_, '_>, i: usize, out: &mut O) {
         let classes = contents.classes;
         let class = &classes[i];
-        let offsets = ClassOffsets::of(contents, i);
-        let row = row_of(class, &offsets);
+        let row = row_of(class, offsets_of(contents, i));
         encode_numbers(&row, out);
     }
 }

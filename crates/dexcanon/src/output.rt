@@ -150,9 +150,6 @@ impl<T: Target> Out<T> {
     pub(crate) fn result(&self) -> Result<(), StoreFault>
         ensures { result ≡ result_of self.now.failed }
     {
-        if self.failed {
-            return Err(StoreFault::Io);
-        }
-        Ok(())
+        (!self.failed).then_some(()).ok_or(StoreFault::Io)
     }
 }

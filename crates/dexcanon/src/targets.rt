@@ -11,11 +11,11 @@ use sha1::Sha1;
 #[derive(Drop)]
 pub(crate) struct Sums {
     pub(crate) message: Sha1,
-    pub(crate) adler: Adler,
+    pub(crate) checksum: Adler,
 }
 
 impl Target for Sums {
-    ghost gives = { λ x a b. Hashed x a.message b.message × Summed x a.adler b.adler };
+    ghost gives = { λ x a b. Hashed x a.message b.message × Summed x a.checksum b.checksum };
 
     ghost gives_prefix = { λ _ _ _. Unit {0} };
 
@@ -23,13 +23,13 @@ impl Target for Sums {
 
     fn write(&mut self, bytes: &[u8]) -> Result<(), DeviceFault> {
         self.message.update(bytes);
-        self.adler.update(bytes);
+        self.checksum.update(bytes);
         Ok(())
     }
 
-    ghost nothing = { λ a. (hashed_nothing a.message, summed_nothing a.adler) };
+    ghost nothing = { λ a. (hashed_nothing a.message, summed_nothing a.checksum) };
 
-    ghost both = { λ x y a b c h g. (hashed_both x y a.message b.message c.message h.0 g.0, summed_both x y a.adler b.adler c.adler h.1 g.1) };
+    ghost both = { λ x y a b c h g. (hashed_both x y a.message b.message c.message h.0 g.0, summed_both x y a.checksum b.checksum c.checksum h.1 g.1) };
 
     ghost whole = { λ _ _ _ _. tt };
 

@@ -148,15 +148,12 @@ fn head_with_sums(contents: &Contents<'_, '_, '_>, buffer: Vec<u8>) -> (Head, Ve
     dexhead::laws::sums_law();
     let sums = Sums {
         message: Sha1::new(),
-        adler: Adler::new(),
+        checksum: Adler::new(),
     };
-    let (buffer, sums) = write_signed(contents, buffer, sums);
-    let Sums {
-        message,
-        adler: rest,
-    } = sums;
+    let (buffer, Sums { message, checksum }) = write_signed(contents, buffer, sums);
     let mut head = contents.layout.head();
     head.signature = message.finalize();
-    head.checksum = adler_combine(adler(&head.signature), rest.value(), head.file_size - 32);
+    let front = adler(&head.signature);
+    head.checksum = adler_combine(front, checksum.value(), head.file_size - 32);
     (head, buffer)
 }

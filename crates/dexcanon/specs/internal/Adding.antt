@@ -9,7 +9,6 @@ use Rattle.dexspec.specs.Spellings.{text_index}
 use Rattle.dexspec.specs.Canonical.{class_offsets, data_sections, table_bytes, proto_row_bytes, field_row_bytes, method_row_bytes, with_sums, unsigned_file, type_list_section, string_section}
 use Rattle.dexhead.specs.Laid.{after_header}
 use Rattle.dexhead.specs.Written.{head_bytes}
-use Rattle.dexcanon.specs.declared.class_defs.ClassOffsets.{ClassOffsets}
 use Rattle.dexcanon.specs.declared.contents.Contents.{Contents}
 use Rattle.dexcanon.specs.internal.ClassRows.{rows_with}
 use Rattle.dexcanon.specs.internal.Ready.{ordered_in}
@@ -55,10 +54,6 @@ string_items c = map string_data c.numbering.now.texts
 -- the rows of the classes
 abbrev pub class_rows : Contents → List (List ℕ)
 class_rows c = rows_with c.numbering.now c.classes.now (class_offsets (ordered_in c))
-
--- the offsets in a row
-abbrev pub offsets_of : ClassOffsets → ℕ × ℕ × ℕ × ℕ
-offsets_of o = (o.interfaces, o.annotations, o.class_data, o.static_values)
 
 -- the sections of the data
 abbrev pub data_of : Contents → List ℕ

@@ -17,5 +17,5 @@ returns-clause-bytes c =
     let same : signed_of c.args.contents.now ≡ rest = ap (λ h. drop 32 (head_bytes h) ++ after_header K) (sym c.head-head.ensures) in
     let signature : c.finalize-head.result ≡ sha1 rest = c.finalize-head.ensures _ (given.0 [] c.new.ensures) ∙ ap sha1 same in
     let back : c.value.result ≡ adler_32 rest = c.value.ensures ∙ ap adler_number (given.1 ∙ ap (λ s. adler_sums s (signed_of c.args.contents.now)) c.new-2.ensures ∙ ap (adler_sums (1, 0)) same) in
-    let checksum : c.adler_combine.result ≡ adler_32 (c.finalize-head.result ++ rest) = c.adler_combine.ensures c.finalize-head.result rest c.adler.ensures back (omega (arith, length_signed l K twenty reports c.fields_law.ensures)) in
+    let checksum : c.adler_combine.result ≡ adler_32 (c.finalize-head.result ++ rest) = c.adler_combine.ensures c.finalize-head.result rest c.adler-front.ensures back (omega (arith, length_signed l K twenty reports c.fields_law.ensures)) in
     summed _ l K twenty reports refl signature checksum c.sums_law.ensures.reported c.sums_law.ensures.head c.file_law.ensures.set

@@ -20,8 +20,8 @@ offset_bounds-classes-i g c =
 pub bounds-classes-i : goal.bounds-classes-i
 bounds-classes-i g c = omega (arith, c.requires.within, count_class_rows c.args.contents.now.numbering.now c.args.contents.now.classes.now)
 
-pub of-offsets-requires-clause-within : goal.of-offsets-requires-clause-within
-of-offsets-requires-clause-within g c = within g (goal.at.of-offsets-requires-clause-within g c).After-index-classes-i
+pub offsets_of-requires-clause-within : goal.offsets_of-requires-clause-within
+offsets_of-requires-clause-within g c = within g (goal.at.offsets_of-requires-clause-within g c).After-index-classes-i
 
 pub row_of-row-requires-clause-name : goal.row_of-row-requires-clause-name
 row_of-row-requires-clause-name g c = name_small c.args.contents.now.numbering.now c.index-classes-i.result (known g (goal.at.row_of-row-requires-clause-name g c).After-index-classes-i) (omega (arith, c.requires.ready.writable.types_few))
@@ -37,4 +37,4 @@ returns g c =
     let m = c.args.contents.now.numbering.now in
     let here = (goal.at.returns g c).After-index-classes-i in
     let at = class_row_at m c.args.contents.now.classes.now c.args.i c.index-classes-i.result (ranks_are_numbers m c.requires.ready.writable.numbering.rising) (known g here) (within g here) c.index-classes-i.is in
-    subst (λ bs. g.O.Output.gives bs c.args.out.now c.encode_numbers.new.out) ((c.row_of-row.ensures ∙ ap (class_row c.index-classes-i.result) c.of-offsets.ensures) ∙ sym at) c.encode_numbers.ensures
+    subst (λ bs. g.O.Output.gives bs c.args.out.now c.encode_numbers.new.out) ((c.row_of-row.ensures ∙ ap (class_row c.index-classes-i.result) c.offsets_of.ensures) ∙ sym at) c.encode_numbers.ensures

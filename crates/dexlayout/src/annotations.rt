@@ -1,56 +1,34 @@
 //! The annotations of each annotation set that is written, set by set.
 
-ghost use Rattle.std.specs.Prelude.{◌≡◌, ◌^◌, ◌≤◌, IfOk, OnOk, Some};
-ghost use Rattle.dexval.specs.Code.{annotation_of};
-ghost use Rattle.dexval.specs.Numbered.{IsKnownAnnotation};
-ghost use Rattle.dexlayout.specs.internal.Annotated.{annotation_item, set_annotations};
-ghost use Rattle.dexlayout.specs.internal.Encoding.{encode_use, encode_uses, no_items_from};
+ghost use Rattle.std.specs.Prelude.{◌≡◌, ◌^◌, ◌≤◌, IfOk};
+ghost use Rattle.dexlayout.specs.internal.Annotated.{set_annotations};
+ghost use Rattle.dexlayout.specs.internal.Encoding.{encode_uses, no_items_from};
 ghost use Rattle.dexlayout.specs.internal.Placing.{AreKnownSets};
 
+use crate::input::Input;
 use crate::items::Items;
-use dexpool::Numbering;
-use dexval::{Annotation, AnnotationSet, put_annotation};
-use std::alloc::{AllocError, Global};
+use dexval::put_annotation;
+use std::alloc::AllocError;
 
-// Encodes an annotation after the others.
-fn put_next(
-    numbering: &Numbering<'_>,
-    annotation: &Annotation,
-    items: &mut Items,
-) -> Result<(), AllocError>
-    requires known { IsKnownAnnotation numbering.now (annotation_of annotation.now) }
-    requires fits { (encode_use 1 items.old
-        (Some (annotation_item numbering.now (annotation_of annotation.now)))).places.end ≤ 2 ^ 30 }
-    ensures { OnOk result (items.new ≡ encode_use 1 items.old
-        (Some (annotation_item numbering.now (annotation_of annotation.now)))) }
-{
-    numbering.is_numbering();
-    let before = items.bytes.len();
-    put_annotation(annotation, numbering, &mut items.bytes)?;
-    items.end_item(before)
-}
-
-/// The annotations of sets, encoded, and the offset of each, from an offset on, set by set.
+/// The annotations of the sets that are written, encoded, and the offset of each, from an offset on, set by set.
 ///
 /// Condition: they end within what a file may have.
 ///
 /// Source: "annotation_item".
-pub(crate) fn place_annotations(
-    alloc: Global,
-    numbering: &Numbering<'_>,
-    sets: &[&AnnotationSet],
-    from: u32,
-) -> Result<Items, AllocError>
-    requires known { AreKnownSets numbering.now sets.now }
-    requires fits { (encode_uses 1 (no_items_from from) (set_annotations numbering.now sets.now)).places.end
-        ≤ 2 ^ 30 }
-    ensures { IfOk result (λ items. items
-        ≡ encode_uses 1 (no_items_from from) (set_annotations numbering.now sets.now)) }
+pub(crate) fn place_annotations(input: &Input<'_, '_>, from: u32) -> Result<Items, AllocError>
+    requires known { AreKnownSets input.now.numbering.now input.now.written.now }
+    requires fits { (encode_uses 1 (no_items_from from)
+        (set_annotations input.now.numbering.now input.now.written.now)).places.end ≤ 2 ^ 30 }
+    ensures { IfOk result (λ items. items ≡ encode_uses 1 (no_items_from from)
+        (set_annotations input.now.numbering.now input.now.written.now)) }
 {
-    let mut items = Items::starting_at(alloc, from, sets.len())?;
-    for set in sets {
+    input.numbering.is_numbering();
+    let mut items = Items::starting_at(input.alloc, from, input.written.len())?;
+    for set in input.written {
         for annotation in set.annotations() {
-            put_next(numbering, annotation, &mut items)?;
+            let before = items.bytes.len();
+            put_annotation(annotation, input.numbering, &mut items.bytes)?;
+            items.end_item(before)?;
         }
     }
     Ok(items)

@@ -5,27 +5,24 @@ ghost use Rattle.dexmembers.specs.Numbered.{methods_of};
 ghost use Rattle.dexlayout.specs.internal.Encoding.{class_data_item, encode_use, has_no_members};
 ghost use Rattle.dexlayout.specs.internal.Placing.{CanPlaceClassData, PlacedClassData};
 
+use crate::input::Input;
 use crate::items::Items;
 use crate::offsets::Offsets;
 use dexclass::Class;
 use dexmembers::Members;
-use std::alloc::{AllocError, Global};
+use std::alloc::AllocError;
 
 /// The class data of the classes, encoded, and their offsets: one for each class. They are after the code, whose
 /// offsets they contain.
 ///
 /// Source: "class_data_item".
-pub(crate) fn place_class_data(
-    alloc: Global,
-    classes: &[Class<'_>],
-    codes: &Offsets,
-) -> Result<Items, AllocError>
-    requires { CanPlaceClassData classes.now codes.now }
-    ensures { IfOk result (PlacedClassData classes.now codes.now) }
+pub(crate) fn place_class_data(input: &Input<'_, '_>, codes: &Offsets) -> Result<Items, AllocError>
+    requires { CanPlaceClassData input.now.classes.now codes.now }
+    ensures { IfOk result (PlacedClassData input.now.classes.now codes.now) }
 {
     let mut rest = codes.offsets();
-    let mut items = Items::starting_at(alloc, codes.end(), classes.len())?;
-    for class in classes {
+    let mut items = Items::starting_at(input.alloc, codes.end(), input.classes.len())?;
+    for class in input.classes {
         let (offs, others) = rest.split_at(class.members().method_count());
         put_item(class, offs, &mut items)?;
         rest = others;

@@ -5,39 +5,34 @@ ghost use Rattle.dexlayout.specs.internal.Codes.{HasShortCode, code_item};
 ghost use Rattle.dexlayout.specs.internal.Encoding.{encode_use};
 ghost use Rattle.dexlayout.specs.internal.Placing.{CanPlaceCodes, PlacedCodes};
 
+use crate::input::Input;
 use crate::items::Items;
 use crate::methods::method_at;
 use crate::offsets::Offsets;
-use dexclass::Class;
 use dexcode::{CodeItem, code_bytes_law, code_types_law};
 use dexmembers::Method;
-use std::alloc::{AllocError, Global};
+use std::alloc::AllocError;
 
 /// The code of each method of each class, the direct ones first, encoded, and their offsets. It is after the debug
 /// programs, whose offsets it contains.
 ///
 /// Source: "code_item".
-pub(crate) fn place_codes(
-    alloc: Global,
-    classes: &[Class<'_>],
-    debugs: &Offsets,
-) -> Result<Items, AllocError>
-    requires { CanPlaceCodes classes.now debugs.now }
-    ensures { IfOk result (PlacedCodes classes.now debugs.now) }
+pub(crate) fn place_codes(input: &Input<'_, '_>, debugs: &Offsets) -> Result<Items, AllocError>
+    requires { CanPlaceCodes input.now.classes.now debugs.now }
+    ensures { IfOk result (PlacedCodes input.now.classes.now debugs.now) }
 {
     code_bytes_law();
     code_types_law();
     let mut rest = debugs.offsets();
-    let mut items = Items::starting_at(alloc, debugs.end(), rest.len())?;
-    for class in classes {
+    let mut items = Items::starting_at(input.alloc, debugs.end(), rest.len())?;
+    for class in input.classes {
         let members = class.members();
         members.are_few();
         let count = members.method_count();
         for i in 0..count {
             put_method(&method_at(members, i), rest[i], &mut items)?;
         }
-        let (_, others) = rest.split_at(count);
-        rest = others;
+        rest = rest.split_at(count).1;
     }
     Ok(items)
 }

@@ -7,26 +7,25 @@ ghost use Rattle.dexspec.specs.Placing.{end, end_from};
 ghost use Rattle.dexspec.specs.Canonical.{data_start, string_section};
 ghost use Rattle.dexlayout.specs.Laid.{AreWritable, ordered_of};
 ghost use Rattle.dexlayout.specs.internal.Parts.{AreBack, AreBodies, AreData, AreFirstSections};
-ghost use Rattle.dexlayout.specs.internal.Placing.{AreStringsFrom, CanPlaceSets, PlacedFrom, PlacedSets, AreWrittenSets, AreKnownSets, HaveSets, IsDataFrom, AreEntriesOf};
+ghost use Rattle.dexlayout.specs.internal.Placing.{AreStringsFrom, CanPlaceSets, PlacedFrom, PlacedSets, AreWrittenSets, AreKnownSets, AreSharedBy, IsDataFrom, AreEntriesOf};
 
 use crate::annotations::place_annotations;
 use crate::class_data::place_class_data;
 use crate::codes::place_codes;
 use crate::debugs::place_debugs;
 use crate::directories::place_directories;
+use crate::input::Input;
 use crate::items::{Items, SharedItems};
 use crate::map_entries::count_placed;
 use crate::offsets::{Offsets, round_up};
 use crate::ref_lists::place_ref_lists;
 use crate::sets::{Sets, place_sets, share_sets};
-use crate::sharing::Shared;
 use crate::static_values::place_static_values;
 use crate::tables::entry;
 use crate::type_lists::place_type_lists;
 use dexclass::Class;
 use dexhead::{MapEntry, Section};
 use dexpool::{Numbering, SymbolKind};
-use dexval::AnnotationSet;
 use std::alloc::{AllocError, Global};
 
 /// The offsets of the items of each section of the data, in the order of the file.
@@ -87,24 +86,18 @@ fn place_strings(alloc: Global, numbering: &Numbering<'_>, from: u32) -> Result<
     Ok(places)
 }
 
-// Lays out the sections up to the string data, after the tables. `written` has the sets that are written.
-fn place_first_sections(
-    alloc: Global,
-    numbering: &Numbering<'_>,
-    classes: &[Class<'_>],
-    written: &[&AnnotationSet],
-    from: u32,
-) -> Result<FirstSections, AllocError>
-    requires classes { AreWritable numbering.now classes.now }
-    requires written { AreWrittenSets numbering.now classes.now written.now }
-    requires known { AreKnownSets numbering.now written.now }
-    requires from { from ≡ data_start (ordered_of numbering.now classes.now) }
-    ensures { IfOk result (AreFirstSections numbering.now classes.now) }
+// Lays out the sections up to the string data, after the tables.
+fn place_first_sections(input: &Input<'_, '_>, from: u32) -> Result<FirstSections, AllocError>
+    requires classes { AreWritable input.now.numbering.now input.now.classes.now }
+    requires written { AreWrittenSets input.now.numbering.now input.now.classes.now input.now.written.now }
+    requires known { AreKnownSets input.now.numbering.now input.now.written.now }
+    requires from { from ≡ data_start (ordered_of input.now.numbering.now input.now.classes.now) }
+    ensures { IfOk result (AreFirstSections input.now.numbering.now input.now.classes.now) }
 {
-    let type_lists = place_type_lists(alloc, numbering, classes, from)?;
-    let annotations = place_annotations(alloc, numbering, written, type_lists.places().end())?;
-    let static_values = place_static_values(alloc, numbering, classes, annotations.places().end())?;
-    let strings = place_strings(alloc, numbering, static_values.places().end())?;
+    let type_lists = place_type_lists(input, from)?;
+    let annotations = place_annotations(input, type_lists.places().end())?;
+    let static_values = place_static_values(input, annotations.places().end())?;
+    let strings = place_strings(input.alloc, input.numbering, static_values.places().end())?;
     Ok(FirstSections {
         type_lists,
         annotations,
@@ -114,19 +107,14 @@ fn place_first_sections(
 }
 
 // Lays out the sections from the debug programs to the class data, after the string data.
-fn place_bodies(
-    alloc: Global,
-    numbering: &Numbering<'_>,
-    classes: &[Class<'_>],
-    from: u32,
-) -> Result<Bodies, AllocError>
-    requires { (m : Mentions) × AreWritable m classes.now
-        × (from ≡ end (string_section (ordered_of m classes.now))) }
-    ensures { IfOk result (PlacedFrom string_section AreBodies classes.now from) }
+fn place_bodies(input: &Input<'_, '_>, from: u32) -> Result<Bodies, AllocError>
+    requires { (m : Mentions) × AreWritable m input.now.classes.now
+        × (from ≡ end (string_section (ordered_of m input.now.classes.now))) }
+    ensures { IfOk result (PlacedFrom string_section AreBodies input.now.classes.now from) }
 {
-    let debugs = place_debugs(alloc, numbering, classes, from)?;
-    let codes = place_codes(alloc, classes, debugs.places())?;
-    let class_data = place_class_data(alloc, classes, codes.places())?;
+    let debugs = place_debugs(input, from)?;
+    let codes = place_codes(input, debugs.places())?;
+    let class_data = place_class_data(input, codes.places())?;
     Ok(Bodies {
         debugs,
         codes,
@@ -134,22 +122,15 @@ fn place_bodies(
     })
 }
 
-// Lays out the last sections, after the class data. `shared` has the sets that are written, and for each use the number
-// of its set.
-fn place_back(
-    alloc: Global,
-    classes: &[Class<'_>],
-    annotations: &Items,
-    shared: &Shared<&AnnotationSet>,
-    from: u32,
-) -> Result<Back, AllocError>
-    requires place { CanPlaceSets classes.now annotations.now from }
-    requires shared { HaveSets classes.now shared.now }
-    ensures { IfOk result (PlacedSets AreBack classes.now annotations.now from) }
+// Lays out the last sections, after the class data.
+fn place_back(input: &Input<'_, '_>, annotations: &Items, from: u32) -> Result<Back, AllocError>
+    requires place { CanPlaceSets input.now.classes.now annotations.now from }
+    requires shared { AreSharedBy input.now.classes.now input.now.written.now input.now.numbers.now }
+    ensures { IfOk result (PlacedSets AreBack input.now.classes.now annotations.now from) }
 {
-    let sets = place_sets(alloc, classes, annotations, shared, from)?;
-    let ref_lists = place_ref_lists(alloc, classes, &sets)?;
-    let directories = place_directories(alloc, classes, &sets, &ref_lists)?;
+    let sets = place_sets(input, annotations, from)?;
+    let ref_lists = place_ref_lists(input, &sets)?;
+    let directories = place_directories(input.alloc, input.classes, &sets, &ref_lists)?;
     Ok(Back {
         sets,
         ref_lists,
@@ -158,10 +139,10 @@ fn place_back(
 }
 
 /// Lays out the sections of the data, after the tables.
-pub(crate) fn place_data(
+pub(crate) fn place_data<'p, 'a>(
     alloc: Global,
-    numbering: &Numbering<'_>,
-    classes: &[Class<'_>],
+    numbering: &'p Numbering<'a>,
+    classes: &'p [Class<'a>],
     from: u32,
 ) -> Result<Data, AllocError>
     requires classes { AreWritable numbering.now classes.now }
@@ -169,10 +150,17 @@ pub(crate) fn place_data(
     ensures { IfOk result (AreData numbering.now classes.now) }
 {
     let shared = share_sets(alloc, classes)?;
-    let first_sections = place_first_sections(alloc, numbering, classes, &shared.written, from)?;
-    let bodies = place_bodies(alloc, numbering, classes, first_sections.strings.end())?;
+    let input = Input {
+        alloc,
+        numbering,
+        classes,
+        written: &shared.written,
+        numbers: &shared.numbers,
+    };
+    let first_sections = place_first_sections(&input, from)?;
+    let bodies = place_bodies(&input, first_sections.strings.end())?;
     let end = bodies.class_data.places().end();
-    let back = place_back(alloc, classes, &first_sections.annotations, &shared, end)?;
+    let back = place_back(&input, &first_sections.annotations, end)?;
     Ok(Data {
         first_sections,
         bodies,
@@ -203,30 +191,22 @@ impl Data {
         let annotations_end = first.annotations.places().end();
         let arrays_end = first.static_values.places().end();
         let texts_end = first.strings.end();
-        let debugs_end = bodies.debugs.places().end();
+        let debugs_end = round_up(bodies.debugs.places().end());
         let codes_end = bodies.codes.places().end();
-        let class_data_end = bodies.class_data.places().end();
-        let sets_end = back.sets.written().places().end();
-        let ref_lists_end = back.ref_lists.places().end();
+        let class_data_end = round_up(bodies.class_data.places().end());
+        let sets_end = round_up(back.sets.written().places().end());
+        let ref_lists_end = round_up(back.ref_lists.places().end());
         [
             entry(Section::TypeLists, lists, round_up(from)),
             entry(Section::AnnotationItems, annotations, lists_end),
             entry(Section::EncodedArrayItems, arrays, annotations_end),
             entry(Section::StringDataItems, texts, arrays_end),
             entry(Section::DebugInfoItems, debugs, texts_end),
-            entry(Section::CodeItems, codes, round_up(debugs_end)),
+            entry(Section::CodeItems, codes, debugs_end),
             entry(Section::ClassDataItems, class_data, codes_end),
-            entry(Section::AnnotationSets, sets, round_up(class_data_end)),
-            entry(
-                Section::AnnotationSetRefLists,
-                ref_lists,
-                round_up(sets_end),
-            ),
-            entry(
-                Section::AnnotationsDirectories,
-                directories,
-                round_up(ref_lists_end),
-            ),
+            entry(Section::AnnotationSets, sets, class_data_end),
+            entry(Section::AnnotationSetRefLists, ref_lists, sets_end),
+            entry(Section::AnnotationsDirectories, directories, ref_lists_end),
         ]
     }
 }

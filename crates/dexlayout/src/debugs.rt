@@ -12,11 +12,11 @@ ghost use Rattle.dexlayout.specs.internal.Encoding.{encode_use};
 ghost use Rattle.dexlayout.specs.internal.Encodings.{debug_of, debug_encoding, debug_encodings, all_debug_encodings, AddsEncodings};
 ghost use Rattle.dexlayout.specs.internal.Placing.{PlacedFrom, encoded_debugs};
 
+use crate::input::Input;
 use crate::items::{Items, SharedItems};
 use crate::keys::ItemKey;
 use crate::methods::method_at;
 use crate::sharing::{Shared, Sharing};
-use dexclass::Class;
 use dexcode::{Debug, put_debug};
 use dexmembers::{Members, Method};
 use dexpool::Numbering;
@@ -27,7 +27,8 @@ const FIRST_ROOM: usize = 4096;
 
 // The debug programs that methods share, by their encodings, and room in which the next one is encoded.
 #[derive(Drop)]
-struct Encodings {
+struct Encodings<'p, 'a> {
+    numbering: &'p Numbering<'a>,
     sharing: Sharing<ItemKey>,
     room: Vec<u8>,
 }
@@ -40,66 +41,48 @@ fn debug_of<'p, 'a>(method: &Method<'p, 'a>) -> Option<&'p Debug<'a>>
     method.code()?.debug()
 }
 
-// Adds the debug program of a method, if it has one. Programs are equal just where their encodings are, so only one of
-// them is held.
-fn add_method(
-    numbering: &Numbering<'_>,
-    method: &Method<'_, '_>,
-    encodings: &mut Encodings,
-) -> Result<(), AllocError>
-    ensures { AddsEncodings result encodings.old encodings.new
-        (debug_encoding method.now ∷ []) }
-{
-    let Some(debug) = debug_of(method) else {
-        return encodings.sharing.add(None);
-    };
-    encodings.room.clear();
-    put_debug(debug, numbering, &mut encodings.room)?;
-    let bytes = Vec::from_slice(*encodings.room.allocator(), &encodings.room)?;
-    encodings.sharing.add(Some(ItemKey { bytes }))
-}
-
-// Adds the debug programs of the methods of a class.
-fn add_members(
-    numbering: &Numbering<'_>,
-    members: &Members<'_>,
-    encodings: &mut Encodings,
-) -> Result<(), AllocError>
-    ensures { AddsEncodings result encodings.old encodings.new
-        (debug_encodings (methods_of members.now)) }
-{
-    for i in 0..members.method_count() {
-        add_method(numbering, &method_at(members, i), encodings)?;
+impl Encodings<'_, '_> {
+    // Adds the debug program of a method, if it has one. Programs are equal just where their encodings are, so only one of
+    // them is held.
+    fn add_method(&mut self, method: &Method<'_, '_>) -> Result<(), AllocError>
+        ensures { AddsEncodings result self.old self.new
+            (debug_encoding method.now ∷ []) }
+    {
+        let Some(debug) = debug_of(method) else {
+            return self.sharing.add(None);
+        };
+        self.room.clear();
+        put_debug(debug, self.numbering, &mut self.room)?;
+        let bytes = Vec::from_slice(*self.room.allocator(), &self.room)?;
+        self.sharing.add(Some(ItemKey { bytes }))
     }
-    Ok(())
+
+    // Adds the debug programs of the methods of a class.
+    fn add_members(&mut self, members: &Members<'_>) -> Result<(), AllocError>
+        ensures { AddsEncodings result self.old self.new
+            (debug_encodings (methods_of members.now)) }
+    {
+        for i in 0..members.method_count() {
+            self.add_method(&method_at(members, i))?;
+        }
+        Ok(())
+    }
 }
 
 // The encodings that methods share.
-fn share_encodings(
-    alloc: Global,
-    numbering: &Numbering<'_>,
-    classes: &[Class<'_>],
-) -> Result<Shared<ItemKey>, AllocError>
-    ensures { IfOk result (AreOfUses same_bytes (all_debug_encodings classes.now)) }
+fn share_encodings(input: &Input<'_, '_>) -> Result<Shared<ItemKey>, AllocError>
+    ensures { IfOk result (AreOfUses same_bytes (all_debug_encodings input.now.classes.now)) }
 {
     let mut encodings = Encodings {
-        sharing: Sharing::for_uses(alloc, classes.len())?,
-        room: Vec::with_capacity(alloc, FIRST_ROOM)?,
+        numbering: input.numbering,
+        sharing: Sharing::for_uses(input.alloc, input.classes.len())?,
+        room: Vec::with_capacity(input.alloc, FIRST_ROOM)?,
     };
+    let classes = input.classes;
     for i in 0..classes.len() {
-        add_members(numbering, classes[i].members(), &mut encodings)?;
+        encodings.add_members(classes[i].members())?;
     }
-    encodings.sharing.finish(alloc)
-}
-
-// Adds an encoding after the others.
-fn put_next(item: &[u8], items: &mut Items) -> Result<(), AllocError>
-    requires { (encode_use 1 items.old (Some item.now)).places.end ≤ 2 ^ 30 }
-    ensures { OnOk result (items.new ≡ encode_use 1 items.old (Some item.now)) }
-{
-    let before = items.bytes.len();
-    items.bytes.extend_from_slice(item)?;
-    items.end_item(before)
+    encodings.sharing.finish(input.alloc)
 }
 
 // The encodings that are written, from an offset on.
@@ -109,7 +92,9 @@ fn put_written(alloc: Global, written: &[ItemKey], from: u32) -> Result<Items, A
 {
     let mut items = Items::starting_at(alloc, from, written.len())?;
     for key in written {
-        put_next(&key.bytes, &mut items)?;
+        let before = items.bytes.len();
+        items.bytes.extend_from_slice(&key.bytes)?;
+        items.end_item(before)?;
     }
     Ok(items)
 }
@@ -118,18 +103,12 @@ fn put_written(alloc: Global, written: &[ItemKey], from: u32) -> Result<Items, A
 /// the texts.
 ///
 /// Source: "debug_info_item".
-pub(crate) fn place_debugs(
-    alloc: Global,
-    numbering: &Numbering<'_>,
-    classes: &[Class<'_>],
-    from: u32,
-) -> Result<SharedItems, AllocError>
-    requires { (m : Mentions) × AreWritable m classes.now
-        × (from ≡ end (string_section (ordered_of m classes.now))) }
-    ensures { IfOk result (PlacedFrom string_section AreDebugs classes.now from) }
+pub(crate) fn place_debugs(input: &Input<'_, '_>, from: u32) -> Result<SharedItems, AllocError>
+    requires { (m : Mentions) × AreWritable m input.now.classes.now
+        × (from ≡ end (string_section (ordered_of m input.now.classes.now))) }
+    ensures { IfOk result (PlacedFrom string_section AreDebugs input.now.classes.now from) }
 {
-    let shared = share_encodings(alloc, numbering, classes)?;
-    let Shared { written, numbers } = shared;
-    let items = put_written(alloc, &written, from)?;
-    SharedItems::of(alloc, items, &numbers)
+    let Shared { written, numbers } = share_encodings(input)?;
+    let items = put_written(input.alloc, &written, from)?;
+    SharedItems::of(input.alloc, items, &numbers)
 }

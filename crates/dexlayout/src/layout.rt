@@ -71,10 +71,10 @@ fn head_of(tables: &Tables, map: &Items) -> Head
 }
 
 // The layout of the file of classes.
-fn build_layout(
+fn build_layout<'p, 'a>(
     alloc: Global,
-    numbering: &Numbering<'_>,
-    classes: &[Class<'_>],
+    numbering: &'p Numbering<'a>,
+    classes: &'p [Class<'a>],
 ) -> Result<Layout, AllocError>
     requires { AreWritable numbering.now classes.now }
     ensures { IfOk result (IsLaid numbering.now classes.now) }

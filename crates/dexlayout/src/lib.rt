@@ -12,6 +12,7 @@ mod codes;
 mod data;
 mod debugs;
 mod directories;
+mod input;
 mod items;
 mod keys;
 mod layout;

@@ -7,10 +7,11 @@ ghost use Rattle.dexlayout.specs.internal.Encoding.{encode_uses, no_items_from};
 ghost use Rattle.dexlayout.specs.internal.Collecting.{sets_of_method, sets_of_class, parts_of_methods, parts_of_class, collect_own, collect_method, collect_methods, collect_class};
 ghost use Rattle.dexlayout.specs.Laid.{AreSets};
 ghost use Rattle.dexlayout.specs.internal.OffsetLists.{annotation_counts, offset_lists, set_item, total};
-ghost use Rattle.dexlayout.specs.internal.Placing.{CanPlaceSets, HaveSets, PlacedSets, no_sets, HaveKnownSets};
+ghost use Rattle.dexlayout.specs.internal.Placing.{CanPlaceSets, AreSharedBy, HaveSets, PlacedSets, no_sets, HaveKnownSets};
 ghost use Rattle.dexlayout.specs.internal.SharedUses.{SharesSets, field_uses, members_uses, method_uses, methods_uses};
 ghost use Rattle.dexlayout.specs.internal.Adding.{AddsSet, AddsUses, AreKnownParameters, set_uses, AreKnownFields, AreKnownMethods};
 
+use crate::input::Input;
 use crate::items::Items;
 use crate::methods::method_at;
 use crate::sharing::{Shared, Sharing, place_shared};
@@ -156,133 +157,108 @@ impl Sets {
 }
 
 // Encodes the sets that are written, from the offsets of all their annotations.
-fn encode_written(
-    alloc: Global,
-    written: &[&AnnotationSet],
-    annotation_offs: &[u32],
-    from: u32,
-) -> Result<Items, AllocError>
-    requires enough { total (annotation_counts written.now) ≤ length annotation_offs.now }
+fn encode_written(input: &Input<'_, '_>, offs: &[u32], from: u32) -> Result<Items, AllocError>
+    requires enough { total (annotation_counts input.now.written.now) ≤ length offs.now }
     requires fits { (encode_uses 4 (no_items_from from)
-        (offset_lists set_item (annotation_counts written.now) annotation_offs.now)).places.end
+        (offset_lists set_item (annotation_counts input.now.written.now) offs.now)).places.end
         ≤ 2 ^ 30 }
     ensures { IfOk result (λ items. items ≡ encode_uses 4 (no_items_from from)
-        (offset_lists set_item (annotation_counts written.now) annotation_offs.now)) }
+        (offset_lists set_item (annotation_counts input.now.written.now) offs.now)) }
 {
-    let mut items = Items::starting_at(alloc, from, written.len())?;
-    let mut rest = annotation_offs;
-    for set in written {
-        let (offs, others) = rest.split_at(set.annotations().len());
-        items.put_offsets(offs)?;
+    let mut items = Items::starting_at(input.alloc, from, input.written.len())?;
+    let mut rest = offs;
+    for set in input.written {
+        let (own, others) = rest.split_at(set.annotations().len());
+        items.put_offsets(own)?;
         rest = others;
     }
     Ok(items)
 }
 
-/// The annotation sets, which are after the class data, and the offsets of those of classes. `shared` has the sets that
-/// are written, and for each use the number of its set.
+/// The annotation sets, which are after the class data, and the offsets of those of classes.
 pub(crate) fn place_sets(
-    alloc: Global,
-    classes: &[Class<'_>],
+    input: &Input<'_, '_>,
     annotations: &Items,
-    shared: &Shared<&AnnotationSet>,
     from: u32,
 ) -> Result<Sets, AllocError>
-    requires place { CanPlaceSets classes.now annotations.now from }
-    requires shared { HaveSets classes.now shared.now }
-    ensures { IfOk result (PlacedSets AreSets classes.now annotations.now from) }
+    requires place { CanPlaceSets input.now.classes.now annotations.now from }
+    requires shared { AreSharedBy input.now.classes.now input.now.written.now input.now.numbers.now }
+    ensures { IfOk result (PlacedSets AreSets input.now.classes.now annotations.now from) }
 {
-    let annotation_offs = annotations.places().offsets();
-    let written = encode_written(alloc, &shared.written, annotation_offs, from)?;
-    let uses = place_shared(alloc, &shared.numbers, written.places())?;
-    let mut sets = Sets::none(alloc, classes.len(), written)?;
+    let written = encode_written(input, annotations.places().offsets(), from)?;
+    let uses = place_shared(input.alloc, input.numbers, written.places())?;
+    let mut sets = Sets::none(input.alloc, input.classes.len(), written)?;
     let mut rest = uses.offsets();
-    for class in classes {
+    for class in input.classes {
         rest = sets.collect_class(class, rest)?;
     }
     Ok(sets)
 }
 
-// Adds a use of a set, which has no item where there is none or it is empty.
-fn add_set<'p>(
-    sharing: &mut Sharing<&'p AnnotationSet>,
-    set: Option<&'p AnnotationSet>,
-) -> Result<(), AllocError>
-    ensures { AddsSet result sharing.old sharing.new set.entry }
-{
-    match set {
-        Some(set) if !set.is_empty() => sharing.add(Some(set)),
-        _ => sharing.add(None),
+impl<'p> Sharing<&'p AnnotationSet> {
+    // Adds a use of a set, which has no item where there is none or it is empty.
+    fn add_set(&mut self, set: Option<&'p AnnotationSet>) -> Result<(), AllocError>
+        ensures { AddsSet result self.old self.new set.entry }
+    {
+        match set {
+            Some(set) if !set.is_empty() => self.add(Some(set)),
+            _ => self.add(None),
+        }
     }
-}
 
-// Adds the uses of the sets of a method's parameters.
-fn add_sets<'p>(
-    sharing: &mut Sharing<&'p AnnotationSet>,
-    sets: &ParameterSets<'p>,
-) -> Result<(), AllocError>
-    ensures { AddsUses SharesSets result sharing.old sharing.new AreKnownParameters set_uses
-        sets.now }
-{
-    for i in 0..sets.len() {
-        add_set(sharing, sets.get(i))?;
+    // Adds the uses of the sets of a method's parameters.
+    fn add_sets(&mut self, sets: &ParameterSets<'p>) -> Result<(), AllocError>
+        ensures { AddsUses SharesSets result self.old self.new AreKnownParameters set_uses
+            sets.now }
+    {
+        for i in 0..sets.len() {
+            self.add_set(sets.get(i))?;
+        }
+        Ok(())
     }
-    Ok(())
-}
 
-// Adds the uses of the sets of fields.
-fn add_fields<'p>(
-    sharing: &mut Sharing<&'p AnnotationSet>,
-    fields: &Fields<'p>,
-) -> Result<(), AllocError>
-    ensures { AddsUses SharesSets result sharing.old sharing.new AreKnownFields field_uses
-        fields.now }
-{
-    for i in 0..fields.len() {
-        add_set(sharing, fields.get(i).annotations())?;
+    // Adds the uses of the sets of fields.
+    fn add_fields(&mut self, fields: &Fields<'p>) -> Result<(), AllocError>
+        ensures { AddsUses SharesSets result self.old self.new AreKnownFields field_uses
+            fields.now }
+    {
+        for i in 0..fields.len() {
+            self.add_set(fields.get(i).annotations())?;
+        }
+        Ok(())
     }
-    Ok(())
-}
 
-// Adds the uses of a method's own set and of those of its parameters.
-fn add_method<'p>(
-    sharing: &mut Sharing<&'p AnnotationSet>,
-    method: &Method<'p, '_>,
-) -> Result<(), AllocError>
-    ensures { AddsUses SharesSets result sharing.old sharing.new IsKnownMethod method_uses
-        method.now }
-{
-    add_set(sharing, method.annotations())?;
-    add_sets(sharing, &method.parameter_annotations())
-}
-
-// Adds the uses of the sets of methods.
-fn add_methods<'p>(
-    sharing: &mut Sharing<&'p AnnotationSet>,
-    methods: &Methods<'p, '_>,
-) -> Result<(), AllocError>
-    ensures { AddsUses SharesSets result sharing.old sharing.new AreKnownMethods methods_uses
-        methods.now }
-{
-    for i in 0..methods.len() {
-        add_method(sharing, &methods.get(i))?;
+    // Adds the uses of a method's own set and of those of its parameters.
+    fn add_method(&mut self, method: &Method<'p, '_>) -> Result<(), AllocError>
+        ensures { AddsUses SharesSets result self.old self.new IsKnownMethod method_uses
+            method.now }
+    {
+        self.add_set(method.annotations())?;
+        self.add_sets(&method.parameter_annotations())
     }
-    Ok(())
-}
 
-// Adds the uses of the sets of what a class declares, its own first.
-fn add_members<'p>(
-    sharing: &mut Sharing<&'p AnnotationSet>,
-    members: &'p Members<'_>,
-) -> Result<(), AllocError>
-    ensures { AddsUses SharesSets result sharing.old sharing.new AreKnownMembers members_uses
-        members.now }
-{
-    add_set(sharing, members.annotations())?;
-    add_fields(sharing, &members.static_fields())?;
-    add_fields(sharing, &members.instance_fields())?;
-    add_methods(sharing, &members.direct_methods())?;
-    add_methods(sharing, &members.virtual_methods())
+    // Adds the uses of the sets of methods.
+    fn add_methods(&mut self, methods: &Methods<'p, '_>) -> Result<(), AllocError>
+        ensures { AddsUses SharesSets result self.old self.new AreKnownMethods methods_uses
+            methods.now }
+    {
+        for i in 0..methods.len() {
+            self.add_method(&methods.get(i))?;
+        }
+        Ok(())
+    }
+
+    // Adds the uses of the sets of what a class declares, its own first.
+    fn add_members(&mut self, members: &'p Members<'_>) -> Result<(), AllocError>
+        ensures { AddsUses SharesSets result self.old self.new AreKnownMembers members_uses
+            members.now }
+    {
+        self.add_set(members.annotations())?;
+        self.add_fields(&members.static_fields())?;
+        self.add_fields(&members.instance_fields())?;
+        self.add_methods(&members.direct_methods())?;
+        self.add_methods(&members.virtual_methods())
+    }
 }
 
 /// The sets that are written, each once, in the order of their first use, and for each use the number of its set, if it
@@ -297,7 +273,7 @@ pub(crate) fn share_sets<'p>(
 {
     let mut sharing = Sharing::for_uses(alloc, classes.len())?;
     for i in 0..classes.len() {
-        add_members(&mut sharing, classes[i].members())?;
+        sharing.add_members(classes[i].members())?;
     }
     sharing.finish(alloc)
 }

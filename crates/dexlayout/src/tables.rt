@@ -33,11 +33,8 @@ pub(crate) struct Tables {
 fn rows_from(size: u32, from: u32) -> Rows
     ensures { rows_meant result ≡ rows_from size from }
 {
-    if size == 0 {
-        Rows { size, off: 0 }
-    } else {
-        Rows { size, off: from }
-    }
+    let off = if size == 0 { 0 } else { from };
+    Rows { size, off }
 }
 
 /// The entry of a part of the file in its map.

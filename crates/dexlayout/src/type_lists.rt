@@ -7,6 +7,7 @@ ghost use Rattle.dexlayout.specs.internal.SharedUses.{AreTypes, SharesLists};
 ghost use Rattle.dexlayout.specs.internal.Adding.{AddsUses, AddsParameters, list_uses, AreKnownClasses, interfaces_uses};
 ghost use Rattle.dexlayout.specs.internal.Placing.{HaveTypeLists, encoded_lists};
 
+use crate::input::Input;
 use crate::items::{Items, SharedItems};
 use crate::keys::ListKey;
 use crate::sharing::{Shared, Sharing};
@@ -15,58 +16,50 @@ use dexpool::{Numbering, SymbolKind};
 use dexrows::TypeNumbers;
 use std::alloc::{AllocError, Global};
 
-// Adds a use of a type list, which has no item where the list is empty.
-fn add_list<'p>(sharing: &mut Sharing<ListKey<'p>>, list: TypeNumbers<'p>) -> Result<(), AllocError>
-    ensures { AddsUses SharesLists result sharing.old sharing.new AreTypes list_uses list.entry }
-{
-    if list.len() == 0 {
-        return sharing.add(None);
+impl<'p> Sharing<ListKey<'p>> {
+    // Adds a use of a type list, which has no item where the list is empty.
+    fn add_list(&mut self, list: TypeNumbers<'p>) -> Result<(), AllocError>
+        ensures { AddsUses SharesLists result self.old self.new AreTypes list_uses list.entry }
+    {
+        if list.len() == 0 {
+            return self.add(None);
+        }
+        self.add(Some(ListKey { list }))
     }
-    sharing.add(Some(ListKey { list }))
-}
 
-// Adds the uses of the parameters of protos.
-fn add_parameters<'p>(
-    sharing: &mut Sharing<ListKey<'p>>,
-    numbering: &'p Numbering<'_>,
-) -> Result<(), AllocError>
-    ensures { AddsParameters numbering.now result sharing.old sharing.new }
-{
-    for i in 0..numbering.count(SymbolKind::Proto) {
-        add_list(sharing, numbering.proto(i).parameters())?;
+    // Adds the uses of the parameters of protos.
+    fn add_parameters(&mut self, numbering: &'p Numbering<'_>) -> Result<(), AllocError>
+        ensures { AddsParameters numbering.now result self.old self.new }
+    {
+        for i in 0..numbering.count(SymbolKind::Proto) {
+            self.add_list(numbering.proto(i).parameters())?;
+        }
+        Ok(())
     }
-    Ok(())
-}
 
-// Adds the uses of the interfaces of classes.
-fn add_interfaces<'p>(
-    sharing: &mut Sharing<ListKey<'p>>,
-    classes: &'p [Class<'_>],
-) -> Result<(), AllocError>
-    ensures { AddsUses SharesLists result sharing.old sharing.new AreKnownClasses interfaces_uses
-        classes.now }
-{
-    for i in 0..classes.len() {
-        add_list(sharing, TypeNumbers::words(classes[i].interfaces()))?;
+    // Adds the uses of the interfaces of classes.
+    fn add_interfaces(&mut self, classes: &'p [Class<'_>]) -> Result<(), AllocError>
+        ensures { AddsUses SharesLists result self.old self.new AreKnownClasses interfaces_uses
+            classes.now }
+    {
+        for i in 0..classes.len() {
+            self.add_list(TypeNumbers::words(classes[i].interfaces()))?;
+        }
+        Ok(())
     }
-    Ok(())
 }
 
 // The type lists that protos and classes share.
-fn share_type_lists<'p>(
-    alloc: Global,
-    numbering: &'p Numbering<'_>,
-    classes: &'p [Class<'_>],
-) -> Result<Shared<ListKey<'p>>, AllocError>
-    requires { AreWritable numbering.now classes.now }
-    ensures shared { IfOk result (HaveTypeLists numbering.now classes.now) }
-    ensures known { IfOk result (λ shared. All (AreTypes numbering.now) shared.written.items) }
+fn share_type_lists<'p>(input: &Input<'p, '_>) -> Result<Shared<ListKey<'p>>, AllocError>
+    requires { AreWritable input.now.numbering.now input.now.classes.now }
+    ensures shared { IfOk result (HaveTypeLists input.now.numbering.now input.now.classes.now) }
+    ensures known { IfOk result (λ shared. All (AreTypes input.now.numbering.now) shared.written.items) }
 {
-    let protos = numbering.count(SymbolKind::Proto);
-    let mut sharing = Sharing::for_uses(alloc, protos + classes.len())?;
-    add_parameters(&mut sharing, numbering)?;
-    add_interfaces(&mut sharing, classes)?;
-    sharing.finish(alloc)
+    let protos = input.numbering.count(SymbolKind::Proto);
+    let mut sharing = Sharing::for_uses(input.alloc, protos + input.classes.len())?;
+    sharing.add_parameters(input.numbering)?;
+    sharing.add_interfaces(input.classes)?;
+    sharing.finish(input.alloc)
 }
 
 // Encodes the type lists that are written, from an offset on.
@@ -85,18 +78,12 @@ fn encode_written(alloc: Global, lists: &[ListKey<'_>], from: u32) -> Result<Ite
 /// The type lists, encoded, and their offsets: for each proto, and then for each class. They are after the tables.
 ///
 /// Source: "type_list".
-pub(crate) fn place_type_lists(
-    alloc: Global,
-    numbering: &Numbering<'_>,
-    classes: &[Class<'_>],
-    from: u32,
-) -> Result<SharedItems, AllocError>
-    requires classes { AreWritable numbering.now classes.now }
-    requires from { from ≡ data_start (ordered_of numbering.now classes.now) }
-    ensures { IfOk result (AreTypeLists numbering.now classes.now) }
+pub(crate) fn place_type_lists(input: &Input<'_, '_>, from: u32) -> Result<SharedItems, AllocError>
+    requires classes { AreWritable input.now.numbering.now input.now.classes.now }
+    requires from { from ≡ data_start (ordered_of input.now.numbering.now input.now.classes.now) }
+    ensures { IfOk result (AreTypeLists input.now.numbering.now input.now.classes.now) }
 {
-    let shared = share_type_lists(alloc, numbering, classes)?;
-    let Shared { written, numbers } = shared;
-    let items = encode_written(alloc, &written, from)?;
-    SharedItems::of(alloc, items, &numbers)
+    let Shared { written, numbers } = share_type_lists(input)?;
+    let items = encode_written(input.alloc, &written, from)?;
+    SharedItems::of(input.alloc, items, &numbers)
 }

@@ -109,8 +109,11 @@ abbrev pub AreKnownSets : Mentions → List (Bor CodeSet) → Type 0
 AreKnownSets m sets = All (λ s. IsKnownSet m (set_of s.now)) sets
 
 -- the sets are those of the file of these classes
+abbrev pub AreSharedBy : List NumberedClass → List (Bor CodeSet) → List (Option ℕ) → Type 0
+AreSharedBy cs written numbers = (m : Mentions) → AreWritable m cs → AreShared (λ s. set_in m (set_of s.now)) (set_items (ordered_of m cs)) written numbers
+
 abbrev pub HaveSets : List NumberedClass → Shared (Bor CodeSet) → Type 0
-HaveSets cs shared = (m : Mentions) → AreWritable m cs → AreShared (λ s. set_in m (set_of s.now)) (set_items (ordered_of m cs)) shared.written.items shared.numbers.items
+HaveSets cs shared = AreSharedBy cs shared.written.items shared.numbers.items
 
 -- the numbers in the sets are known
 abbrev pub HaveKnownSets : List NumberedClass → Shared (Bor CodeSet) → Type 0

@@ -1,4 +1,4 @@
-use Rattle.dexlayout.proofs.Common.{◌≡◌, ℕ, List, Bor, [], length, drop, refl, sym, ap, subst, ◌∙◌, arith, drop_all, class_data_section, set_items, set_section, Mentions, end, set_uses, same_set, numbers_offsets, items_numbered, set_decides, set_of, NumberedSet, ordered_of, AreAnnotations, AreItemsIn, AreWritable, ItemPlaces, parts_of_classes, collect_classes, AreWrittenSets}
+use Rattle.dexlayout.proofs.Common.{◌≡◌, ℕ, List, Bor, [], length, drop, refl, sym, ap, subst, ◌∙◌, arith, drop_all, class_data_section, set_items, set_section, Mentions, end, set_uses, same_set, numbers_offsets, items_numbered, set_decides, set_of, NumberedSet, ordered_of, AreAnnotations, AreItemsIn, AreWritable, ItemPlaces, parts_of_classes, collect_classes}
 use Rattle.dexval.specs.declared.set.AnnotationSet.{AnnotationSet}
 use Rattle.dexlayout.proofs.Ends.{end_in_file}
 use Rattle.dexlayout.proofs.SetsCollected.{set_use_offsets, length-set_use_offsets, classes_are_long}
@@ -14,37 +14,37 @@ set_at s = set_of s.now
 pub encode_written-requires-clause-enough : goal.encode_written-requires-clause-enough
 encode_written-requires-clause-enough c =
     let m = c.requires.place.0 in
-    let offs = c.offsets-annotation_offs.ensures ∙ ap (λ (q : ItemPlaces). q.offsets) c.places.ensures ∙ c.requires.place.2.places_are.offsets_are in
-    annotations_enough m c.args.classes.now set_at c.deref.result.now (subst (AreWrittenSets m c.args.classes.now) (sym c.deref.ensures.value) (c.requires.shared m c.requires.place.1).written_are) c.offsets-annotation_offs.result.now offs
+    let offs = c.offsets.ensures ∙ ap (λ (q : ItemPlaces). q.offsets) c.places.ensures ∙ c.requires.place.2.places_are.offsets_are in
+    annotations_enough m c.args.input.now.classes.now set_at c.args.input.now.written.now (c.requires.shared m c.requires.place.1).written_are c.offsets.result.now offs
 
 pub encode_written-requires-clause-fits : goal.encode_written-requires-clause-fits
 encode_written-requires-clause-fits c =
     let m = c.requires.place.0 in
-    let cs = c.args.classes.now in
-    let are = subst (AreWrittenSets m cs) (sym c.deref.ensures.value) (c.requires.shared m c.requires.place.1).written_are in
-    let offs = c.offsets-annotation_offs.ensures ∙ ap (λ (q : ItemPlaces). q.offsets) c.places.ensures ∙ c.requires.place.2.places_are.offsets_are in
-    omega (arith, (sets_laid m cs set_at c.deref.result.now are c.offsets-annotation_offs.result.now offs c.args.from c.requires.place.3).places_are.end_is, (end_in_file (ordered_of m cs) c.requires.place.1.fits).sets)
+    let cs = c.args.input.now.classes.now in
+    let are = (c.requires.shared m c.requires.place.1).written_are in
+    let offs = c.offsets.ensures ∙ ap (λ (q : ItemPlaces). q.offsets) c.places.ensures ∙ c.requires.place.2.places_are.offsets_are in
+    omega (arith, (sets_laid m cs set_at c.args.input.now.written.now are c.offsets.result.now offs c.args.from c.requires.place.3).places_are.end_is, (end_in_file (ordered_of m cs) c.requires.place.1.fits).sets)
 
 -- those that are written are encoded as the file has them
-laid_are : (c : In_ok-written) (m : Mentions) → AreWritable m c.args.classes.now → AreAnnotations m c.args.classes.now c.args.annotations.now → c.args.from ≡ end (class_data_section (ordered_of m c.args.classes.now)) → AreItemsIn (set_section (ordered_of m c.args.classes.now)) c.in_ok-written.written
+laid_are : (c : In_ok-written) (m : Mentions) → AreWritable m c.args.input.now.classes.now → AreAnnotations m c.args.input.now.classes.now c.args.annotations.now → c.args.from ≡ end (class_data_section (ordered_of m c.args.input.now.classes.now)) → AreItemsIn (set_section (ordered_of m c.args.input.now.classes.now)) c.in_ok-written.written
 laid_are c m w annotations from =
-    let cs = c.args.classes.now in
-    let offs = c.offsets-annotation_offs.ensures ∙ ap (λ (q : ItemPlaces). q.offsets) c.places.ensures ∙ annotations.places_are.offsets_are in
-    subst (AreItemsIn (set_section (ordered_of m cs))) (sym c.in_ok-written.ensures) (sets_laid m cs set_at c.deref.result.now (subst (AreWrittenSets m cs) (sym c.deref.ensures.value) (c.requires.shared m w).written_are) c.offsets-annotation_offs.result.now offs c.args.from from)
+    let cs = c.args.input.now.classes.now in
+    let offs = c.offsets.ensures ∙ ap (λ (q : ItemPlaces). q.offsets) c.places.ensures ∙ annotations.places_are.offsets_are in
+    subst (AreItemsIn (set_section (ordered_of m cs))) (sym c.in_ok-written.ensures) (sets_laid m cs set_at c.args.input.now.written.now (c.requires.shared m w).written_are c.offsets.result.now offs c.args.from from)
 
 pub place_shared-requires : goal.place_shared-requires
 place_shared-requires c =
     let place = c.requires.place in
     let m = place.0 in
-    let K = ordered_of m c.args.classes.now in
+    let K = ordered_of m c.args.input.now.classes.now in
     let count : length c.places-2.result.now.offsets ≡ length (set_items K).written =
     omega (arith, ap (λ (q : ItemPlaces). length q.offsets) c.places-2.ensures, ap (λ (l : List ℕ). length l) (laid_are ((goal.at.place_shared-requires c).In_ok-written) m place.1 place.2 place.3).places_are.offsets_are, length-set_offsets K) in
-    numbers_within c.deref-2.result.now (length c.places-2.result.now.offsets) (items_numbered K.sharing same_set set_decides (set_uses K)) (c.deref-2.ensures.value ∙ (c.requires.shared m place.1).numbers_are) count
+    numbers_within c.args.input.now.numbers.now (length c.places-2.result.now.offsets) (items_numbered K.sharing same_set set_decides (set_uses K)) ((c.requires.shared m place.1).numbers_are) count
 
 -- the offset of each use
-uses_are : (c : After-offsets-rest) (m : Mentions) → AreWritable m c.args.classes.now → AreItemsIn (set_section (ordered_of m c.args.classes.now)) c.in_ok-written.written → c.offsets-rest.result.now ≡ set_use_offsets (ordered_of m c.args.classes.now)
+uses_are : (c : After-offsets-rest) (m : Mentions) → AreWritable m c.args.input.now.classes.now → AreItemsIn (set_section (ordered_of m c.args.input.now.classes.now)) c.in_ok-written.written → c.offsets-rest.result.now ≡ set_use_offsets (ordered_of m c.args.input.now.classes.now)
 uses_are c m w laid =
-    c.offsets-rest.ensures ∙ ap (λ (p : ItemPlaces). p.offsets) c.in_ok-uses.ensures ∙ (λ i. numbers_offsets ((c.deref-2.ensures.value ∙ (c.requires.shared m w).numbers_are) i) ((ap (λ (q : ItemPlaces). q.offsets) c.places-2.ensures ∙ laid.places_are.offsets_are) i))
+    c.offsets-rest.ensures ∙ ap (λ (p : ItemPlaces). p.offsets) c.in_ok-uses.ensures ∙ (λ i. numbers_offsets (((c.requires.shared m w).numbers_are) i) ((ap (λ (q : ItemPlaces). q.offsets) c.places-2.ensures ∙ laid.places_are.offsets_are) i))
 
 pub loop-class-init : goal.loop-class-init
 loop-class-init c =
@@ -53,12 +53,12 @@ loop-class-init c =
     let here = goal.at.loop-class-init c in
     record {
       collected = refl;
-      enough = omega (arith, ap (λ (l : List ℕ). length l) (uses_are here.After-offsets-rest m place.1 (laid_are here.In_ok-written m place.1 place.2 place.3)), length-set_use_offsets (ordered_of m c.args.classes.now), classes_are_long m c.args.classes.now);
+      enough = omega (arith, ap (λ (l : List ℕ). length l) (uses_are here.After-offsets-rest m place.1 (laid_are here.In_ok-written m place.1 place.2 place.3)), length-set_use_offsets (ordered_of m c.args.input.now.classes.now), classes_are_long m c.args.input.now.classes.now);
     }
 
 pub returns : goal.returns
 returns c = λ m w annotations from.
-    let cs = c.args.classes.now in
+    let cs = c.args.input.now.classes.now in
     let laid = laid_are (goal.at.returns c).In_ok-written m w annotations from in
     let nothing : parts_of_classes (drop c.loop-class.class-index cs) c.loop-class.rest.now ≡ [] = ap (λ l. parts_of_classes l c.loop-class.rest.now) (drop_all c.loop-class.class-index cs c.loop-class-test.false) in
     let all = ap (collect_classes c.loop-class.sets) (sym nothing) ∙ c.loop-class.invariant.collected ∙ ap (λ q. collect_classes q (parts_of_classes cs c.offsets-rest.result.now)) c.in_ok-sets.ensures in

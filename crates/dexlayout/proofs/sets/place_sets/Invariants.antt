@@ -4,6 +4,6 @@ use Rattle.dexlayout.proofs.sets.place_sets.Given as goal
 -- placing what is left gives the whole
 abbrev pub invariant-loop-class : goal.invariant-loop-class
 invariant-loop-class l = record {
-  collected : collect_classes l.sets (parts_of_classes (drop l.class-index l.classes) l.rest) ≡ collect_classes l.initial.sets (parts_of_classes l.classes l.initial.rest);
-  enough : length (flat_map sets_of_class (drop l.class-index l.classes)) ≤ length l.rest;
+  collected : collect_classes l.sets (parts_of_classes (drop l.class-index l.input.classes.now) l.rest) ≡ collect_classes l.initial.sets (parts_of_classes l.input.classes.now l.initial.rest);
+  enough : length (flat_map sets_of_class (drop l.class-index l.input.classes.now)) ≤ length l.rest;
 }

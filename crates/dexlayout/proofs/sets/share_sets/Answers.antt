@@ -12,7 +12,7 @@ loop-i-preserved c = λ m known.
     let x = c.index-classes-i.result in
     let f = λ (d : NumberedClass). members_uses m d.members in
     let here : IsKnownClass m x = subst (IsKnownClass m) (sym c.index-classes-i.is) (known i x c.loop-i-test.true) in
-    subst (λ us. SharesSets m us c.add_members.new.sharing.items.keys c.add_members.new.sharing.numbers.items)
+    subst (λ us. SharesSets m us c.add_members.new.self.items.keys c.add_members.new.self.numbers.items)
     (ap (λ ms. flat_map f (take i cs) ++ members_uses m ms) c.members.ensures ∙ flat_map_more f [] (take i cs) x ∙ ap (flat_map f) (ap (λ y. take i cs ++ y ∷ []) c.index-classes-i.is ∙ sym (take_more cs i x c.loop-i-test.true)))
     (c.in_ok-add_members.ensures m (flat_map f (take i cs)) (subst (AreKnownMembers m) (sym c.members.ensures) here.members_known) (c.loop-i.invariant m known))
 

@@ -11,7 +11,7 @@ use Rattle.dexlayout.proofs.static_values.put_array.Goals.{In_ok-put_statics}
 pub returns-then-is_empty : goal.returns-then-is_empty
 returns-then-is_empty c =
     let vs = c.static_values-values.result.now in
-    let none = static_none c.args.numbering.now c.args.class.now (map value_of vs) (c.static_values-values.ensures ∙ ap (λ (x : NumberedMembers). x.static_values) c.members.ensures)
+    let none = static_none c.args.input.now.numbering.now c.args.class.now (map value_of vs) (c.static_values-values.ensures ∙ ap (λ (x : NumberedMembers). x.static_values) c.members.ensures)
     (omega (arith, eqb-true (length vs) 0 (sym c.is_empty.ensures ∙ c.if-is_empty.true), length-map vs value_of)) in
     on_ok_weaker c.pass.result (λ e. e ∙ ap (encode_use 1 c.args.items.now) (sym none)) c.pass.ensures
 
@@ -22,15 +22,15 @@ abbrev values : In_ok-put_statics → List NumberedValue
 values c = map value_of c.static_values-values.result.now
 
 abbrev array : In_ok-put_statics → List ℕ
-array c = encoded_array_bytes c.args.numbering.now (values_in c.args.numbering.now (values_of_list (values c)))
+array c = encoded_array_bytes c.args.input.now.numbering.now (values_in c.args.input.now.numbering.now (values_of_list (values c)))
 
 same : (c : In_ok-put_statics) → values_of_list (values c) ≡ c.args.class.now.members.static_values
 same c = c.static_values-values.ensures ∙ ap (λ (x : NumberedMembers). x.static_values) c.members.ensures
 
-item_is : (c : In_ok-put_statics) → static_item c.args.numbering.now c.args.class.now ≡ Some (array c)
+item_is : (c : In_ok-put_statics) → static_item c.args.input.now.numbering.now c.args.class.now ≡ Some (array c)
 item_is c =
     let vs = c.static_values-values.result.now in
-    static_some c.args.numbering.now c.args.class.now (values c) (same c) (omega (arith, eqb-false (length vs) 0 (sym c.is_empty.ensures ∙ c.if-is_empty.false), length-map vs value_of))
+    static_some c.args.input.now.numbering.now c.args.class.now (values c) (same c) (omega (arith, eqb-false (length vs) 0 (sym c.is_empty.ensures ∙ c.if-is_empty.false), length-map vs value_of))
 
 -- it ends within the file
 fits : (c : In_ok-put_statics) → (encode_use 1 c.args.items.now (Some (array c))).places.end ≤ 2 ^ 30
@@ -39,7 +39,7 @@ fits c = subst (λ u. (encode_use 1 c.args.items.now u).places.end ≤ 2 ^ 30) (
 -- its bytes were put
 put : (c : In_ok-put_statics) → c.put_statics.new.out.items ≡ c.items.inside.bytes.items ++ array c
 put c =
-    let m = c.args.numbering.now in
+    let m = c.args.input.now.numbering.now in
     let xs = values_of_list (values c) in
     let few = array_counted m xs (omega (arith, fits c)) in
     let known = subst (AreKnown m) (sym (same c)) c.requires.known.members_known.values_known in

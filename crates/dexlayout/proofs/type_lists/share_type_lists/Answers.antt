@@ -5,16 +5,16 @@ use Rattle.dexlayout.proofs.type_lists.share_type_lists.Goals as goal
 use Rattle.dexlayout.proofs.type_lists.share_type_lists.Goals.{After-finish}
 
 -- the type lists of all protos and classes
-all : (c : After-finish) → SharesLists c.args.numbering.now (type_list_uses (ordered_of c.args.numbering.now c.args.classes.now)) c.add_interfaces.new.sharing.items.keys c.add_interfaces.new.sharing.numbers.items
+all : (c : After-finish) → SharesLists c.args.input.now.numbering.now (type_list_uses (ordered_of c.args.input.now.numbering.now c.args.input.now.classes.now)) c.add_interfaces.new.self.items.keys c.add_interfaces.new.self.numbers.items
 all c =
-    let m = c.args.numbering.now in
-    subst (λ us. SharesLists m us c.add_interfaces.new.sharing.items.keys c.add_interfaces.new.sharing.numbers.items) (list_uses_are m c.args.classes.now)
+    let m = c.args.input.now.numbering.now in
+    subst (λ us. SharesLists m us c.add_interfaces.new.self.items.keys c.add_interfaces.new.self.numbers.items) (list_uses_are m c.args.input.now.classes.now)
     (c.in_ok-add_interfaces.ensures m (map (λ p. unless_empty p.parameters) m.protos) c.requires.known (c.in_ok-add_parameters.ensures [] (shared_none c.in_ok-sharing.ensures)))
 
 pub returns-clause-shared : goal.returns-clause-shared
 returns-clause-shared c = on_returned c.finish.result (λ x e.
     let h = all c in
-    lists_shared c.args.numbering.now c.args.classes.now x.written.items x.numbers.items c.requires.numbering.rising (shared_kept h x.written.items x.numbers.items (IfOk-at_ok _ e (c.finish.ensures h.used h.items))))
+    lists_shared c.args.input.now.numbering.now c.args.input.now.classes.now x.written.items x.numbers.items c.requires.numbering.rising (shared_kept h x.written.items x.numbers.items (IfOk-at_ok _ e (c.finish.ensures h.used h.items))))
 
 pub returns-clause-known : goal.returns-clause-known
 returns-clause-known c = on_returned c.finish.result (λ x e.

@@ -1,8 +1,8 @@
 use Rattle.dexlayout.proofs.Common.{◌≡◌, true, false, [], sym, subst, ◌∙◌, Option, Some, Bor, MatchOption, set_of, NumberedSet, IsKnownSet, annotation_in, set_in, set_use}
 use Rattle.dexval.specs.declared.set.AnnotationSet.{AnnotationSet}
 use Rattle.dexlayout.proofs.SharedUses.{shared_pass, shared_take, none_used, some_used}
-use Rattle.dexlayout.proofs.sets.add_set.Goals as goal
-use Rattle.dexlayout.proofs.sets.add_set.Goals.{in_default-via-in-Some+else-not-is_empty, in_default-via-in_default}
+use Rattle.dexlayout.proofs.sets.Sharing+ref+AnnotationSet.add_set.Goals as goal
+use Rattle.dexlayout.proofs.sets.Sharing+ref+AnnotationSet.add_set.Goals.{in_default-via-in-Some+else-not-is_empty, in_default-via-in_default}
 
 -- what a set that is lent holds
 lent_is : (o : Option (Bor AnnotationSet)) (s : Bor AnnotationSet) (meant : NumberedSet) → o ≡ Some s → MatchOption o (meant ≡ []) (λ t. set_of t.now ≡ meant) → set_of s.now ≡ meant

@@ -1,6 +1,6 @@
 use Rattle.dexlayout.proofs.Common.{◌≡◌, ℕ, List, [], ◌∷◌, length, map, refl, sym, ap, ◌∙◌, arith, unless_empty, type_at}
 use Rattle.dexlayout.proofs.SharedUses.{shared_pass, shared_take, none_used, some_used}
-use Rattle.dexlayout.proofs.type_lists.add_list.Goals as goal
+use Rattle.dexlayout.proofs.type_lists.Sharing+ListKey.add_list.Goals as goal
 
 -- a list without members
 empty_list : (xs : List ℕ) → length xs ≡ 0 → xs ≡ []

@@ -1,6 +1,0 @@
-use Rattle.dexlayout.proofs.Common.{◌++◌, map, take, All, List, Option, Mentions, Text, IsKnownClass, SharesLists, interfaces_use}
-use Rattle.dexlayout.proofs.type_lists.add_interfaces.Given as goal
-
-abbrev pub invariant-loop-i : goal.invariant-loop-i
-invariant-loop-i l = (m : Mentions) (uses : List (Option (List Text))) → All (IsKnownClass m) l.classes → SharesLists m uses l.fn.sharing.items.keys l.fn.sharing.numbers.items
-    → SharesLists m (uses ++ map (interfaces_use m) (take l.i l.classes)) l.sharing.items.keys l.sharing.numbers.items

@@ -1,6 +1,0 @@
-use Rattle.dexlayout.proofs.Common.{◌++◌, map, take, List, Option, unless_empty, Text, SharesLists}
-use Rattle.dexlayout.proofs.type_lists.add_parameters.Given as goal
-
-abbrev pub invariant-loop-i : goal.invariant-loop-i
-invariant-loop-i l = (uses : List (Option (List Text))) → SharesLists l.numbering uses l.fn.sharing.items.keys l.fn.sharing.numbers.items
-    → SharesLists l.numbering (uses ++ map (λ p. unless_empty p.parameters) (take l.i l.numbering.protos)) l.sharing.items.keys l.sharing.numbers.items

@@ -42,8 +42,8 @@ fn debug_of<'p, 'a>(method: &Method<'p, 'a>) -> Option<&'p Debug<'a>>
 }
 
 impl Encodings<'_, '_> {
-    // Adds the debug program of a method, if it has one. Programs are equal just where their encodings are, so only one of
-    // them is held.
+    // Adds the debug program of a method, if it has one. Programs are equal just where their encodings are, so only one
+    // of them is held.
     fn add_method(&mut self, method: &Method<'_, '_>) -> Result<(), AllocError>
         ensures { AddsEncodings result self.old self.new
             (debug_encoding method.now ∷ []) }

@@ -1,4 +1,4 @@
-use Rattle.dexlayout.proofs.Common.{ℕ, ◌+◌, ◌++◌, List, Option, Some, Bor, map, drop, sym, ap, subst, ◌∙◌, arith, All, map-map, Mentions, Annotation, annotation_of, set_of, NumberedAnnotation, IsKnownAnnotation, IsKnownSet, flat_map, drop_all, encode_uses, annotation_item, annotation_items, set_annotations, ◌≡◌, refl, on_ok_weaker, annotation_in, ◌∷◌, ◌^◌, ◌≤◌, encode_use}
+use Rattle.dexlayout.proofs.Common.{ℕ, ◌+◌, ◌++◌, List, Option, Some, Bor, map, drop, sym, ap, subst, ◌∙◌, arith, All, map-map, Mentions, Annotation, annotation_of, set_of, NumberedAnnotation, IsKnownAnnotation, IsKnownSet, flat_map, drop_all, encode_uses, annotation_item, annotation_items, set_annotations, ◌≡◌, refl, annotation_in, ◌∷◌, ◌^◌, ◌≤◌, encode_use}
 use Rattle.dexval.specs.declared.set.AnnotationSet.{AnnotationSet}
 use Rattle.dexlayout.proofs.EncodedUses.{all_encoded_by, use_encoded, use_fits, drop_next, align_one, ended, ended_fits}
 use Rattle.dexlayout.proofs.SetsAreAt.{known_at}

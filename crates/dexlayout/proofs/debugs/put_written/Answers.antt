@@ -1,4 +1,4 @@
-use Rattle.dexlayout.proofs.Common.{List, ℕ, Some, length, map, arith, ap, sym, ◌∙◌, drop_all, encode_use, encode_uses, on_ok_weaker, ◌≡◌}
+use Rattle.dexlayout.proofs.Common.{List, ℕ, Some, length, map, arith, ap, sym, ◌∙◌, drop_all, encode_use, encode_uses, ◌≡◌}
 use Rattle.dexlayout.proofs.EncodedUses.{all_encoded_by, use_encoded, use_fits, drop_next, align_one, ended, ended_fits}
 use Rattle.dexlayout.proofs.debugs.put_written.Goals as goal
 

@@ -58,7 +58,7 @@ pub struct DebugShape {
     pub weight: u64,
 }
 
-/// Reads parts of debug programs in the bytes of a file that has so many texts and types.
+/// Reads parts of debug programs in the bytes of a file with these counts of texts and types.
 #[derive(Clone, Copy)]
 pub(crate) struct DebugReader<'b> {
     pub(crate) bytes: &'b [u8],

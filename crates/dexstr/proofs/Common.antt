@@ -14,4 +14,4 @@ pub use Rattle.dexspec.proofs.numbers.Spellings.{not_cut_off, same_number}
 pub use Rattle.dexspec.specs.Names.{ArrayType, ClassType, HasKind, IsArray, IsClass, IsClassName, IsDescriptor, IsMemberName, IsNameUnit, IsPrimitive, IsVoid, PrimitiveType, TypeKind, VoidType, primitive_letters, shorty_letter}
 pub use Rattle.dexspec.specs.Numbers.{BeginsWith, IsUleb128, sum_of_groups, uleb128}
 pub use Rattle.dexspec.specs.Texts.{AreUnits, IsStringData, Text, form, spelling, string_data, text_cmp}
-pub use Rattle.dexstr.specs.{AfterUnits, BeginsWithAscii, BeginsWithNone, BeginsWithUnit, HasBody, IsAscii, IsBad, IsFault, IsNoTail, IsPart, IsProperPrefix, IsShort, IsSpelling, LooksCutOff, SpellsText, StartsWithZero, begins_unit, byte_cmp, dimensions, element_kind, ends_class, is_end, is_primitive_letter, is_void, kind_of, place_of, type_kind, units_of}
+pub use Rattle.dexstr.specs.{AfterUnits, BeginsWithAscii, BeginsWithNone, BeginsWithUnit, HasBody, IsAscii, IsBad, IsFault, IsNoTail, IsPart, IsProperPrefix, IsShort, IsSpelling, LooksCutOff, SpellsUnits, StartsWithZero, byte_cmp, dimensions, element_kind, ends_class, is_end, is_primitive_letter, is_void, kind_of, place_of, type_kind, units_of}

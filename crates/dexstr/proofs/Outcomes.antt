@@ -1,5 +1,5 @@
 -- A text's item: its count, its units and the zero byte.
-use Rattle.dexstr.proofs.Common.{◌≡◌, ℕ, suc, ◌+◌, ◌-◌, ◌/◌, ◌%◌, ◌≤◌, ◌<◌, ◌^◌, List, [], ◌∷◌, ◌++◌, length, take, drop, get_or, refl, ap, sym, ◌∙◌, arith, append_assoc, length-append, length-drop, length-take, take_at, drop_at, take-append-drop, take_all, inl, inr, ◌⊎◌, flat_map-cons, IsUleb128, BeginsWith, sum_of_groups, spelling, form, AreUnits, IsStringData, same_number, Shape, One, Two, Three, one_unit, ◌≢◌, ◌↔◌, ◌*◌, Result, Ok, Err, IfOk, IfErr, OnErr, cases_lt, cases_eq, append-nil, not_cut_off, shape_of, one_string_data, units_of, IsSpelling, SpellsText, AfterUnits, BeginsWithUnit, BeginsWithNone, HasBody, StartsWithZero, IsPart, IsProperPrefix, LooksCutOff, IsShort, IsBad, IsFault}
+use Rattle.dexstr.proofs.Common.{◌≡◌, ℕ, suc, ◌+◌, ◌-◌, ◌/◌, ◌%◌, ◌≤◌, ◌<◌, ◌^◌, List, [], ◌∷◌, ◌++◌, length, take, drop, get_or, refl, ap, sym, ◌∙◌, arith, append_assoc, length-append, length-drop, length-take, take_at, drop_at, take-append-drop, take_all, inl, inr, ◌⊎◌, flat_map-cons, IsUleb128, BeginsWith, sum_of_groups, spelling, form, AreUnits, IsStringData, same_number, Shape, One, Two, Three, one_unit, ◌≢◌, ◌↔◌, ◌*◌, Result, Ok, Err, IfOk, IfErr, OnErr, cases_lt, cases_eq, append-nil, not_cut_off, shape_of, one_string_data, units_of, IsSpelling, SpellsUnits, AfterUnits, BeginsWithUnit, BeginsWithNone, HasBody, StartsWithZero, IsPart, IsProperPrefix, LooksCutOff, IsShort, IsBad, IsFault}
 use Rattle.dexstr.specs.declared.reading.TextFault.{TextFault}
 use Rattle.dexstr.specs.declared.reading.TextFault.TheVariants.{Short, Bad, Count}
 use Rattle.dexstr.proofs.Forms.{shape, units_of-spelling}
@@ -14,9 +14,9 @@ spelled_prefix body n rest after =
     rw len (ap (take (length (spelling after.us))) after.parts ∙ take_at (spelling after.us) rest (length (spelling after.us)) refl)
 
 -- the bytes before the rest spell a text
-pub spells_prefix : (bytes body : List ℕ) (count len n : ℕ) (rest : List ℕ) → BeginsWith IsUleb128 bytes count len → AfterUnits body n rest → n ≡ count → SpellsText (take (length body - length rest) body)
+pub spells_prefix : (bytes body : List ℕ) (count len n : ℕ) (rest : List ℕ) → BeginsWith IsUleb128 bytes count len → AfterUnits body n rest → n ≡ count → SpellsUnits (take (length body - length rest) body) count
 spells_prefix bytes body count len n rest begins after same =
-    rw (spelled_prefix body n rest after) (record { spelled = spelling_is after.us after.units; few = omega (arith, ap length (units_of-spelling after.us after.units), after.len, same, begins.spelled.in_range) })
+    rw (spelled_prefix body n rest after) (record { spelled = spelling_is after.us after.units; counted = ap length (units_of-spelling after.us after.units) ∙ after.len ∙ same; few = omega (arith, begins.spelled.in_range) })
 
 zero_first : (rest : List ℕ) → 1 ≤ length rest → get_or rest 0 0 ≡ 0 → rest ≡ 0 ∷ drop 1 rest
 zero_first [] some is = absurd (omega arith)

@@ -1,5 +1,5 @@
 -- The units that bytes spell.
-use Rattle.std.specs.Prelude.{◌≡◌, ◌≢◌, ℕ, ◌+◌, ◌*◌, ◌-◌, ◌^◌, ◌<◌, Bool, not, ◌&&◌, List, [], ◌∷◌, ◌++◌, length, if◌then◌else◌, nat_lt, nat_le, All}
+use Rattle.std.specs.Prelude.{◌≡◌, ◌≢◌, ℕ, ◌+◌, ◌*◌, ◌-◌, ◌^◌, ◌<◌, List, [], ◌∷◌, ◌++◌, length, if◌then◌else◌, nat_lt, All}
 use Rattle.dexspec.specs.Texts.{Text, AreUnits, form, spelling}
 
 -- the bytes begin with the spelling of a unit
@@ -36,14 +36,11 @@ pub record IsSpelling (bytes : List ℕ) : Type 0 where
   pub parts : spelling (units_of bytes) ≡ bytes
   pub units : AreUnits (units_of bytes)
 
--- and these are fewer than 2 ^ 32
-pub record SpellsText (bytes : List ℕ) : Type 0 where
+-- and these are as many as are counted, fewer than 2 ^ 32
+pub record SpellsUnits (bytes : List ℕ) (count : ℕ) : Type 0 where
   pub spelled : IsSpelling bytes
-  pub few : length (units_of bytes) < 2 ^ 32
-
--- a unit's spelling begins with this byte: none from 0x80 to 0xbf
-abbrev pub begins_unit : ℕ → Bool
-begins_unit b = not (nat_le 0x80 b && nat_le b 0xbf)
+  pub counted : length (units_of bytes) ≡ count
+  pub few : count < 2 ^ 32
 
 -- a unit that is spelled by the byte that it is
 abbrev pub IsAscii : ℕ → Type 0

@@ -10,17 +10,18 @@ use std::marker::Model;
 #[derive(Drop)]
 pub struct Name {
     bytes: Vec<u8>,
+    count: u32,
 }
 
 impl Model for Name {
     ghost use Rattle.std.specs.Prelude.{ℕ, List};
-    ghost use Rattle.dexstr.specs.Units.{units_of, SpellsText};
+    ghost use Rattle.dexstr.specs.Units.{units_of, SpellsUnits};
 
     ghost Value = { List ℕ };
 
     ghost view = { λ name. units_of name.bytes.items };
 
-    ghost invariant = { λ name. SpellsText name.bytes.items };
+    ghost invariant = { λ name. SpellsUnits name.bytes.items name.count };
 }
 
 impl Name {
@@ -30,6 +31,7 @@ impl Name {
     {
         Ok(Name {
             bytes: Vec::from_slice(alloc, text.bytes())?,
+            count: text.len() as u32,
         })
     }
 
@@ -39,6 +41,7 @@ impl Name {
     {
         Ok(Name {
             bytes: self.bytes.clone()?,
+            count: self.count,
         })
     }
 
@@ -46,6 +49,6 @@ impl Name {
     pub fn text(&self) -> Text<'_>
         ensures { result ≡ self.now }
     {
-        Text::of_spelling(self.bytes.as_slice())
+        Text::of_spelling(self.bytes.as_slice(), self.count)
     }
 }

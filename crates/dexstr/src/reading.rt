@@ -55,7 +55,7 @@ fn read_first(bytes: &[u8]) -> Result<(Text<'_>, usize), TextFault>
     match rest {
         [0, ..] if units == count as usize => {
             let spelled = &body[..body.len() - rest.len()];
-            Ok((Text::of_spelling(spelled), len + spelled.len() + 1))
+            Ok((Text::of_spelling(spelled, count), len + spelled.len() + 1))
         }
         [0, ..] => Err(TextFault::Count),
         _ if looks_cut_off(rest) => Err(TextFault::Short),

@@ -6,7 +6,7 @@ ghost use Rattle.std.specs.Cmp.Lexicographic.{slice_cmp, pointwise};
 ghost use Rattle.std.specs.Ordering.{nat_cmp, as_partial_cmp};
 
 use crate::order::{after_common_groups, place_of};
-use crate::units::{Units, count_units};
+use crate::units::Units;
 use std::cmp::Ordering;
 use std::marker::Model;
 
@@ -18,35 +18,36 @@ use std::marker::Model;
 #[derive(Drop)]
 pub struct Text<'a> {
     bytes: &'a [u8],
+    count: u32,
 }
 
 impl<'a> Model for Text<'a> {
     ghost use Rattle.std.specs.Prelude.{ℕ, List};
-    ghost use Rattle.dexstr.specs.Units.{units_of, SpellsText};
+    ghost use Rattle.dexstr.specs.Units.{units_of, SpellsUnits};
 
     ghost Value = { List ℕ };
 
     ghost view = { λ text. units_of text.bytes.now };
 
-    ghost invariant = { λ text. SpellsText text.bytes.now };
+    ghost invariant = { λ text. SpellsUnits text.bytes.now text.count };
 }
 
 impl<'a> Text<'a> {
     ghost use Rattle.dexspec.specs.Texts.{AreUnits};
-    ghost use Rattle.dexstr.specs.Units.{units_of, SpellsText, IsAscii};
+    ghost use Rattle.dexstr.specs.Units.{units_of, SpellsUnits, IsAscii};
 
-    /// The text that the bytes spell.
-    pub(crate) fn of_spelling(bytes: &'a [u8]) -> Text<'a>
-        requires { SpellsText bytes.now }
+    /// The text of `count` units that the bytes spell.
+    pub(crate) fn of_spelling(bytes: &'a [u8], count: u32) -> Text<'a>
+        requires { SpellsUnits bytes.now count }
         ensures { result ≡ units_of bytes.now }
     {
-        Text { bytes }
+        Text { bytes, count }
     }
 
     /// The bytes that spell the text.
     pub(crate) fn bytes(&self) -> &'a [u8]
         ensures units { units_of result.now ≡ self.now }
-        ensures spelled { SpellsText result.now }
+        ensures spelled { SpellsUnits result.now (length self.now) }
     {
         self.bytes
     }
@@ -55,15 +56,18 @@ impl<'a> Text<'a> {
     pub fn clone(&self) -> Text<'a>
         ensures { result ≡ self.now }
     {
-        Text { bytes: self.bytes }
+        Text {
+            bytes: self.bytes,
+            count: self.count,
+        }
     }
 
-    /// The number of units, below 2^32. It goes over the bytes.
+    /// The number of units, below 2^32.
     pub fn len(&self) -> usize
         ensures len { result ≡ length self.now }
         ensures few { result < 2 ^ 32 }
     {
-        count_units(self.bytes)
+        self.count as usize
     }
 
     /// Whether the text has no unit.
@@ -74,7 +78,7 @@ impl<'a> Text<'a> {
     }
 
     /// The units as bytes, where all are of ASCII and none is zero, so that each is spelled by one byte; `None` of
-    /// other texts. It goes over the bytes, and takes no memory.
+    /// other texts. It takes no memory.
     pub fn ascii(&self) -> Option<&'a [u8]>
         ensures units { IfSome result (λ bytes. bytes.now ≡ self.now) }
         ensures other { IfNone result (¬ All IsAscii self.now) }

@@ -1,6 +1,6 @@
-ghost use Rattle.std.specs.Prelude.{◌≡◌, ℕ, ◌+◌, ◌<◌, ◌∷◌, IfSome, IfNone, length, count_by};
+ghost use Rattle.std.specs.Prelude.{◌≡◌, ℕ, ◌+◌, ◌<◌, ◌∷◌, IfSome, IfNone, length};
 ghost use Rattle.std.specs.Iterator.{YieldsFirst, item_count};
-ghost use Rattle.dexstr.specs.Units.{BeginsWithAscii, BeginsWithUnit, BeginsWithNone, IsNoTail, AfterUnits, begins_unit};
+ghost use Rattle.dexstr.specs.Units.{BeginsWithAscii, BeginsWithUnit, BeginsWithNone, IsNoTail, AfterUnits};
 
 use std::marker::Model;
 
@@ -117,17 +117,4 @@ fn six_bits(bytes: &[u8]) -> Option<(u16, &[u8])>
         [byte @ 0x80..=0xbf, rest @ ..] => Some((u16::from(*byte - 0x80), rest)),
         _ => None,
     }
-}
-
-/// How many bytes begin a unit's spelling.
-pub(crate) fn count_units(bytes: &[u8]) -> usize
-    ensures { result ≡ count_by begins_unit bytes.now }
-{
-    let mut units = 0;
-    for &byte in bytes {
-        if !matches!(byte, 0x80..=0xbf) {
-            units += 1;
-        }
-    }
-    units
 }

@@ -7,27 +7,6 @@ use dexhead::{Encode, Output};
 use dexleb::len_u;
 use std::alloc::AllocError;
 
-// Writes the string_data_item of a text of `count` units.
-fn encode_counted<O: Output>(text: &Text<'_>, count: u32, out: &mut O)
-    requires { count ≡ length text.now }
-    ensures { O.gives (string_data text.now) out.old out.new }
-{
-    let spelled = text.bytes();
-    out.uleb(count);
-    out.bytes(spelled);
-    out.byte(0);
-}
-
-// The length of the string_data_item of a text of `count` units.
-fn counted_len(text: &Text<'_>, count: u32) -> usize
-    requires { count ≡ length text.now }
-    ensures len { result ≡ length (string_data text.now) }
-    ensures bound { result ≤ 6 + 3 * length text.now }
-    ensures encodes_text { IsStringData (string_data text.now) text.now }
-{
-    len_u(count) + text.bytes().len() + 1
-}
-
 /// A text is encoded as its string_data_item: the number of units in its shortest spelling, the units and a zero byte.
 ///
 /// Source: the heading "string_data_item" of the Android page "Dalvik Executable format".
@@ -37,7 +16,10 @@ impl Encode for Text<'_> {
     ghost bytes = { string_data };
 
     fn encode<O: Output>(&self, out: &mut O) {
-        encode_counted(self, self.len() as u32, out);
+        let spelled = self.bytes();
+        out.uleb(self.len() as u32);
+        out.bytes(spelled);
+        out.byte(0);
     }
 }
 
@@ -46,8 +28,9 @@ impl Text<'_> {
     pub fn item_len(&self) -> usize
         ensures len { result ≡ length (string_data self.now) }
         ensures bound { result ≤ 6 + 3 * length self.now }
+        ensures encodes_text { IsStringData (string_data self.now) self.now }
     {
-        counted_len(self, self.len() as u32)
+        len_u(self.len() as u32) + self.bytes().len() + 1
     }
 }
 
@@ -65,8 +48,7 @@ pub fn put_text(text: &Text, out: &mut Vec<u8>) -> Result<(), AllocError>
     ensures room_for_all { vec_len out.old + (6 + 3 * length text.now) ≤ vec_capacity out.old
         → IsOk result }
 {
-    let count = text.len() as u32;
-    out.reserve(counted_len(text, count))?;
-    encode_counted(text, count, out);
+    out.reserve(text.item_len())?;
+    text.encode(out);
     Ok(())
 }

@@ -1,5 +1,9 @@
 -- Debug programs that are the same once remapped by two maps.
-use Rattle.dexdebug.proofs.Common.{◌≡◌, ℕ, ◌<◌, ◌≤◌, List, length, take, map, get_or, Option, refl, ap, sym, ◌∙◌, take_all, get_or-map, Maps, Operation, AdvancePc, image_or_none, name_of, type_of, signature_of, with_numbers, renumbered_operation, unindexed_of}
+use Rattle.std.proofs.lemmas.Simd.{map-map}
+use Rattle.std.specs.Bool.{Decides}
+use Rattle.std.specs.Cmp.{first_so, second_so}
+use Rattle.dexdebug.proofs.Common.{◌≡◌, ◌==◌, ◌&&◌, ◌↔◌, Bool, ℕ, ◌<◌, ◌≤◌, List, length, take, map, get_or, Option, option_eq, both, option_decides, refl, ap, sym, ◌∙◌, take_all, get_or-map, Maps, Operation, AdvancePc, image_or_none, name_of, type_of, signature_of, with_numbers, renumbered_operation, unindexed_of}
+use Rattle.dexdebug.specs.internal.Same.{image_key}
 use Rattle.dexpool.specs.declared.symbols.SymbolKind.TheVariants as kinds
 
 -- ---- lists that are the same, mapped
@@ -22,38 +26,47 @@ pub with_unindexed : (op : Operation) (s t u : Option ℕ) → with_numbers (uni
 with_unindexed (AdvancePc addresses) s t u = refl
 with_unindexed _ s t u = refl
 
-module _ (r : Maps) where
-  name_remapped : (op : Operation) → name_of (renumbered_operation r op) ≡ image_or_none r kinds.Text (name_of op)
-  name_remapped (AdvancePc addresses) = refl
-  name_remapped _ = refl
+-- ---- what is compared of them
 
-  type_remapped : (op : Operation) → type_of (renumbered_operation r op) ≡ image_or_none r kinds.Typ (type_of op)
-  type_remapped (AdvancePc addresses) = refl
-  type_remapped _ = refl
+abbrev Key : Type 0
+Key = Operation × Option ℕ × Option ℕ × Option ℕ
 
-  signature_remapped : (op : Operation) → signature_of (renumbered_operation r op) ≡ image_or_none r kinds.Text (signature_of op)
-  signature_remapped (AdvancePc addresses) = refl
-  signature_remapped _ = refl
+abbrev parts : Operation → Key
+parts op = (unindexed_of op, name_of op, type_of op, signature_of op)
 
--- if two operations are the same once remapped, their parts are
-module _ (r q : Maps) (x y : Operation) (e : renumbered_operation r x ≡ renumbered_operation q y) where
-  pub same_unindexed : unindexed_of x ≡ unindexed_of y
-  same_unindexed =
-      sym (unindexed_with x (image_or_none r kinds.Text (name_of x)) (image_or_none r kinds.Typ (type_of x)) (image_or_none r kinds.Text (signature_of x))) ∙ ap unindexed_of e
-      ∙ unindexed_with y (image_or_none q kinds.Text (name_of y)) (image_or_none q kinds.Typ (type_of y)) (image_or_none q kinds.Text (signature_of y))
+abbrev rebuilt : Key → Operation
+rebuilt k = with_numbers k.0 k.1 k.2 k.3
 
-  pub same_name : image_or_none r kinds.Text (name_of x) ≡ image_or_none q kinds.Text (name_of y)
-  same_name = sym (name_remapped r x) ∙ ap name_of e ∙ name_remapped q y
+key_parts : (r : Maps) (op : Operation) → parts (renumbered_operation r op) ≡ image_key r op
+key_parts r (AdvancePc addresses) = refl
+key_parts r _ = refl
 
-  pub same_type : image_or_none r kinds.Typ (type_of x) ≡ image_or_none q kinds.Typ (type_of y)
-  same_type = sym (type_remapped r x) ∙ ap type_of e ∙ type_remapped q y
+key_rebuilt : (r : Maps) (op : Operation) → rebuilt (image_key r op) ≡ renumbered_operation r op
+key_rebuilt r op = with_unindexed op (image_or_none r kinds.Text (name_of op)) (image_or_none r kinds.Typ (type_of op)) (image_or_none r kinds.Text (signature_of op))
 
-  pub same_signature : image_or_none r kinds.Text (signature_of x) ≡ image_or_none q kinds.Text (signature_of y)
-  same_signature = sym (signature_remapped r x) ∙ ap signature_of e ∙ signature_remapped q y
+keys_parts : (r : Maps) (ops : List Operation) → map parts (map (renumbered_operation r) ops) ≡ map (image_key r) ops
+keys_parts r ops = map-map parts (renumbered_operation r) ops ∙ (λ i. map (λ op. key_parts r op i) ops)
 
--- and the other way round
-pub same_parts : (r q : Maps) (x y : Operation) → unindexed_of x ≡ unindexed_of y → image_or_none r kinds.Text (name_of x) ≡ image_or_none q kinds.Text (name_of y) → image_or_none r kinds.Typ (type_of x) ≡ image_or_none q kinds.Typ (type_of y)
-    → image_or_none r kinds.Text (signature_of x) ≡ image_or_none q kinds.Text (signature_of y) → renumbered_operation r x ≡ renumbered_operation q y
-same_parts r q x y unindexed name typ signature =
-    sym (with_unindexed x (image_or_none r kinds.Text (name_of x)) (image_or_none r kinds.Typ (type_of x)) (image_or_none r kinds.Text (signature_of x))) ∙ (λ i. with_numbers (unindexed i) (name i) (typ i) (signature i))
-    ∙ with_unindexed y (image_or_none q kinds.Text (name_of y)) (image_or_none q kinds.Typ (type_of y)) (image_or_none q kinds.Text (signature_of y))
+keys_rebuilt : (r : Maps) (ops : List Operation) → map rebuilt (map (image_key r) ops) ≡ map (renumbered_operation r) ops
+keys_rebuilt r ops = map-map rebuilt (image_key r) ops ∙ (λ i. map (λ op. key_rebuilt r op i) ops)
+
+-- two lists of operations are the same once remapped just where these parts are
+pub same_keys : (r q : Maps) (xs ys : List Operation) → (map (image_key r) xs ≡ map (image_key q) ys) ↔ (map (renumbered_operation r) xs ≡ map (renumbered_operation q) ys)
+same_keys r q xs ys = (
+  λ e. sym (keys_rebuilt r xs) ∙ ap (map rebuilt) e ∙ keys_rebuilt q ys,
+  λ e. sym (keys_parts r xs) ∙ ap (map parts) e ∙ keys_parts q ys,
+)
+
+-- two such lists of parts are compared part by part
+pub key_decides : {eq : Operation → Operation → Bool} → ((x y : Operation) → Decides (eq x y) (x ≡ y)) → (k l : Key)
+    → Decides (((eq k.0 l.0 && option_eq ◌==◌ k.1 l.1) && option_eq ◌==◌ k.2 l.2) && option_eq ◌==◌ k.3 l.3) (k ≡ l)
+key_decides {eq = eq} decides k l =
+    let a = eq k.0 l.0 in
+    let b = option_eq ◌==◌ k.1 l.1 in
+    let c = option_eq ◌==◌ k.2 l.2 in
+    let d = option_eq ◌==◌ k.3 l.3 in (
+      λ t. let abc = first_so ((a && b) && c) d t in
+          let ab = first_so (a && b) c abc in
+          λ i. (((decides k.0 l.0).0 (first_so a b ab)) i, ((option_decides k.1 l.1).0 (second_so a b ab)) i, ((option_decides k.2 l.2).0 (second_so (a && b) c abc)) i, ((option_decides k.3 l.3).0 (second_so ((a && b) && c) d t)) i),
+      λ e. both ((a && b) && c) d (both (a && b) c (both a b ((decides k.0 l.0).1 (ap (λ x. x.0) e)) ((option_decides k.1 l.1).1 (ap (λ x. x.1) e))) ((option_decides k.2 l.2).1 (ap (λ x. x.2) e))) ((option_decides k.3 l.3).1 (ap (λ x. x.3) e)),
+    )

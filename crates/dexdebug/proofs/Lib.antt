@@ -1,4 +1,5 @@
 pub mod Common
+pub mod Compared
 pub mod DebugBridge
 pub mod DebugEqual
 pub mod DebugMeanings

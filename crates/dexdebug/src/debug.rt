@@ -11,6 +11,7 @@ use std::marker::Model;
 /// the file. Its texts and types are numbers, and contracts see them so.
 ///
 /// Source: "debug_info_item".
+#[derive(Clone)]
 pub struct Debug<'a> {
     /// The bytes of the file.
     pub(crate) bytes: &'a [u8],
@@ -92,9 +93,6 @@ impl<'a> Debug<'a> {
     pub fn copy(&self) -> Result<Debug<'a>, AllocError>
         ensures { IfOk result (λ copy. copy ≡ self.now) }
     {
-        Ok(Debug {
-            indices: Vec::from_slice(*self.indices.allocator(), &self.indices)?,
-            ..*self
-        })
+        self.clone()
     }
 }

@@ -11,32 +11,24 @@ ghost use Rattle.dexdebug.specs.contracts.debug_operation.OperationHash.TheImpl.
 ghost use Rattle.dexdebug.specs.DebugEquality.{same_debug, debug_input, debug_equiv, debugs_equal};
 
 use crate::debug::Debug;
+use crate::debug_laws::operation_equality_law;
 use crate::debug_operation::Operation;
 use crate::operations::{NameIter, OperationIter};
 use std::hash::{Hash, Hasher};
 
 // Returns whether names are equal, one for one.
-fn equal_names(mine: NameIter<'_>, mut others: NameIter<'_>) -> bool
+fn equal_names(mine: NameIter<'_>, others: NameIter<'_>) -> bool
     ensures { result ≡ pointwise (option_eq ◌==◌) mine.entry others.entry }
 {
-    for name in mine {
-        if others.next() != Some(name) {
-            return false;
-        }
-    }
-    others.next().is_none()
+    mine.eq(others)
 }
 
 // Returns whether operations are equal, one for one.
-fn equal_operations(mine: OperationIter<'_>, mut others: OperationIter<'_>) -> bool
+fn equal_operations(mine: OperationIter<'_>, others: OperationIter<'_>) -> bool
     ensures { result ≡ pointwise ⟦<Operation as PartialEq>⟧.eq mine.entry others.entry }
 {
-    for operation in mine {
-        if others.next() != Some(operation) {
-            return false;
-        }
-    }
-    others.next().is_none()
+    operation_equality_law();
+    mine.eq(others)
 }
 
 // Feeds each name to a hasher.

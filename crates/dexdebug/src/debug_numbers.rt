@@ -26,11 +26,9 @@ fn operations_weight(operations: OperationIter<'_>) -> u64
     ensures sum { result ≡ sum_by operation_weight operations.entry }
     ensures bound { result ≤ 21 * length operations.entry }
 {
-    let mut weight = 0;
-    for operation in operations {
-        weight += 1 + 5 * operation.operands();
-    }
-    weight
+    operations
+        .map(|operation| 1 + 5 * operation.operands())
+        .sum()
 }
 
 impl Symbols for Debug<'_> {

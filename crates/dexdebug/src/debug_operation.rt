@@ -1,6 +1,6 @@
 //! The operations of debug programs, with numbers for symbols.
 
-ghost use Rattle.std.specs.Prelude.{◌≡◌, ◌↔◌, ◌<◌, ◌≤◌, IsTrue, length};
+ghost use Rattle.std.specs.Prelude.{◌≡◌, ◌<◌, ◌≤◌, length};
 ghost use Rattle.dexspec.specs.Weight as weights;
 
 /// An operation of a debug program. A name or a signature is the number of a text, a type that of a type, and `None`
@@ -121,20 +121,6 @@ impl Operation {
             Operation::SetFile(_) => Operation::SetFile(name_idx),
             operation => operation,
         }
-    }
-
-    // The operation without the numbers of symbols.
-    pub(crate) fn unindexed(&self) -> Operation
-        ensures { result ≡ with_numbers self.now None None None }
-    {
-        self.with_numbers(None, None, None)
-    }
-
-    // Returns whether two operations are the same.
-    pub(crate) fn is_same(&self, other: &Operation) -> bool
-        ensures { IsTrue result ↔ (self.now ≡ other.now) }
-    {
-        self == other
     }
 
     // Returns the number of operands.

@@ -260,7 +260,7 @@ impl<'b> DebugReader<'b> {
         let mut at = shape.names_at;
         for _ in 0..shape.names {
             let (name, len) = self.index_at(at, self.counts.texts).unwrap();
-            indices.push(Index::text(name))?;
+            indices.push(Index::new(SymbolKind::Text, name))?;
             at += len;
         }
         Ok(())

@@ -3,9 +3,10 @@
 ghost use Rattle.std.specs.Prelude.{◌≡◌, ◌↔◌, IsTrue, map};
 ghost use Rattle.dexpool.specs.declared.symbols.SymbolKind.TheVariants as kinds;
 ghost use Rattle.dexdebug.specs.Debug.{image_or_none, renumbered_operation, renumbered_debug};
-ghost use Rattle.dexdebug.specs.internal.Same.{SameRemapped, EqualRemapped};
+ghost use Rattle.dexdebug.specs.internal.Same.{SameRemapped, image_key};
 
 use crate::debug::Debug;
+use crate::debug_laws::operation_equality_law;
 use crate::debug_operation::Operation;
 use crate::operations::{NameIter, OperationIter};
 use dexpool::{Remap, SymbolKind};
@@ -17,70 +18,45 @@ fn image(remap: &Remap, kind: SymbolKind, number: Option<u32>) -> Option<usize>
     remap.image(kind, number? as usize)
 }
 
-// The maps by which two debug programs are remapped.
-#[derive(Clone, Copy)]
-struct Remaps<'r> {
-    mine: &'r Remap,
-    theirs: &'r Remap,
+// An operation without the numbers of symbols, and their images.
+type ImageKey = (Operation, Option<usize>, Option<usize>, Option<usize>);
+
+// What is compared of an operation: two operations are equal once remapped just where these are.
+fn image_key(remap: &Remap, operation: Operation) -> ImageKey
+    ensures { result ≡ image_key remap.now operation }
+{
+    (
+        operation.with_numbers(None, None, None),
+        image(remap, SymbolKind::Text, operation.name_idx()),
+        image(remap, SymbolKind::Typ, operation.type_idx()),
+        image(remap, SymbolKind::Text, operation.sig_idx()),
+    )
 }
 
-impl Remaps<'_> {
-    // Returns whether both numbers have one image, or neither has one.
-    fn eq_numbers(&self, kind: SymbolKind, number: Option<u32>, other: Option<u32>) -> bool
-        ensures { IsTrue result ↔ (image_or_none self.now.mine.now kind number
-            ≡ image_or_none self.now.theirs.now kind other) }
-    {
-        image(self.mine, kind, number) == image(self.theirs, kind, other)
-    }
+// Returns whether two lists of names are equal once remapped.
+fn eq_names(mine: &Remap, names: NameIter<'_>, theirs: &Remap, others: NameIter<'_>) -> bool
+    ensures { IsTrue result ↔ (map (image_or_none mine.now kinds.Text) names.entry
+        ≡ map (image_or_none theirs.now kinds.Text) others.entry) }
+{
+    names
+        .map(|name| image(mine, SymbolKind::Text, name))
+        .eq(others.map(|name| image(theirs, SymbolKind::Text, name)))
+}
 
-    // Returns whether two operations are equal once remapped.
-    fn eq_operation(&self, operation: &Operation, other: &Operation) -> bool
-        ensures { IsTrue result ↔ EqualRemapped renumbered_operation self.now.mine.now
-            self.now.theirs.now operation.now other.now }
-    {
-        if !operation.unindexed().is_same(&other.unindexed()) {
-            return false;
-        }
-        if !self.eq_numbers(SymbolKind::Text, operation.name_idx(), other.name_idx()) {
-            return false;
-        }
-        if !self.eq_numbers(SymbolKind::Typ, operation.type_idx(), other.type_idx()) {
-            return false;
-        }
-        self.eq_numbers(SymbolKind::Text, operation.sig_idx(), other.sig_idx())
-    }
-
-    // Returns whether two lists of names are equal once remapped.
-    fn eq_names(&self, names: NameIter<'_>, mut others: NameIter<'_>) -> bool
-        ensures { IsTrue result ↔ (map (image_or_none self.now.mine.now kinds.Text) names.entry
-            ≡ map (image_or_none self.now.theirs.now kinds.Text) others.entry) }
-    {
-        for name in names {
-            let Some(other) = others.next() else {
-                return false;
-            };
-            if !self.eq_numbers(SymbolKind::Text, name, other) {
-                return false;
-            }
-        }
-        others.next().is_none()
-    }
-
-    // Returns whether two lists of operations are equal, one for one, once remapped.
-    fn eq_operations(&self, operations: OperationIter<'_>, mut others: OperationIter<'_>) -> bool
-        ensures { IsTrue result ↔ SameRemapped renumbered_operation self.now.mine.now
-            self.now.theirs.now operations.entry others.entry }
-    {
-        for operation in operations {
-            let Some(other) = others.next() else {
-                return false;
-            };
-            if !self.eq_operation(&operation, &other) {
-                return false;
-            }
-        }
-        others.next().is_none()
-    }
+// Returns whether two lists of operations are equal, one for one, once remapped.
+fn eq_operations(
+    mine: &Remap,
+    operations: OperationIter<'_>,
+    theirs: &Remap,
+    others: OperationIter<'_>,
+) -> bool
+    ensures { IsTrue result ↔ SameRemapped renumbered_operation mine.now theirs.now
+        operations.entry others.entry }
+{
+    operation_equality_law();
+    operations
+        .map(|operation| image_key(mine, operation))
+        .eq(others.map(|operation| image_key(theirs, operation)))
 }
 
 impl Debug<'_> {
@@ -90,9 +66,13 @@ impl Debug<'_> {
         ensures { IsTrue result
             ↔ (renumbered_debug mine.now self.now ≡ renumbered_debug theirs.now other.now) }
     {
-        let remaps = Remaps { mine, theirs };
         self.line_start == other.line_start
-            && remaps.eq_names(self.parameter_names(), other.parameter_names())
-            && remaps.eq_operations(self.operations(), other.operations())
+            && eq_names(
+                mine,
+                self.parameter_names(),
+                theirs,
+                other.parameter_names(),
+            )
+            && eq_operations(mine, self.operations(), theirs, other.operations())
     }
 }

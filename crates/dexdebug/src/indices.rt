@@ -1,9 +1,7 @@
 //! Numbers of symbols, as a debug program stores them.
 
 ghost use Rattle.std.specs.Prelude.{◌≡◌, All};
-ghost use Rattle.dexpool.specs.declared.symbols.SymbolKind.TheVariants as kinds;
 ghost use Rattle.dexdebug.specs.Debug.{FitsIndex, HasPlace, number_uses};
-ghost use Rattle.dexdebug.specs.DebugReading.{text_index};
 ghost use Rattle.dexdebug.specs.Operations.{renumbered_index};
 
 use crate::debug_numbers::renumbered;
@@ -60,26 +58,13 @@ pub(crate) struct Index {
 }
 
 impl Index {
-    /// The number of a text.
-    pub(crate) fn text(number: Option<u32>) -> Index
+    /// The number of a symbol of a kind.
+    pub(crate) fn new(kind: SymbolKind, number: Option<u32>) -> Index
         requires { FitsIndex number }
-        ensures { result ≡ text_index number }
+        ensures { result ≡ record { kind = kind; number = number } }
     {
-        Index {
-            kind: SymbolKind::Text,
-            number: OptionalNumber::new(number),
-        }
-    }
-
-    /// The number of a type.
-    pub(crate) fn typ(number: Option<u32>) -> Index
-        requires { FitsIndex number }
-        ensures { result ≡ record { kind = kinds.Typ; number = number } }
-    {
-        Index {
-            kind: SymbolKind::Typ,
-            number: OptionalNumber::new(number),
-        }
+        let number = OptionalNumber::new(number);
+        Index { kind, number }
     }
 }
 

@@ -10,6 +10,7 @@ use crate::debug_opcodes::DBG_FIRST_SPECIAL;
 use crate::debug_operation::Operation;
 use crate::debug_reading::{DebugReader, EVERY};
 use crate::indices::Index;
+use dexpool::SymbolKind;
 use std::alloc::AllocError;
 use std::marker::Model;
 
@@ -121,9 +122,9 @@ pub(crate) fn keep_indices(indices: &mut Vec<Index>, operation: Operation) -> Re
         return Ok(());
     }
     let all = [
-        Index::text(operation.name_idx()),
-        Index::typ(operation.type_idx()),
-        Index::text(operation.sig_idx()),
+        Index::new(SymbolKind::Text, operation.name_idx()),
+        Index::new(SymbolKind::Typ, operation.type_idx()),
+        Index::new(SymbolKind::Text, operation.sig_idx()),
     ];
     indices.extend_from_slice(&all[..count])
 }

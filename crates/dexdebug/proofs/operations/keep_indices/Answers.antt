@@ -20,8 +20,8 @@ returns-then-count-eq0 c = sym (ap (λ is. c.args.indices.now.items ++ is) (nil_
 
 pub returns : goal.returns
 returns c =
-    let text = c.text.ensures ∙ ap text_index c.name_idx.ensures in
-    let typ = c.typ.ensures ∙ ap (λ n. record { kind = kinds.Typ; number = n }) c.type_idx.ensures in
-    let signature = c.text-2.ensures ∙ ap text_index c.sig_idx.ensures in
-    let is : take c.index_count-count.result (c.text.result ∷ c.typ.result ∷ c.text-2.result ∷ []) ≡ indices_of c.args.operation = (λ i. take (c.index_count-count.ensures.count i) (text i ∷ typ i ∷ signature i ∷ [])) ∙ kept c.args.operation in
+    let text = c.new.ensures ∙ ap text_index c.name_idx.ensures in
+    let typ = c.new-2.ensures ∙ ap (λ n. record { kind = kinds.Typ; number = n }) c.type_idx.ensures in
+    let signature = c.new-3.ensures ∙ ap text_index c.sig_idx.ensures in
+    let is : take c.index_count-count.result (c.new.result ∷ c.new-2.result ∷ c.new-3.result ∷ []) ≡ indices_of c.args.operation = (λ i. take (c.index_count-count.ensures.count i) (text i ∷ typ i ∷ signature i ∷ [])) ∙ kept c.args.operation in
     subst (λ (is : List Index). OnOk c.extend_from_slice.result (c.extend_from_slice.new.self.items ≡ c.args.indices.now.items ++ is)) is (on_ok c.extend_from_slice.result _ _ c.args.indices.now.items c.extend_from_slice.ensures.items)

@@ -9,8 +9,8 @@ pub unwrap-name-requires : goal.unwrap-name-requires
 unwrap-name-requires c =
     let had = c.loop.invariant in (next_name c.args.self.now.counts.texts c.args.self.now.bytes.now c.args.shape.names_at c.args.shape.names c.loop.counter c.loop.at had.names c.index_at.result had.built c.loop-test.true c.index_at.ensures.only).some
 
-pub text-requires : goal.text-requires
-text-requires c = index_formed c.args.self.now.counts.texts c.args.self.now.bytes.now c.loop.at c.unwrap-name.result.0 c.unwrap-name.result.1 (rw c.unwrap-name.ensures at c.index_at.ensures.found)
+pub new-requires : goal.new-requires
+new-requires c = index_formed c.args.self.now.counts.texts c.args.self.now.bytes.now c.loop.at c.unwrap-name.result.0 c.unwrap-name.result.1 (rw c.unwrap-name.ensures at c.index_at.ensures.found)
 
 pub loop-preserved : goal.loop-preserved
 loop-preserved c =

@@ -97,7 +97,7 @@ impl<'a> Code<'a> {
         ensures { IfOk result (λ copy. copy ≡ self.now) }
     {
         let pieces = self.pieces.copy()?;
-        let extras = self.extras.copy()?;
+        let extras = self.extras.clone()?;
         Ok(Code { pieces, extras })
     }
 }

@@ -2,7 +2,7 @@
 
 ghost use Rattle.std.specs.Prelude.{◌≡◌, ◌+◌, ◌*◌, ◌^◌, ◌<◌, ◌≤◌, ℕ, length};
 ghost use Rattle.dexspec.specs.Code.{most_handlers};
-ghost use Rattle.dexcode.specs.CodePut.{handler_count, numbered_code_bytes, numbered_handler_bytes, numbered_list_bytes, unit_count, IsCodeLen, numbered_code_weight, numbered_tries_weight};
+ghost use Rattle.dexcode.specs.CodePut.{handler_count, numbered_code_bytes, numbered_handler_bytes, unit_count, IsCodeLen, numbered_code_weight, numbered_tries_weight};
 ghost use Rattle.dexcode.specs.Numbered.{handlers_weight, ForDenoted};
 ghost use Rattle.dexcode.specs.internal.Writing.{IsPlacedLen};
 ghost use Rattle.dexspec.specs.Code as symbolic;
@@ -12,7 +12,7 @@ use crate::code::Code;
 use crate::code_laws::{code_bytes_law, code_weight_law};
 use crate::code_put::encode_list;
 use crate::handlers::Handler;
-use crate::tries::{Tries, Try};
+use crate::tries::Tries;
 use dexhead::{Count, encoded_len};
 use dexinsn::Pieces;
 
@@ -37,17 +37,6 @@ pub(crate) fn handler_len(handler: &Handler) -> usize
     encoded_len(handler)
 }
 
-// Returns the length of the list of handlers.
-fn list_len(handlers: &[Handler]) -> usize
-    requires { handlers_weight handlers.now ≤ most_handlers }
-    ensures len { result ≡ length (numbered_list_bytes handlers.now) }
-    ensures few { result < 2 ^ 18 }
-{
-    let mut count = Count { len: 0 };
-    encode_list(handlers, &mut count);
-    count.len
-}
-
 // Returns the number of units of the pieces.
 pub(crate) fn unit_count(pieces: &Pieces<'_>) -> u32
     ensures { result ≡ unit_count pieces.now }
@@ -55,18 +44,19 @@ pub(crate) fn unit_count(pieces: &Pieces<'_>) -> u32
     pieces.units()
 }
 
-// Returns the length of a code item of `units` units, whose list of handlers has `list` bytes.
-fn placed_len(units: u32, tries: &[Try], list: usize) -> usize
-    requires few { list < 2 ^ 18 }
-    requires tries { length tries.now < 2 ^ 16 }
-    ensures { IsPlacedLen units tries.now list result }
+// Returns the length of a code item of `units` units.
+fn placed_len(units: u32, tries: &Tries<'_>) -> usize
+    ensures { IsPlacedLen units tries.now result }
 {
+    let (items, handlers) = tries.parts();
     let front = 16 + 2 * units as usize;
-    if tries.is_empty() {
+    if items.is_empty() {
         return front;
     }
+    let mut list = Count { len: 0 };
+    encode_list(handlers, &mut list);
     // The units are padded with 2 bytes if their number is odd.
-    front + 2 * (units % 2) as usize + 8 * tries.len() + list
+    front + 2 * (units % 2) as usize + 8 * items.len() + list.len
 }
 
 impl<'a> Code<'a> {
@@ -79,8 +69,7 @@ impl<'a> Code<'a> {
         ensures symbolic { IsCodeLen self.now result }
     {
         code_bytes_law();
-        let (items, handlers) = self.tries().parts();
-        placed_len(unit_count(&self.pieces), items, list_len(handlers))
+        placed_len(unit_count(&self.pieces), &self.tries())
     }
 }
 

@@ -9,7 +9,7 @@ use dexdebug::Debug;
 use std::alloc::{AllocError, Global};
 
 /// The tries and the debug program of code, in one box. Most code has no tries.
-#[derive(Drop)]
+#[derive(Clone, Drop)]
 pub(crate) enum Extras<'a> {
     /// Neither tries nor a debug program.
     None,
@@ -20,7 +20,7 @@ pub(crate) enum Extras<'a> {
 }
 
 /// Tries and a debug program, if there is one.
-#[derive(Drop)]
+#[derive(Clone, Drop)]
 pub(crate) struct TriesAndDebug<'a> {
     pub(crate) tries: StoredTries,
     pub(crate) debug: Option<Box<Debug<'a>>>,
@@ -45,30 +45,4 @@ impl<'a> Extras<'a> {
             }),
         }
     }
-
-    // The same, in boxes of their own.
-    pub(crate) fn copy(&self) -> Result<Extras<'a>, AllocError>
-        ensures tries { IfOk result (λ copy. tries_of copy ≡ tries_of self.now) }
-        ensures debug { IfOk result (λ copy. debug_of copy ≡ debug_of self.now) }
-    {
-        match self {
-            Extras::None => Ok(Extras::None),
-            Extras::Debug(debug) => Ok(Extras::Debug(copied(debug)?)),
-            Extras::Tries(both) => {
-                let tries = both.tries.copy()?;
-                let debug = match &both.debug {
-                    Some(debug) => Some(copied(debug)?),
-                    None => None,
-                };
-                Extras::of(*Box::allocator(both), Some(tries), debug)
-            }
-        }
-    }
-}
-
-// The same debug program in a box of its own.
-fn copied<'a>(debug: &Box<Debug<'a>>) -> Result<Box<Debug<'a>>, AllocError>
-    ensures { IfOk result (λ copy. copy.value ≡ debug.now.value) }
-{
-    Ok(Box::new(*Box::allocator(debug), debug.copy()?)?)
 }

@@ -1,11 +1,10 @@
 //! Handlers: what is caught, and where.
 
-ghost use Rattle.std.specs.Prelude.{◌≡◌, IfOk};
+ghost use Rattle.std.specs.Prelude.{◌≡◌};
 ghost use Rattle.std.specs.Cmp.Rules.{comparing, hashing};
 ghost use Rattle.std.specs.Hash as fed;
 ghost use Rattle.std.proofs.Common.{rules};
 
-use std::alloc::AllocError;
 use std::hash::{Hash, Hasher};
 use std::marker::Model;
 
@@ -52,7 +51,7 @@ impl Hash for Catch {
 /// The types that are caught, in order, and the catch-all address, if there is one. Contracts see both.
 ///
 /// Source: "encoded_catch_handler".
-#[derive(Drop)]
+#[derive(Clone, Drop)]
 pub struct Handler {
     /// The types that are caught, in the order in which they are tested.
     pub(crate) catches: Vec<Catch>,
@@ -119,13 +118,5 @@ impl Handler {
         ensures { result ≡ self.now.catch_all_addr }
     {
         self.catch_all_addr
-    }
-
-    /// Returns a copy of the handler, with a list of its own.
-    pub(crate) fn copy(&self) -> Result<Handler, AllocError>
-        ensures { IfOk result (λ copy. copy ≡ self.now) }
-    {
-        let catches = Vec::from_slice(*self.catches.allocator(), &self.catches)?;
-        Ok(Handler { catches, ..*self })
     }
 }

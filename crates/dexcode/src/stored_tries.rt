@@ -1,15 +1,14 @@
 //! Tries and the handlers that they name, as they are stored.
 
-ghost use Rattle.std.specs.Prelude.{◌≡◌, IfOk};
+ghost use Rattle.std.specs.Prelude.{◌≡◌};
 
 use crate::handlers::Handler;
 use crate::tries::{Tries, Try};
-use std::alloc::AllocError;
 use std::marker::Model;
 
 /// Tries, and the handlers that they name, each once and in order of first use. Contracts see tries with their
 /// handlers.
-#[derive(Drop)]
+#[derive(Clone, Drop)]
 pub(crate) struct StoredTries {
     /// The tries, each with the number of its handler.
     pub(crate) tries: Vec<Try>,
@@ -38,24 +37,4 @@ impl StoredTries {
             handlers: &self.handlers,
         }
     }
-
-    // The same tries, with lists of their own.
-    pub(crate) fn copy(&self) -> Result<StoredTries, AllocError>
-        ensures { IfOk result (λ copy. copy ≡ self.now) }
-    {
-        let tries = Vec::from_slice(*self.tries.allocator(), &self.tries)?;
-        let handlers = copied(&self.handlers)?;
-        Ok(StoredTries { tries, handlers })
-    }
-}
-
-// The same handlers in a list of their own.
-fn copied(handlers: &Vec<Handler>) -> Result<Vec<Handler>, AllocError>
-    ensures { IfOk result (λ copy. copy.items ≡ handlers.now.items) }
-{
-    let mut copy = Vec::with_capacity(*handlers.allocator(), handlers.len())?;
-    for handler in handlers {
-        copy.push(handler.copy()?)?;
-    }
-    Ok(copy)
 }

@@ -9,19 +9,12 @@ use crate::handlers::{Catch, Handler};
 use crate::tries::{Tries, Try};
 use dexpool::{Remap, SymbolKind};
 
-// The type that a type maps to; one that maps to none stays.
-fn remapped_type(remap: &Remap, typ: u32) -> usize
-    ensures { result ≡ remapped_type remap.now typ }
+// The type that is caught, remapped, and the address where it is handled.
+fn remapped_parts(remap: &Remap, catch: &Catch) -> (usize, u32)
+    ensures { result ≡ (remapped_type remap.now catch.now.typ, catch.now.addr) }
 {
-    remap.or_same(SymbolKind::Typ, typ as usize)
-}
-
-// Whether the catches are equal once their types are remapped.
-fn same_catch(mine: &Remap, catch: Catch, theirs: &Remap, other: Catch) -> bool
-    ensures { IsTrue result
-        ↔ (renumbered_catch mine.now catch ≡ renumbered_catch theirs.now other) }
-{
-    catch.addr == other.addr && remapped_type(mine, catch.typ) == remapped_type(theirs, other.typ)
+    let typ = remap.or_same(SymbolKind::Typ, catch.typ as usize);
+    (typ, catch.addr)
 }
 
 // Whether the catches are equal, one for one, once their types are remapped.
@@ -29,15 +22,10 @@ fn same_catches(mine: &Remap, catches: &[Catch], theirs: &Remap, others: &[Catch
     ensures { IsTrue result
         ↔ SameRemapped renumbered_catch mine.now theirs.now catches.now others.now }
 {
-    if catches.len() != others.len() {
-        return false;
-    }
-    for (i, catch) in catches.iter().enumerate() {
-        if !same_catch(mine, *catch, theirs, others[i]) {
-            return false;
-        }
-    }
-    true
+    catches
+        .iter()
+        .map(|catch| remapped_parts(mine, catch))
+        .eq(others.iter().map(|catch| remapped_parts(theirs, catch)))
 }
 
 // Whether the handlers are equal once their types are remapped.

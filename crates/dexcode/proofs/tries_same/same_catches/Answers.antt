@@ -1,9 +1,15 @@
-use Rattle.dexcode.proofs.Common.{◌<◌, length, arith, same_at, renumbered_catch}
+use Rattle.std.proofs.lemmas.Iterator.{YieldsList-from_map_by, YieldsList-from_slice}
+use Rattle.std.proofs.lemmas.Iterator.Consumers.{YieldsList-at}
+use Rattle.dexcode.proofs.Common.{ℕ, Catch, renumbered_catch, rules}
+use Rattle.dexcode.specs.Equality.{catch_decides}
+use Rattle.dexdebug.proofs.Compared.{decides_by_eq}
 use Rattle.dexcode.proofs.tries_same.same_catches.Goals as goal
 
-pub returns-then-not-same_catch : goal.returns-then-not-same_catch
-returns-then-not-same_catch c =
-    let others : c.loop-i.i < length c.args.others.now = omega (arith, c.loop-i.invariant.count) in (
-      (λ t. absurd cc),
-      (λ e. let same = c.same_catch.ensures.1 (same_at (renumbered_catch c.args.mine.now) (renumbered_catch c.args.theirs.now) c.args.catches.now c.args.others.now c.loop-i.i (record { typ = 0; addr = 0 }) (omega arith) others e) in cc),
-    )
+abbrev catch_of : ℕ × ℕ → Catch
+catch_of parts = record { typ = parts.0; addr = parts.1 }
+
+pub returns : goal.returns
+returns c =
+    decides_by_eq {v = catch_of} {w = catch_of} _ (λ x y. catch_decides (catch_of x) (catch_of y)) _ _ c.eq.ensures.ran
+    (YieldsList-from_map_by _ catch_of (renumbered_catch c.args.mine.now) (YieldsList-at c.map.ensures.source (YieldsList-from_slice c.args.catches.now cc)) c.map.ensures.closure (λ x r q k. search rules))
+    (λ it becomes. YieldsList-at becomes (YieldsList-from_map_by _ catch_of (renumbered_catch c.args.theirs.now) (YieldsList-at c.map-2.ensures.source (YieldsList-from_slice c.args.others.now cc)) c.map-2.ensures.closure (λ x r q k. search rules)))

@@ -3,8 +3,8 @@ use Rattle.dexcode.proofs.code.Code.item_len.Goals as goal
 
 pub returns-clause-numbered : goal.returns-clause-numbered
 returns-clause-numbered c = λ debug_off.
-    c.placed_len.ensures debug_off c.self.inside.pieces c.parts.result.1.now c.parts.ensures.stored c.unit_count.ensures c.list_len.ensures.len
-    ∙ ap (λ tries. length (numbered_item_bytes debug_off c.self.inside.pieces tries)) (c.parts.ensures.named ∙ c.tries.ensures)
+    c.placed_len.ensures debug_off c.self.inside.pieces c.unit_count.ensures
+    ∙ ap (λ tries. length (numbered_item_bytes debug_off c.self.inside.pieces tries)) c.tries.ensures
     ∙ ap (λ code. length (numbered_item_bytes debug_off code.body c.args.self.now.tries)) c.self.view_is
 
 pub returns-clause-symbolic : goal.returns-clause-symbolic

@@ -2,7 +2,7 @@
 
 ghost use Rattle.std.specs.Prelude.{◌≡◌, ◌+◌, ◌*◌, ◌^◌, ◌<◌, ◌≤◌, ℕ, length};
 ghost use Rattle.dexspec.specs.Code.{most_handlers};
-ghost use Rattle.dexcode.specs.CodePut.{handler_count, numbered_code_bytes, numbered_handler_bytes, unit_count, IsCodeLen, numbered_code_weight, numbered_tries_weight};
+ghost use Rattle.dexcode.specs.CodePut.{handler_count, numbered_code_bytes, unit_count, IsCodeLen, numbered_code_weight, numbered_tries_weight};
 ghost use Rattle.dexcode.specs.Numbered.{handlers_weight, ForDenoted};
 ghost use Rattle.dexcode.specs.internal.Writing.{IsPlacedLen};
 ghost use Rattle.dexspec.specs.Code as symbolic;
@@ -13,7 +13,7 @@ use crate::code_laws::{code_bytes_law, code_weight_law};
 use crate::code_put::encode_list;
 use crate::handlers::Handler;
 use crate::tries::Tries;
-use dexhead::{Count, encoded_len};
+use dexhead::Count;
 use dexinsn::Pieces;
 
 // The number of catches, 0 or less where there is an address for all else.
@@ -26,15 +26,6 @@ pub(crate) fn handler_count(handler: &Handler) -> i32
         Some(_) => -count,
         None => count,
     }
-}
-
-// Returns the length of a handler.
-pub(crate) fn handler_len(handler: &Handler) -> usize
-    requires { length handler.now.catches < 2 ^ 16 }
-    ensures len { result ≡ length (numbered_handler_bytes handler.now) }
-    ensures few { result ≤ 10 + 10 * length handler.now.catches }
-{
-    encoded_len(handler)
 }
 
 // Returns the number of units of the pieces.

@@ -10,10 +10,10 @@ ghost use Rattle.dexcode.specs.Numbered.{handlers_of, handlers_weight};
 
 use crate::code::Code;
 use crate::code_laws::{code_bytes_law, code_weight_law};
-use crate::code_len::{handler_count, handler_len, unit_count};
+use crate::code_len::{handler_count, unit_count};
 use crate::handlers::{Catch, Handler};
 use crate::tries::{Tries, Try};
-use dexhead::{Encode, Output, encode_all, put_with_len};
+use dexhead::{Encode, Output, encode_all, encoded_len, put_with_len};
 use dexinsn::Pieces;
 use dexleb::len_u;
 use dexpool::Numbering;
@@ -34,7 +34,7 @@ fn place_handlers(handlers: &[Handler], places: &mut [u16])
     let mut place = len_u(handlers.len() as u32);
     for (i, handler) in handlers.iter().enumerate() {
         places[i] = place as u16;
-        place += handler_len(handler);
+        place += encoded_len(handler);
     }
 }
 

@@ -39,10 +39,7 @@ impl<'a> Extras<'a> {
     {
         match tries {
             Some(tries) => Ok(Extras::Tries(Box::new(alloc, TriesAndDebug { tries, debug })?)),
-            None => Ok(match debug {
-                Some(debug) => Extras::Debug(debug),
-                None => Extras::None,
-            }),
+            None => Ok(debug.map_or(Extras::None, |debug| Extras::Debug(debug))),
         }
     }
 }

@@ -3,8 +3,6 @@
 ghost use Rattle.std.specs.Prelude.{◌≡◌, ◌==◌};
 ghost use Rattle.std.specs.Cmp.{partial_equiv_from_equiv};
 ghost use Rattle.std.specs.Cmp.Lexicographic.{pointwise};
-ghost use Rattle.std.specs.Hash as fed;
-ghost use Rattle.std.specs.List.{flat_map, fold};
 ghost use Rattle.std.specs.Option.{option_eq};
 ghost use Rattle.dexdebug.specs.contracts.debug_operation.OperationEq.TheImpl.Laws as equal;
 ghost use Rattle.dexdebug.specs.contracts.debug_operation.OperationHash.TheImpl.Laws as hashed;
@@ -31,25 +29,6 @@ fn equal_operations(mine: OperationIter<'_>, others: OperationIter<'_>) -> bool
     mine.eq(others)
 }
 
-// Feeds each name to a hasher.
-fn hash_names<H: Hasher>(names: NameIter<'_>, state: &mut H)
-    ensures { state.new ≡ fold H.write state.old (flat_map (fed.option fed.u32) names.entry) }
-{
-    for name in names {
-        name.hash(state);
-    }
-}
-
-// Feeds each operation to a hasher.
-fn hash_operations<H: Hasher>(operations: OperationIter<'_>, state: &mut H)
-    ensures { state.new ≡ fold H.write state.old
-        (flat_map ⟦<Operation as Hash>⟧.hash_input operations.entry) }
-{
-    for operation in operations {
-        operation.hash(state);
-    }
-}
-
 impl PartialEq for Debug<'_> {
     ghost eq = { same_debug ⟦<Operation as PartialEq>⟧.eq };
 
@@ -74,8 +53,12 @@ impl Hash for Debug<'_> {
     fn hash<H: Hasher>(&self, state: &mut H) {
         self.line_start.hash(state);
         (self.names as usize).hash(state);
-        hash_names(self.parameter_names(), state);
+        for name in self.parameter_names() {
+            name.hash(state);
+        }
         (self.count as usize).hash(state);
-        hash_operations(self.operations(), state);
+        for operation in self.operations() {
+            operation.hash(state);
+        }
     }
 }

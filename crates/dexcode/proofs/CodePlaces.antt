@@ -1,5 +1,5 @@
 -- The numbers in a code item have places where all numbers have images.
-use Rattle.dexcode.proofs.Common.{◌≡◌, ℕ, ◌+◌, ◌<◌, ◌^◌, List, [], ◌++◌, length, Option, Some, None, option_to_list, refl, subst, arith, All, flat_map, IsSome, IfSome, All-nil, All-cons, All-append, Mentions, piece_symbols, debug_symbols, SymbolKind, count_of, MapsAll, Maps, image_of, AllMapTo, Use, IsMappedUse, uses_of, KeepOrder, MapsDown, NumberedDebug, FitsIndex, IsFormedOperation, IsFormedDebug, HasPlace, number_uses, operation_uses, debug_uses, name_of, type_of, signature_of, maps_within, all_of, all_prefix, all_map, Try, NumberedHandler, NumberedItem, DenotesCode, IsFormedHandler, AreStored, all_named, handlers_of, catch_use, handler_uses, tries_uses, item_uses, HasTypePlace, HasPlaces, HasImages, NumbersFit}
+use Rattle.dexcode.proofs.Common.{◌≡◌, ℕ, ◌+◌, ◌<◌, ◌^◌, List, [], ◌++◌, length, Option, Some, None, option_to_list, refl, subst, arith, All, flat_map, IsSome, IfSome, All-nil, All-cons, All-append, Mentions, piece_symbols, debug_symbols, SymbolKind, count_of, MapsAll, Maps, image_of, AllMapTo, Use, IsMappedUse, uses_of, KeepOrder, MapsDown, NumberedDebug, FitsIndex, IsFormedOperation, IsFormedDebug, HasPlace, number_uses, operation_uses, debug_uses, name_of, type_of, signature_of, maps_within, all_of, all_prefix, all_map, Try, NumberedHandler, NumberedTry, NumberedItem, ◌∙◌, DenotesCode, IsFormedHandler, AreStored, all_named, handlers_of, catch_use, handler_uses, tries_uses, item_uses, HasTypePlace, HasPlaces, HasImages, NumbersFit}
 use Rattle.dexspec.specs.Code as symbolic
 use Rattle.dexpool.specs.declared.symbols.SymbolKind.TheVariants as kinds
 use Rattle.dexinsn.specs.Numbered as pieces
@@ -124,5 +124,9 @@ code_joined r c greatest order fit is short all = record {
 handler_small : (h : NumberedHandler) → IsFormedHandler h → All (λ u. u.number < 2 ^ 32) (handler_uses h)
 handler_small h formed = all_map (λ c. c.typ < 2 ^ 32) (λ u. u.number < 2 ^ 32) catch_use h.catches (λ c small. small) formed.types_fit
 
-pub stored_small : (hs : List NumberedHandler) (ts : List Try) → AreStored hs ts → All (λ u. u.number < 2 ^ 32) (tries_uses (all_named hs ts))
+stored_small : (hs : List NumberedHandler) (ts : List Try) → AreStored hs ts → All (λ u. u.number < 2 ^ 32) (tries_uses (all_named hs ts))
 stored_small hs ts stored = subst (λ ks. All (λ u. u.number < 2 ^ 32) (flat_map handler_uses ks)) stored.used (all_flat IsFormedHandler (λ u. u.number < 2 ^ 32) handler_uses hs handler_small stored.formed)
+
+-- tries are those that are stored
+pub tries_small : (hs : List NumberedHandler) (ts : List Try) (all whole : List NumberedTry) → AreStored hs ts → all_named hs ts ≡ all → all ≡ whole → All (λ u. u.number < 2 ^ 32) (tries_uses whole)
+tries_small hs ts all whole stored named same = subst (λ ts. All (λ u. u.number < 2 ^ 32) (tries_uses ts)) (named ∙ same) (stored_small hs ts stored)

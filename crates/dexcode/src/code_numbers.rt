@@ -25,11 +25,12 @@ impl<'a> Code<'a> {
     /// Each number fits its place: it is below 2^16 in an instruction but for const-string/jumbo, below 2^32 for a type
     /// that is caught, and below 2^32 - 1 in the debug program. It does nothing: its contract states this of all code,
     /// for the proofs of callers.
+    #[tactic(auto, using(crate::proofs::CodePlaces::tries_small))]
     pub fn numbers_fit(&self)
         ensures { NumbersFit self.now }
     {
         self.pieces.numbers_fit();
-        self.tries().numbers_fit();
+        let (_tries, _handlers) = self.tries().parts();
         if let Some(debug) = self.debug() {
             debug.numbers_fit();
         }

@@ -1,6 +1,6 @@
 //! Numbers of types in tries, and what becomes of them.
 
-ghost use Rattle.std.specs.Prelude.{◌≡◌, ◌<◌, ◌^◌, ◌∷◌, [], All, map};
+ghost use Rattle.std.specs.Prelude.{◌≡◌, ◌∷◌, [], All, map};
 ghost use Rattle.dexcode.specs.Renumbering.{catch_use, handler_uses, tries_uses, HasTypePlace, renumbered_catch, renumbered_handler, renumbered_try};
 
 use crate::handlers::{Catch, Handler};
@@ -61,14 +61,5 @@ impl StoredTries {
     {
         remap.keeps_order();
         renumber_all(&mut self.handlers, remap);
-    }
-}
-
-impl Tries<'_> {
-    // The number of each type that is caught has 32 bits.
-    pub(crate) fn numbers_fit(&self)
-        ensures { All (λ u. u.number < 2 ^ 32) (tries_uses self.now) }
-    {
-        let (_tries, _handlers) = self.parts();
     }
 }

@@ -2,14 +2,11 @@
 use Rattle.std.proofs.lemmas.Simd.{map-map}
 use Rattle.std.specs.Bool.{Decides}
 use Rattle.std.specs.Cmp.{first_so, second_so}
-use Rattle.dexdebug.proofs.Common.{◌≡◌, ◌==◌, ◌&&◌, ◌↔◌, Bool, ℕ, ◌<◌, ◌≤◌, List, length, take, map, get_or, Option, option_eq, both, option_decides, refl, ap, sym, ◌∙◌, take_all, get_or-map, Maps, Operation, AdvancePc, image_or_none, name_of, type_of, signature_of, with_numbers, renumbered_operation, unindexed_of}
+use Rattle.dexdebug.proofs.Common.{◌≡◌, ◌==◌, ◌&&◌, ◌↔◌, Bool, ℕ, ◌<◌, List, length, map, get_or, Option, option_eq, both, option_decides, refl, ap, sym, ◌∙◌, get_or-map, Maps, Operation, AdvancePc, image_or_none, name_of, type_of, signature_of, with_numbers, renumbered_operation, unindexed_of}
 use Rattle.dexdebug.specs.internal.Same.{image_key}
 use Rattle.dexpool.specs.declared.symbols.SymbolKind.TheVariants as kinds
 
 -- ---- lists that are the same, mapped
-
-pub same_all : {X Y : Type 0} (f g : X → Y) (xs ys : List X) (i : ℕ) → length xs ≤ i → length ys ≤ i → map f (take i xs) ≡ map g (take i ys) → map f xs ≡ map g ys
-same_all f g xs ys i end end' h = ap (map f) (sym (take_all i xs end)) ∙ h ∙ ap (map g) (take_all i ys end')
 
 pub same_at : {X Y : Type 0} (f g : X → Y) (xs ys : List X) (i : ℕ) (d : X) → i < length xs → i < length ys → map f xs ≡ map g ys → f (get_or xs i d) ≡ g (get_or ys i d)
 same_at f g xs ys i d lt lt' e = sym (get_or-map f xs i d (f d) lt) ∙ ap (λ zs. get_or zs i (f d)) e ∙ get_or-map g ys i d (f d) lt'

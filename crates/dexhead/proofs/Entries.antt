@@ -1,10 +1,12 @@
 -- The entries of a map, one by one.
-use Rattle.dexhead.proofs.Common.{◌≡◌, ◌≢◌, ◌⊎◌, inl, inr, ◌↔◌, ℕ, zero, suc, ◌+◌, ◌-◌, ◌*◌, ◌<◌, ◌≤◌, List, [], ◌∷◌, ◌++◌, length, map, take, get_or, Bool, false, and_from, and_parts, IsTrue, All, refl, subst, sym, ap, ◌∙◌, arith, Contains, take_more, take_all, map-append, length-map, length-take-le, get_or-map, get_or-take, All-more, All-map, All-get_or, Contains-get_or, ushort_at, uint_at, table_size, StringIds, TypeIds, ProtoIds, FieldIds, MethodIds, ClassDefs, MapEntry, Section, HeaderItem, TableOf, MapList, TypeLists, AnnotationSetRefLists, AnnotationSets, ClassDataItems, CodeItems, StringDataItems, DebugInfoItems, AnnotationItems, EncodedArrayItems, AnnotationsDirectories, type_code, entries_at, IsKnown, IsPlaced, HasTable, HasMap, map_entries, entries, entry_of, IsCode, IsNext, AreInOrder, BeginsWithHeader, IsThere, HaveTables, AreRight, IsInPlace, range_with_len, get_or-range_with_len}
+use Rattle.dexhead.proofs.Common.{◌≡◌, ◌≢◌, ◌⊎◌, inl, inr, ◌↔◌, ℕ, zero, suc, ◌+◌, ◌-◌, ◌*◌, ◌<◌, ◌≤◌, List, [], ◌∷◌, ◌++◌, length, map, take, get_or, Bool, false, and_from, and_parts, IsTrue, All, refl, subst, sym, ap, ◌∙◌, arith, Contains, take_more, take_all, map-append, length-map, length-take-le, get_or-map, get_or-take, All-more, All-map, All-get_or, Contains-get_or, ushort_at, uint_at, table_size, StringIds, TypeIds, ProtoIds, FieldIds, MethodIds, ClassDefs, MapEntry, Section, HeaderItem, TableOf, MapList, TypeLists, AnnotationSetRefLists, AnnotationSets, ClassDataItems, CodeItems, StringDataItems, DebugInfoItems, AnnotationItems, EncodedArrayItems, AnnotationsDirectories, type_code, entries_at, IsKnown, IsPlaced, HasTable, HasMap, map_entries, entries, read, entry_of, IsCode, IsNext, AreInOrder, BeginsWithHeader, IsThere, HaveTables, AreRight, IsInPlace, range_with_len, get_or-range_with_len}
+use Rattle.std.specs.Prelude.{nat_lt}
 use Rattle.std.specs.Ordering.{nat_cmp, is_lt}
 use Rattle.std.proofs.lemmas.List.Quantifiers.{all_pairs_push}
 use Rattle.std.proofs.lemmas.Bool.Decides.{nat_tests}
 use Rattle.dexspec.specs.Lists.{rises, AreDistinct}
 use Rattle.dexspec.specs.Header as header
+use Rattle.dexhead.specs.declared.map.Entry.{Entry}
 use Rattle.dexhead.specs.declared.map.Map.{Map}
 
 abbrev none : MapEntry
@@ -41,6 +43,13 @@ entry_of-entries m i lt = entry_of-entries_at m.bytes.now m.from m.count i lt
 pub entry_is : {k k' s s' o o' : ℕ} → k ≡ k' → s ≡ s' → o ≡ o' → ◌≡◌ {A = MapEntry} (record { kind = k; size = s; off = o }) (record { kind = k'; size = s'; off = o' })
 entry_is p q r = cc
 
+-- entries that read the same are the same
+abbrev entry_again : MapEntry → Entry
+entry_again m = record { kind = m.kind; size = m.size; off = m.off }
+
+pub read_same : {d e : Entry} → read d ≡ read e → d ≡ e
+read_same p = ap entry_again p
+
 -- ---- type codes
 
 -- the section of a code among those of codes that follow one another
@@ -69,6 +78,10 @@ code_of _ = inr (inr (omega arith, omega arith))
 
 pub never : IsTrue false → ⊥
 never e = cc
+
+pub not_above : (n : ℕ) → n ≤ 0 → IsTrue (nat_lt 0 n) → ⊥
+not_above zero le x = never x
+not_above (suc n) le x = absurd (omega (arith, le))
 
 -- ---- lists that rise
 

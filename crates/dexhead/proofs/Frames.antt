@@ -1,6 +1,8 @@
 -- The first ten conditions, one after the other.
-use Rattle.dexhead.proofs.Common.{◌≡◌, ◌≢◌, inl, inr, ℕ, zero, suc, ◌+◌, ◌<◌, ◌≤◌, List, [], ◌∷◌, length, get_or, ◌*◌, refl, subst, sym, ap, ◌∙◌, arith, Table, StringIds, TypeIds, ProtoIds, FieldIds, MethodIds, ClassDefs, tables, table_size, table_off, row_size, data_off, HasChecksum, HasSignature, AreLaidOut, HasLayout, number, rows_checked, place, Holds, HoldBelow, IsFrame, IsRefused, Condition, cases_lt, IsEarly}
+use Rattle.dexhead.proofs.Common.{◌≡◌, ◌↔◌, ◌≢◌, IsTrue, inl, inr, ℕ, zero, suc, ◌+◌, ◌<◌, ◌≤◌, List, [], ◌∷◌, length, get_or, ◌*◌, refl, subst, sym, ap, ◌∙◌, arith, Table, StringIds, TypeIds, ProtoIds, FieldIds, MethodIds, ClassDefs, tables, table_size, table_off, row_size, data_off, HasChecksum, HasSignature, AreLaidOut, HasLayout, number, rows_checked, place, Holds, HoldBelow, IsFrame, IsRefused, Condition, cases_lt, IsEarly}
+use Rattle.std.specs.Prelude.{Bool, Result, Ok, Err, IsOk, OnOk, IfErr}
 use Rattle.dexspec.specs.Rows.{row_at}
+use Rattle.dexhead.proofs.Entries.{never}
 use Rattle.dexhead.specs.declared.refusal.Refusal.{Refusal}
 
 -- the condition of a number, for the first ten
@@ -44,6 +46,15 @@ refused c le one before fails = (c, 0, refl, refl, inl (omega arith, record { be
 
 pub early : {b : List ℕ} {r : Refusal} (c : Condition) → r ≡ record { number = number c; place = place c b 0 } → number c ≤ 10 → rows_checked c b ≡ 1 → HoldBelow (number c) b → (Holds c b 0 → ⊥) → IsEarly b r
 early {b = b} c e le one before fails = subst (IsEarly b) (sym e) (record { refused = refused c le one before fails; early = le })
+
+-- what follows from the answer of the last test
+pub if_accepted : (r : Result (Unit {0}) Refusal) {holds : Bool} {Q : Type 0} → (IsOk r ↔ IsTrue holds) → (IsTrue holds → Q) → OnOk r Q
+if_accepted (Ok _) ok f = f (ok.0 refl)
+if_accepted (Err _) ok f = tt
+
+pub if_refused : (r : Result (Unit {0}) Refusal) {holds : Bool} {at : Refusal} (R : Refusal → Type 0) → (IsOk r ↔ IsTrue holds) → IfErr r (λ x. x ≡ at) → ((x : Refusal) → x ≡ at → (IsTrue holds → ⊥) → R x) → IfErr r R
+if_refused (Ok _) R ok is f = tt
+if_refused (Err x) R ok is f = f x is (λ h. never (ok.1 h))
 
 -- ---- what a frame has
 

@@ -176,13 +176,9 @@ impl<T: Read> Source for Device<T> {
     }
 
     fn read(&mut self, buf: &mut [u8]) -> Result<usize, DeviceFault> {
-        match self.inner.read(buf) {
-            Ok(n) => Ok(n),
-            Err(_) => {
-                self.is_broken = true;
-                Err(DeviceFault)
-            }
-        }
+        let read = self.inner.read(buf);
+        self.is_broken = read.is_err();
+        read.map_err(|_| DeviceFault)
     }
 }
 
@@ -198,12 +194,8 @@ impl<T: Write> Sink for Device<T> {
     }
 
     fn write(&mut self, bytes: &[u8]) -> Result<usize, DeviceFault> {
-        match self.inner.write(bytes) {
-            Ok(n) if n > 0 => Ok(n),
-            _ => {
-                self.is_broken = true;
-                Err(DeviceFault)
-            }
-        }
+        let written = self.inner.write(bytes).unwrap_or(0);
+        self.is_broken = written == 0;
+        (written > 0).then_some(written).ok_or(DeviceFault)
     }
 }

@@ -15,6 +15,12 @@ use crate::tables::Table;
 use crate::{header, map};
 use std::marker::Model;
 
+/// The version, as a number.
+const VERSION: u32 = 35;
+
+/// The place of a refusal by a condition on the whole file.
+const WHOLE: u32 = 0;
+
 /// A file that meets conditions 1 to 10: its header, the layout of its tables and its map are in order.
 /// It borrows the bytes and copies none. Contracts see it as the list of the file's bytes.
 ///
@@ -166,16 +172,10 @@ fn check_start(bytes: &[u8]) -> Result<(), Refusal>
     ensures accepted { OnOk result (HoldBelow 4 bytes.now) }
     ensures refused { IfErr result (IsEarly bytes.now) }
 {
-    require(header::has_size(bytes), Condition::Size)?;
-    require(header::has_magic(bytes), Condition::Magic)?;
+    require(header::has_size(bytes), Condition::Size, WHOLE)?;
+    require(header::has_magic(bytes), Condition::Magic, WHOLE)?;
     let version = header::version(bytes);
-    if version != 35 {
-        return Err(Refusal {
-            number: Condition::Version as u8,
-            place: version,
-        });
-    }
-    Ok(())
+    require(version == VERSION, Condition::Version, version)
 }
 
 // Conditions 4 to 6: what the header says of itself.
@@ -184,10 +184,9 @@ fn check_fields(bytes: &[u8]) -> Result<(), Refusal>
     ensures accepted { OnOk result (HoldBelow 7 bytes.now) }
     ensures refused { IfErr result (IsEarly bytes.now) }
 {
-    require(header::has_lengths(bytes), Condition::Lengths)?;
-    require(header::has_endian(bytes), Condition::Endian)?;
-    require(header::has_no_link(bytes), Condition::Link)?;
-    Ok(())
+    require(header::has_lengths(bytes), Condition::Lengths, WHOLE)?;
+    require(header::has_endian(bytes), Condition::Endian, WHOLE)?;
+    require(header::has_no_link(bytes), Condition::Link, WHOLE)
 }
 
 // Conditions 7 and 8: the sums, of a file that meets those before.
@@ -196,9 +195,8 @@ fn check_sums(bytes: &[u8]) -> Result<(), Refusal>
     ensures accepted { OnOk result (HoldBelow 7 bytes.now → HoldBelow 9 bytes.now) }
     ensures refused { IfErr result (λ refusal. HoldBelow 7 bytes.now → IsEarly bytes.now refusal) }
 {
-    require(header::has_checksum(bytes), Condition::Checksum)?;
-    require(header::has_signature(bytes), Condition::Signature)?;
-    Ok(())
+    require(header::has_checksum(bytes), Condition::Checksum, WHOLE)?;
+    require(header::has_signature(bytes), Condition::Signature, WHOLE)
 }
 
 // Conditions 9 and 10, on the offsets of a file that meets those before.
@@ -207,22 +205,21 @@ fn check_places(bytes: &[u8]) -> Result<(), Refusal>
     ensures accepted { OnOk result (HoldBelow 9 bytes.now → IsFrame bytes.now) }
     ensures refused { IfErr result (λ refusal. HoldBelow 9 bytes.now → IsEarly bytes.now refusal) }
 {
-    require(header::has_layout(bytes), Condition::Layout)?;
-    require(map::has_map(bytes), Condition::Map)?;
-    Ok(())
+    require(header::has_layout(bytes), Condition::Layout, WHOLE)?;
+    require(map::has_map(bytes), Condition::Map, WHOLE)
 }
 
-// Refuses the whole file by a condition that does not hold.
-fn require(holds: bool, condition: Condition) -> Result<(), Refusal>
+// Refuses the file at a place by a condition that does not hold.
+fn require(holds: bool, condition: Condition, place: u32) -> Result<(), Refusal>
     ensures accepted { IsOk result ↔ IsTrue holds }
     ensures refused { IfErr result (λ refusal.
-        refusal ≡ record { number = number (condition_meant condition); place = 0 }) }
+        refusal ≡ record { number = number (condition_meant condition); place = place }) }
 {
     if holds {
         return Ok(());
     }
     Err(Refusal {
         number: condition.number(),
-        place: 0,
+        place,
     })
 }

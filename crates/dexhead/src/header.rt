@@ -172,12 +172,9 @@ fn end_of(bytes: &[u8], table: Table, from: u64) -> Option<u64>
 {
     let size = table_size(bytes, table);
     let off = table_off(bytes, table);
-    match size {
-        0 if off == 0 => Some(from),
-        0 => None,
-        _ if off % 4 == 0 && from <= u64::from(off) => {
-            Some(u64::from(off) + u64::from(table.row_size()) * u64::from(size))
-        }
-        _ => None,
+    if size == 0 {
+        return (off == 0).then_some(from);
     }
+    let end = u64::from(off) + u64::from(table.row_size()) * u64::from(size);
+    (off % 4 == 0 && from <= u64::from(off)).then_some(end)
 }

@@ -18,19 +18,11 @@ const HEADER_ITEM: u16 = 0x0000;
 const MAP_LIST: u16 = 0x1000;
 
 /// An entry as a file has it.
-#[derive(Clone, Copy)]
+#[derive(Clone, Copy, PartialEq)]
 struct Entry {
     kind: u16,
     size: u32,
     off: u32,
-}
-
-impl Entry {
-    fn is(self, other: Entry) -> bool
-        ensures { IsTrue result ↔ (read self ≡ read other) }
-    {
-        self.kind == other.kind && self.size == other.size && self.off == other.off
-    }
 }
 
 /// The entries of a map, which are there.
@@ -110,7 +102,7 @@ impl<'a> Map<'a> {
         ensures { IsTrue result ↔ Contains (entries self.now) (read entry) }
     {
         for i in 0..self.count {
-            if self.entry(i).is(entry) {
+            if self.entry(i) == entry {
                 return true;
             }
         }
@@ -161,10 +153,7 @@ impl<'a> Map<'a> {
             size: 1,
             off: 0,
         };
-        if self.count == 0 {
-            return false;
-        }
-        self.entry(0).is(header)
+        self.count > 0 && self.entry(0) == header
     }
 
     fn has_tables(&self) -> bool

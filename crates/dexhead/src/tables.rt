@@ -10,13 +10,18 @@ ghost use Rattle.dexhead.specs.Tables.{meant};
 /// Source: "Dalvik Executable format", "File layout".
 #[derive(Clone, Copy, Debug, PartialEq, Eq)]
 pub enum Table {
-    StringIds,
-    TypeIds,
-    ProtoIds,
-    FieldIds,
-    MethodIds,
-    ClassDefs,
+    StringIds = 0x0001,
+    TypeIds = 0x0002,
+    ProtoIds = 0x0003,
+    FieldIds = 0x0004,
+    MethodIds = 0x0005,
+    ClassDefs = 0x0006,
 }
+
+// The bytes for the size and the offset of a table in the header, and where they would be for a table of number 0.
+const PLACE_SIZE: usize = 8;
+
+const PLACES: usize = 48;
 
 impl Table {
     // The bytes of a row.
@@ -35,27 +40,13 @@ impl Table {
     pub(crate) fn code(self) -> u16
         ensures { result ≡ type_code (TableOf (meant self)) }
     {
-        match self {
-            Table::StringIds => 0x0001,
-            Table::TypeIds => 0x0002,
-            Table::ProtoIds => 0x0003,
-            Table::FieldIds => 0x0004,
-            Table::MethodIds => 0x0005,
-            Table::ClassDefs => 0x0006,
-        }
+        self as u16
     }
 
     // Where the header has the number of rows, and four bytes on the offset of the first.
     pub(crate) fn size_place(self) -> usize
         ensures { result ≡ size_place (meant self) }
     {
-        match self {
-            Table::StringIds => 56,
-            Table::TypeIds => 64,
-            Table::ProtoIds => 72,
-            Table::FieldIds => 80,
-            Table::MethodIds => 88,
-            Table::ClassDefs => 96,
-        }
+        PLACES + PLACE_SIZE * self as usize
     }
 }

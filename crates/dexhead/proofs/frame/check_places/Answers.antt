@@ -1,7 +1,7 @@
 use Rattle.std.proofs.lemmas.Result.{err_from_is_err_and}
 use Rattle.dexhead.proofs.Common.{Condition, arith, refl}
 use Rattle.dexhead.proofs.Entries.{never}
-use Rattle.dexhead.proofs.Frames.{early, then_holds}
+use Rattle.dexhead.proofs.Frames.{early, then_holds, if_accepted, if_refused}
 use Rattle.dexhead.proofs.frame.check_places.Goals as goal
 
 pub returns-in_err-require-clause-refused : goal.returns-in_err-require-clause-refused
@@ -9,10 +9,8 @@ returns-in_err-require-clause-refused c =
     let p = err_from_is_err_and c.from_residual.result c.from_residual.ensures.1 in
     rw (p.1, p.2) (λ before. early Condition.Layout c.in_err-require.ensures.refused (omega arith) refl before (λ h. never (c.in_err-require.ensures.accepted.1 (c.has_layout.ensures.1 h))))
 
-pub returns-in_err-require-2-clause-refused : goal.returns-in_err-require-2-clause-refused
-returns-in_err-require-2-clause-refused c =
-    let p = err_from_is_err_and c.from_residual-in_err-require-2.result c.from_residual-in_err-require-2.ensures.1 in
-    rw (p.1, p.2) (λ before. early Condition.Map c.in_err-require-2.ensures.refused (omega arith) refl (then_holds Condition.Layout (omega arith) refl before (c.has_layout.ensures.0 (c.in_ok-require.ensures.accepted.0 refl))) (λ h. never (c.in_err-require-2.ensures.accepted.1 (c.has_map.ensures.1 h))))
+pub returns-clause-refused : goal.returns-clause-refused
+returns-clause-refused c = if_refused _ _ c.require-2.ensures.accepted c.require-2.ensures.refused (λ x is no before. early Condition.Map is (omega arith) refl (then_holds Condition.Layout (omega arith) refl before (c.has_layout.ensures.0 (c.in_ok-require.ensures.accepted.0 refl))) (λ h. no (c.has_map.ensures.1 h)))
 
 pub returns-clause-accepted : goal.returns-clause-accepted
-returns-clause-accepted c = λ before. then_holds Condition.Map (omega arith) refl (then_holds Condition.Layout (omega arith) refl before (c.has_layout.ensures.0 (c.in_ok-require.ensures.accepted.0 refl))) (c.has_map.ensures.0 (c.in_ok-require-2.ensures.accepted.0 refl))
+returns-clause-accepted c = if_accepted _ c.require-2.ensures.accepted (λ h before. then_holds Condition.Map (omega arith) refl (then_holds Condition.Layout (omega arith) refl before (c.has_layout.ensures.0 (c.in_ok-require.ensures.accepted.0 refl))) (c.has_map.ensures.0 h))

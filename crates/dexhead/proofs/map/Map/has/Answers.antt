@@ -1,14 +1,17 @@
-use Rattle.dexhead.proofs.Common.{◌≢◌, arith, refl, subst, sym, ◌∙◌, All, take_all, All-contains, All-more, MapEntry, entries, read}
-use Rattle.dexhead.proofs.Entries.{length-entries, never, found}
+use Rattle.dexhead.proofs.Common.{◌≡◌, ◌≢◌, ap, rules, arith, refl, subst, sym, ◌∙◌, All, take_all, All-contains, All-more, MapEntry, entries, read}
+use Rattle.dexhead.proofs.Entries.{length-entries, never, found, read_same}
 use Rattle.dexhead.proofs.map.Map.has.Goals as goal
 
-pub returns-then-is : goal.returns-then-is
-returns-then-is c = (λ x. found (entries c.args.self.now) (read c.args.entry) c.loop-i.i (omega (arith, length-entries c.args.self.now)) (sym c.entry.ensures ∙ c.if-is.ensures.0 refl), λ h. refl)
+pub returns-then-eq : goal.returns-then-eq
+returns-then-eq c =
+    let same : c.entry.result ≡ c.args.entry = search rules in
+    (λ x. found (entries c.args.self.now) (read c.args.entry) c.loop-i.i (omega (arith, length-entries c.args.self.now)) (sym c.entry.ensures ∙ ap read same), λ h. refl)
 
 pub loop-i-preserved : goal.loop-i-preserved
 loop-i-preserved c =
+    let other : c.entry.result ≢ c.args.entry = search rules in
     All-more (λ (x : MapEntry). x ≢ read c.args.entry) (entries c.args.self.now) c.loop-i.i (record { kind = 0; size = 0; off = 0 }) (omega (arith, length-entries c.args.self.now)) c.loop-i.invariant
-    (λ same. never (c.if-is.ensures.1 (c.entry.ensures ∙ same)))
+    (λ same. other (read_same (c.entry.ensures ∙ same)))
 
 pub returns : goal.returns
 returns c = (

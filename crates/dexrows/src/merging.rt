@@ -33,21 +33,18 @@ pub(crate) fn merge<R: Row>(alloc: Global, left: &[R], right: &[R]) -> Result<Me
         left_places: Vec::with_capacity(alloc, left.len())?,
         right_places: Vec::with_capacity(alloc, right.len())?,
     };
-    while let Some(order) = next_order(
-        left,
-        merged.left_places.len(),
-        right,
-        merged.right_places.len(),
-    ) {
+    while let Some(order) = next_order(&merged, left, right) {
         take_next(&mut merged, left, right, order)?;
     }
     Ok(merged)
 }
 
 /// How the next rows of both compare, or which of the two has one: `Less` where it is the left one.
-fn next_order<R: Row>(left: &[R], i: usize, right: &[R], j: usize) -> Option<Ordering>
-    ensures { FindsNext R.key_of left.now i right.now j result }
+fn next_order<R: Row>(merged: &Merged<R>, left: &[R], right: &[R]) -> Option<Ordering>
+    ensures { FindsNext R.key_of left.now (length merged.now.left_places.items)
+        right.now (length merged.now.right_places.items) result }
 {
+    let (i, j) = (merged.left_places.len(), merged.right_places.len());
     match (left.get(i), right.get(j)) {
         (Some(row), Some(other)) => Some(row.compare(other)),
         (Some(_), None) => Some(Ordering::Less),

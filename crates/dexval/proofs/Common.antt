@@ -36,7 +36,7 @@ pub use Rattle.dexval.specs.Checking.{HasAnnotation, HasArray, HasElement, HasEl
 pub use Rattle.dexval.specs.Code.{annotation_of, annotation_step, element_of, element_step, elements_of, encoded_elements, encoded_of, encoded_type, set_of, value_of, value_step, values_of, visibility_of}
 pub use Rattle.dexval.specs.Directories.{ArePairsAt, HasMembers, HasPair, IsIndexBelow, IsRefListAt, IsSetOrEmptyAt, NoDirectoryAt, NoPairsAt, NoRefListAt, NoSetOrEmptyAt, directory_weight, set_weight_in, sets_weight_in}
 pub use Rattle.dexval.specs.DirectoryCache.{AreCached, AreHeld, HaveOffsets, IsNamedOf, IsNoted}
-pub use Rattle.dexval.specs.Equality.{annotation_input, elements_input, encoded_input, equal_sets, set_decides, value_input, values_input}
+pub use Rattle.dexval.specs.Equality.{annotation_input, elements_input, equal_sets, set_decides, value_input, values_input}
 pub use Rattle.dexval.specs.Items.{HasOffsets, IsItemAt, IsRefusal, NoItemAt, NoSetAt, Refuses}
 pub use Rattle.dexval.specs.Nesting.{AreElementsReadAt, AreReadAt, HasPools, IsAnnotationReadAt, IsElementReadAt, NoAnnotationAt, NoArrayAt, NoElementAt, NoElementsAt}
 pub use Rattle.dexval.specs.Numbered.{Annotated, AreKnown, Array, BooleanLiteral, ByteLiteral, CharLiteral, Denote, Denotes, DenotesAnnotation, DenotesSet, DoubleLiteral, EnumReference, FieldReference, FloatLiteral, HaveKnown, IntLiteral, IsKnown, IsKnownAnnotation, IsKnownSet, Literal, LongLiteral, MethodReference, Named, NoElement, NoValue, NullLiteral, NumberedAnnotation, NumberedDirectory, NumberedElements, NumberedSet, NumberedValue, NumberedValues, Plain, Reference, ShortLiteral, StringReference, ThenNamed, ThenNext, TypeReference, annotation_in, directory_in, elements_in, elements_of_list, field_at, kind_of_reference, method_at, named_value, plain_value, set_in, text_at, type_at, value_in, values_in, values_of_list}

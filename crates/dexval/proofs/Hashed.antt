@@ -1,9 +1,11 @@
 -- The hash input of values and annotations, member by member.
-use Rattle.dexval.proofs.Common.{◌≡◌, ℕ, ◌+◌, ◌<◌, ◌≤◌, List, [], ◌∷◌, ◌++◌, get_or, length, take, map, fold, refl, sym, ap, ◌∙◌, append_assoc, take_all, take_more, append-nil, length-map, flat_map-append, flat_map, Box, Vec, Annotation, Value, Element, EncodedAnnotation, out-EncodedAnnotation, value_of, element_of, elements_of, encoded_of, encoded_type, encoded_elements, annotation_of, value_input, values_input, elements_input, encoded_input, annotation_input, NumberedValue, Array, values_of_list, elements_of_list}
+use Rattle.dexval.proofs.Common.{ℤ, pos, Maps, NumberedValues, NumberedElements, Plain, Named, Annotated, renumbered, head_of, held_values, held_elements, ◌≡◌, ℕ, ◌+◌, ◌<◌, ◌≤◌, List, [], ◌∷◌, ◌++◌, get_or, length, take, map, fold, refl, sym, ap, ◌∙◌, append_assoc, take_all, take_more, append-nil, length-map, flat_map-append, flat_map, Annotation, Value, Element, value_of, element_of, elements_of, annotation_of, value_input, values_input, elements_input, annotation_input, NumberedValue, Array, values_of_list, elements_of_list}
 use Rattle.std.proofs.lemmas.List.Folds.{flat_map-map}
 use Rattle.std.specs.Hash as fed
-use Rattle.dexval.specs.declared.value.Value.TheVariants as variants
-use Rattle.dexval.proofs.Members.{element_is, array_is, annotation_is, count_values_is, count_elements_is}
+use Rattle.dexval.specs.Equality.{head_input}
+use Rattle.dexval.specs.internal.Heads.{no_images}
+use Rattle.dexval.proofs.Unmoved.{value_stays}
+use Rattle.dexval.proofs.Members.{element_is}
 
 -- ---- lists, member by member
 
@@ -51,26 +53,17 @@ module _ {S X : Type 0} (write : S → List ℕ → S) (feed : X → fed.HashWri
   pub fed_all : (xs : List X) (i : ℕ) (s t : S) → length xs ≤ i → t ≡ fold write s (first ++ flat_map feed (take i xs)) → t ≡ fold write s (first ++ flat_map feed xs)
   fed_all xs i s t end p = p ∙ ap (λ (l : List X). fold write s (first ++ flat_map feed l)) (take_all i xs end)
 
--- ---- steps
+-- ---- a value, part by part
 
-module _ {S : Type 0} (write : S → List ℕ → S) where
-  -- an array, after its type code and its length
-  pub array_whole : (v : Value) (values : Box (Vec Value)) (n : ℕ) {xs : List Value} (s t u : S) → v ≡ variants.Array values → xs ≡ values.value.items → n ≡ length xs → t ≡ fold write s (fed.u8 0x1c ++ fed.usize n) → u ≡ fold write t (values_fed xs) → u ≡ fold write s (value_input (value_of v))
-  array_whole v values n {xs} s t u e same size p q =
-      fed.fed_along write s u
-      (ap (λ (k : ℕ). fed.u8 0x1c ++ (fed.usize k ++ values_fed xs)) (size ∙ sym (count_values_is xs)) ∙ ap (λ (l : List Value). value_input (Array (values_of_list (map value_of l)))) same ∙ ap value_input (sym (ap value_of e ∙ array_is values)))
-      (fed.fed_then write s t u (fed.u8 0x1c ++ fed.usize n) (values_fed xs) p q)
+input_parts : (x : NumberedValue) → head_input (head_of x) ++ (values_input (held_values x) ++ elements_input (held_elements x)) ≡ value_input x
+input_parts (Plain literal) = refl
+input_parts (Named reference i) = refl
+input_parts (Array xs) = ap (λ (l : fed.HashWrites). head_input (0x1c, pos 0) ++ l) (append-nil (values_input xs))
+input_parts (Annotated t es) = refl
 
-  -- an annotation, after its type code
-  pub annotation_whole : (v : Value) (annotation : Box EncodedAnnotation) {a : EncodedAnnotation} (s t u : S) → v ≡ variants.Annotation annotation → a ≡ annotation.value → t ≡ fold write s (fed.u8 0x1d) → u ≡ fold write t (encoded_input (encoded_type a) (encoded_elements a)) → u ≡ fold write s (value_input (value_of v))
-  annotation_whole v annotation {a} s t u e same p q =
-      fed.fed_along write s u (ap (λ (x : EncodedAnnotation). value_input (encoded_of x)) same ∙ ap value_input (sym (ap value_of e ∙ annotation_is annotation)))
-      (fed.fed_then write s t u (fed.u8 0x1d) (encoded_input (encoded_type a) (encoded_elements a)) p q)
-
-  -- an encoded_annotation, part by part
-  pub encoded_parts : (a : EncodedAnnotation) (n : ℕ) {xs : List Element} (s t m u : S) → xs ≡ (out-EncodedAnnotation a).elements.items → n ≡ length xs
-      → t ≡ fold write s (fed.u32 (encoded_type a)) → m ≡ fold write t (fed.usize n) → u ≡ fold write m (elements_fed xs) → u ≡ fold write s (encoded_input (encoded_type a) (encoded_elements a))
-  encoded_parts a n {xs} s t m u same size p q r =
-      fed.fed_along write s u
-      (ap (λ (c : ℕ). fed.u32 (encoded_type a) ++ (fed.usize c ++ elements_fed xs)) (size ∙ sym (count_elements_is xs)) ∙ ap (λ (l : List Element). encoded_input (encoded_type a) (elements_of l)) same)
-      (fed.fed_then write s t u (fed.u32 (encoded_type a)) (fed.usize n ++ elements_fed xs) p (fed.fed_then write t m u (fed.usize n) (elements_fed xs) q r))
+pub value_whole : {S : Type 0} (write : S → List ℕ → S) (x : NumberedValue) (r : Maps) (h : ℕ × ℤ) (xs : NumberedValues) (es : NumberedElements) (s t m u : S) → r ≡ no_images → h ≡ head_of (renumbered r x) → xs ≡ held_values x → es ≡ held_elements x
+    → t ≡ fold write s (head_input h) → m ≡ fold write t (values_input xs) → u ≡ fold write m (elements_input es) → u ≡ fold write s (value_input x)
+value_whole write x r h xs es s t m u none head values elements p q k =
+    let same : h ≡ head_of x = head ∙ ap (λ (r : Maps). head_of (renumbered r x)) none ∙ ap head_of (value_stays x) in
+    fed.fed_along write s u ((λ i. head_input (same i) ++ (values_input (values i) ++ elements_input (elements i))) ∙ input_parts x)
+    (fed.fed_then write s t u (head_input h) (values_input xs ++ elements_input es) p (fed.fed_then write t m u (values_input xs) (elements_input es) q k))

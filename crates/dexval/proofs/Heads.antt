@@ -1,36 +1,42 @@
 -- A value is determined by its head and its contents.
-use Rattle.dexval.proofs.Common.{◌≡◌, ◌+◌, ◌<◌, refl, ap, sym, ◌∙◌, arith, Maps, head_of, held_values, held_elements, NumberedValue, NumberedValues, NumberedElements, Plain, Named, Array, Annotated, ByteLiteral, ShortLiteral, CharLiteral, IntLiteral, LongLiteral, FloatLiteral, DoubleLiteral, NullLiteral, BooleanLiteral, StringReference, TypeReference, FieldReference, MethodReference, EnumReference, renumbered, renumbered_values, renumbered_elements, numbered_weight, numbered_values_weight, numbered_elements_weight}
-use Rattle.dexval.specs.declared.same.Head.{Head}
-use Rattle.dexval.specs.declared.same.Head.TheVariants as heads
+use Rattle.dexval.proofs.Common.{◌≡◌, ℕ, ℤ, pos, negsuc, true, false, ◌+◌, ◌<◌, refl, ap, sym, ◌∙◌, arith, Maps, head_of, held_values, held_elements, NumberedValue, NumberedValues, NumberedElements, Plain, Named, Array, Annotated, ByteLiteral, ShortLiteral, CharLiteral, IntLiteral, LongLiteral, FloatLiteral, DoubleLiteral, NullLiteral, BooleanLiteral, StringReference, TypeReference, FieldReference, MethodReference, EnumReference, renumbered, renumbered_values, renumbered_elements, numbered_weight, numbered_values_weight, numbered_elements_weight}
+use Rattle.std.specs.Prelude.{◌==◌, if◌then◌else◌}
 
--- a value made of both
-abbrev made : Head → NumberedValues → NumberedElements → NumberedValue
-made (heads.Byte z) xs es = Plain (ByteLiteral z)
-made (heads.Short z) xs es = Plain (ShortLiteral z)
-made (heads.Char u) xs es = Plain (CharLiteral u)
-made (heads.Int z) xs es = Plain (IntLiteral z)
-made (heads.Long z) xs es = Plain (LongLiteral z)
-made (heads.Float bits) xs es = Plain (FloatLiteral bits)
-made (heads.Double bits) xs es = Plain (DoubleLiteral bits)
-made (heads.String i) xs es = Named StringReference i
-made (heads.Typ i) xs es = Named TypeReference i
-made (heads.Field i) xs es = Named FieldReference i
-made (heads.Method i) xs es = Named MethodReference i
-made (heads.Enum i) xs es = Named EnumReference i
-made heads.Array xs es = Array xs
-made (heads.Annotation t) xs es = Annotated t es
-made heads.Null xs es = Plain NullLiteral
-made (heads.Boolean is) xs es = Plain (BooleanLiteral is)
+abbrev natural : ℤ → ℕ
+natural (pos n) = n
+natural (negsuc n) = 0
+
+-- the value of a type code and a number, and of contents
+abbrev made : ℕ × ℤ → NumberedValues → NumberedElements → NumberedValue
+made (code, z) xs es =
+    if code == 0x00 then Plain (ByteLiteral z)
+    else if code == 0x02 then Plain (ShortLiteral z)
+    else if code == 0x03 then Plain (CharLiteral (natural z))
+    else if code == 0x04 then Plain (IntLiteral z)
+    else if code == 0x06 then Plain (LongLiteral z)
+    else if code == 0x10 then Plain (FloatLiteral (natural z))
+    else if code == 0x11 then Plain (DoubleLiteral (natural z))
+    else if code == 0x17 then Named StringReference (natural z)
+    else if code == 0x18 then Named TypeReference (natural z)
+    else if code == 0x19 then Named FieldReference (natural z)
+    else if code == 0x1a then Named MethodReference (natural z)
+    else if code == 0x1b then Named EnumReference (natural z)
+    else if code == 0x1c then Array xs
+    else if code == 0x1d then Annotated (natural z) es
+    else if code == 0x1e then Plain NullLiteral
+    else Plain (BooleanLiteral (natural z == 1))
 
 made_again : (x : NumberedValue) → made (head_of x) (held_values x) (held_elements x) ≡ x
-made_again (Plain (ByteLiteral z)) = refl
+made_again (Plain (BooleanLiteral true)) = refl
+made_again (Plain (BooleanLiteral false)) = refl
+made_again (Plain literal) = refl
 made_again (Named StringReference i) = refl
 made_again x = refl
 
 -- values with equal heads and equal contents are equal
 same_parts : (x y : NumberedValue) → head_of x ≡ head_of y → held_values x ≡ held_values y → held_elements x ≡ held_elements y → x ≡ y
 same_parts x y h v e =
-    sym (made_again x) ∙ ap (λ (k : Head). made k (held_values x) (held_elements x)) h ∙ ap (λ (xs : NumberedValues). made (head_of y) xs (held_elements x)) v ∙ ap (made (head_of y) (held_values y)) e ∙ made_again y
+    sym (made_again x) ∙ ap (λ (k : ℕ × ℤ). made k (held_values x) (held_elements x)) h ∙ ap (λ (xs : NumberedValues). made (head_of y) xs (held_elements x)) v ∙ ap (made (head_of y) (held_values y)) e ∙ made_again y
 
 -- ---- the contents of a value, remapped
 

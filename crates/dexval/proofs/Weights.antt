@@ -40,10 +40,10 @@ pub set_weight_is : (m : Mentions) (xs : NumberedSet) → numbered_set_weight xs
 set_weight_is m [] = refl
 set_weight_is m (x ∷ xs) = ap (λ (n : ℕ). 8 + n) (sum_is m (x ∷ xs))
 
-sets_sum_is : (m : Mentions) (xs : List AnnotationSet) → sum_by (λ s. 4 + numbered_set_weight (set_of s)) xs ≡ 4 * length (map (set_in m) (map set_of xs)) + sum_by set_weight (map (set_in m) (map set_of xs))
+sets_sum_is : (m : Mentions) (xs : List AnnotationSet) → sum_by (λ s. 4 + set_weight (set_in m (set_of s))) xs ≡ 4 * length (map (set_in m) (map set_of xs)) + sum_by set_weight (map (set_in m) (map set_of xs))
 sets_sum_is m [] = refl
 sets_sum_is m (x ∷ xs) =
-    omega (arith, sum_by-cons (λ s. 4 + numbered_set_weight (set_of s)) x xs, sum_by-cons set_weight (set_in m (set_of x)) (map (set_in m) (map set_of xs)), set_weight_is m (set_of x), sets_sum_is m xs)
+    omega (arith, sum_by-cons (λ s. 4 + set_weight (set_in m (set_of s))) x xs, sum_by-cons set_weight (set_in m (set_of x)) (map (set_in m) (map set_of xs)), sets_sum_is m xs)
 
 -- static values, at least one
 pub statics_weight_is : (m : Mentions) (xs : List Value) → 0 < length xs → 6 + numbered_values_weight (values_of_list (map value_of xs)) ≡ static_values_weight (values_in m (values_of_list (map value_of xs)))
@@ -63,7 +63,7 @@ annotations_weigh [] weight none some = omega (arith, none refl)
 annotations_weigh (x ∷ xs) weight none some = some (omega arith) ∙ ap (λ (n : ℕ). min (2 ^ 64 - 1) (8 + n)) (annotations_sum (x ∷ xs))
 
 -- the weight of a list of sets, by its sets
-pub sets_weigh : (m : Mentions) (xs : List AnnotationSet) (weight : ℕ) → (length xs ≡ 0 → weight ≡ 0) → (0 < length xs → weight ≡ min (2 ^ 64 - 1) (8 + sum_by (λ s. 4 + numbered_set_weight (set_of s)) xs)) → weight ≡ min (2 ^ 64 - 1) (weight_of_sets m xs)
+pub sets_weigh : (m : Mentions) (xs : List AnnotationSet) (weight : ℕ) → (length xs ≡ 0 → weight ≡ 0) → (0 < length xs → weight ≡ min (2 ^ 64 - 1) (8 + sum_by (λ s. 4 + set_weight (set_in m (set_of s))) xs)) → weight ≡ min (2 ^ 64 - 1) (weight_of_sets m xs)
 sets_weigh m [] weight none some = omega (arith, none refl)
 sets_weigh m (x ∷ xs) weight none some = omega (arith, some (omega arith), sets_sum_is m (x ∷ xs))
 

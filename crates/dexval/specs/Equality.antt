@@ -1,5 +1,5 @@
 -- Sets of annotations that are the same are equal by `==`, and have equal hash input.
-use Rattle.std.specs.Prelude.{◌≡◌, ◌↔◌, ℕ, ◌==◌, ◌&&◌, ◌++◌, Bool, true, false, IsTrue, []}
+use Rattle.std.specs.Prelude.{◌≡◌, ◌↔◌, ℕ, ℤ, pos, ◌==◌, ◌&&◌, ◌++◌, Bool, true, false, IsTrue, []}
 use Rattle.std.proofs.Common.{refl, ap, ◌∙◌, subst}
 use Rattle.std.specs.Bool.{Decides}
 use Rattle.std.specs.Cmp.{IsEquivalence, decided, on_equiv, unsigned_Decides, first_so, second_so}
@@ -8,9 +8,9 @@ use Rattle.std.specs.Hash as fed
 use base.Stored.{Gv, gnil, gnum, gcons}
 use Rattle.dexval.specs.declared.set.AnnotationSet.{AnnotationSet}
 use Rattle.dexval.specs.Code.{set_of}
-use Rattle.dexval.specs.Numbered.{Literal, ByteLiteral, ShortLiteral, CharLiteral, IntLiteral, LongLiteral, FloatLiteral, DoubleLiteral, NullLiteral, BooleanLiteral, NumberedValue, NumberedValues, NumberedElements, NumberedAnnotation, NumberedSet, Plain, Named, Array, Annotated, NoValue, ThenNext, NoElement, ThenNamed}
+use Rattle.dexval.specs.Numbered.{NumberedValue, NumberedValues, NumberedElements, NumberedAnnotation, NumberedSet, Plain, Named, Array, Annotated, NoValue, ThenNext, NoElement, ThenNamed}
+use Rattle.dexval.specs.internal.Heads.{literal_head}
 use Rattle.dexval.specs.internal.Scalars.{code_of_reference}
-use Rattle.dexval.specs.Spelled.{values_count, elements_count}
 use Rattle.dexval.specs.Stored.{elements_code}
 
 -- ---- whether two are the same
@@ -70,25 +70,17 @@ equal_sets_equiv = on_equiv set_of (decided same_set set_decides)
 
 -- ---- hash input
 
--- a literal: its type code and its number
-abbrev pub literal_input : Literal → fed.HashWrites
-literal_input (ByteLiteral z) = fed.u8 0x00 ++ fed.i8 z
-literal_input (ShortLiteral z) = fed.u8 0x02 ++ fed.i16 z
-literal_input (CharLiteral u) = fed.u8 0x03 ++ fed.u16 u
-literal_input (IntLiteral z) = fed.u8 0x04 ++ fed.i32 z
-literal_input (LongLiteral z) = fed.u8 0x06 ++ fed.i64 z
-literal_input (FloatLiteral bits) = fed.u8 0x10 ++ fed.u32 bits
-literal_input (DoubleLiteral bits) = fed.u8 0x11 ++ fed.u64 bits
-literal_input NullLiteral = fed.u8 0x1e
-literal_input (BooleanLiteral is) = fed.u8 0x1f ++ fed.bool is
+-- the head of a value: its type code and its number
+abbrev pub head_input : ℕ × ℤ → fed.HashWrites
+head_input h = fed.u8 h.0 ++ fed.i128 h.1
 
 abbrev mutual
-  -- a value: its type code, and its number or its contents
+  -- a value: its head, and then its contents
   pub value_input : NumberedValue → fed.HashWrites
-  value_input (Plain l) = literal_input l
-  value_input (Named k i) = fed.u8 (code_of_reference k) ++ fed.u32 i
-  value_input (Array xs) = fed.u8 0x1c ++ (fed.usize (values_count xs) ++ values_input xs)
-  value_input (Annotated t es) = fed.u8 0x1d ++ (fed.u32 t ++ (fed.usize (elements_count es) ++ elements_input es))
+  value_input (Plain l) = head_input (literal_head l)
+  value_input (Named k i) = head_input (code_of_reference k, pos i)
+  value_input (Array xs) = head_input (0x1c, pos 0) ++ values_input xs
+  value_input (Annotated t es) = head_input (0x1d, pos t) ++ elements_input es
 
   -- values
   pub values_input : NumberedValues → fed.HashWrites
@@ -100,13 +92,9 @@ abbrev mutual
   elements_input NoElement = []
   elements_input (ThenNamed name x es) = (fed.u32 name ++ value_input x) ++ elements_input es
 
--- an encoded_annotation: its type, and the number of its elements before them
-abbrev pub encoded_input : ℕ → NumberedElements → fed.HashWrites
-encoded_input t es = fed.u32 t ++ (fed.usize (elements_count es) ++ elements_input es)
-
--- an annotation
+-- an annotation: its visibility, its type and its elements
 abbrev pub annotation_input : NumberedAnnotation → fed.HashWrites
-annotation_input a = fed.u8 a.visibility ++ encoded_input a.type a.elements
+annotation_input a = fed.u8 a.visibility ++ (fed.u32 a.type ++ elements_input a.elements)
 
 -- a set
 abbrev pub set_input : AnnotationSet → fed.HashWrites

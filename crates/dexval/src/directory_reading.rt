@@ -113,9 +113,7 @@ impl File<'_> {
             parameters,
         })
     }
-}
 
-impl File<'_> {
     // The members of these pairs, by their numbers, with the place of the item of each, which is counted. Error: the
     // pairs are not there, or their items are too heavy.
     fn members_at<T: OfMember>(

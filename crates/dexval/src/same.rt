@@ -8,7 +8,7 @@ ghost use Rattle.dexval.specs.Code.{value_of, element_of};
 ghost use Rattle.dexval.specs.internal.Heads.{head_of, held_values, held_elements, mapped_head};
 ghost use Rattle.dexval.specs.Numbered.{values_of_list, elements_of_list};
 
-use crate::{Annotation, AnnotationSet, Element, Value};
+use crate::{Annotation, AnnotationSet, Element, Value, type_codes as codes};
 use dexpool::{Remap, SymbolKind};
 
 /// The number that a number maps to; a number without an image is unchanged.
@@ -71,10 +71,8 @@ impl Value {
         if !eq_heads(self, mine, other, theirs) {
             return false;
         }
-        if !same_values_mapped(self.held_values(), mine, other.held_values(), theirs) {
-            return false;
-        }
-        same_elements(mine, self.held_elements(), theirs, other.held_elements())
+        same_values_mapped(self.held_values(), mine, other.held_values(), theirs)
+            && same_elements(mine, self.held_elements(), theirs, other.held_elements())
     }
 }
 
@@ -121,61 +119,45 @@ impl AnnotationSet {
     }
 }
 
-/// A value without the values that it holds. The number of a symbol is remapped.
-#[derive(Drop, PartialEq, Eq)]
-pub(crate) enum Head {
-    Null,
-    Boolean(bool),
-    Byte(i8),
-    Char(u16),
-    Short(i16),
-    Int(i32),
-    Float(u32),
-    Long(i64),
-    Double(u64),
-    String(usize),
-    Typ(usize),
-    Field(usize),
-    Enum(usize),
-    Method(usize),
-    Array,
-    Annotation(usize),
-}
-
-impl Head {
-    // The head of the value, its number remapped. A number without an image is unchanged.
-    fn of(value: &Value, remap: &Remap) -> Head
-        ensures { result ≡ head_of (renumbered remap.now (value_of value.now)) }
-    {
-        match value {
-            Value::Byte(number) => Head::Byte(*number),
-            Value::Short(number) => Head::Short(*number),
-            Value::Char(unit) => Head::Char(*unit),
-            Value::Int(number) => Head::Int(*number),
-            Value::Long(number) => Head::Long(*number),
-            Value::Float(bits) => Head::Float(*bits),
-            Value::Double(bits) => Head::Double(*bits),
-            Value::String(number) => Head::String(end(remap, SymbolKind::Text, *number)),
-            Value::Typ(number) => Head::Typ(end(remap, SymbolKind::Typ, *number)),
-            Value::Field(number) => Head::Field(end(remap, SymbolKind::Field, *number)),
-            Value::Method(number) => Head::Method(end(remap, SymbolKind::Method, *number)),
-            Value::Enum(number) => Head::Enum(end(remap, SymbolKind::Field, *number)),
-            Value::Array(_) => Head::Array,
-            Value::Annotation(held) => Head::Annotation(end(remap, SymbolKind::Typ, held.typ)),
-            Value::Null => Head::Null,
-            Value::Boolean(is) => Head::Boolean(*is),
-        }
-    }
-}
-
 /// Whether the heads of two values are equal, once the numbers of each are remapped by its own map.
 pub(crate) fn eq_heads(value: &Value, mine: &Remap, other: &Value, theirs: &Remap) -> bool
     ensures { IsTrue result ↔ (mapped_head mine.now value.now ≡ mapped_head theirs.now other.now) }
 {
-    Head::of(value, mine) == Head::of(other, theirs)
+    value.head(mine) == other.head(theirs)
 }
 
 impl Value {
+    /// The type code of the value and its number, remapped: all but the values that it holds. A number without an image
+    /// is unchanged.
+    pub(crate) fn head(&self, remap: &Remap) -> (u8, i128)
+        ensures { result ≡ head_of (renumbered remap.now (value_of self.now)) }
+    {
+        match self {
+            Value::Byte(number) => (codes::BYTE, i128::from(*number)),
+            Value::Short(number) => (codes::SHORT, i128::from(*number)),
+            Value::Char(unit) => (codes::CHAR, i128::from(*unit)),
+            Value::Int(number) => (codes::INT, i128::from(*number)),
+            Value::Long(number) => (codes::LONG, i128::from(*number)),
+            Value::Float(bits) => (codes::FLOAT, i128::from(*bits)),
+            Value::Double(bits) => (codes::DOUBLE, i128::from(*bits)),
+            Value::String(number) => (codes::STRING, end(remap, SymbolKind::Text, *number) as i128),
+            Value::Typ(number) => (codes::TYPE, end(remap, SymbolKind::Typ, *number) as i128),
+            Value::Field(number) => (codes::FIELD, end(remap, SymbolKind::Field, *number) as i128),
+            Value::Method(number) => (
+                codes::METHOD,
+                end(remap, SymbolKind::Method, *number) as i128,
+            ),
+            Value::Enum(number) => (codes::ENUM, end(remap, SymbolKind::Field, *number) as i128),
+            Value::Array(_) => (codes::ARRAY, 0),
+            Value::Annotation(held) => (
+                codes::ANNOTATION,
+                end(remap, SymbolKind::Typ, held.typ) as i128,
+            ),
+            Value::Null => (codes::NULL, 0),
+            Value::Boolean(is) => (codes::BOOLEAN, i128::from(*is)),
+        }
+    }
+
     /// The values of an array. Other values hold none.
     pub(crate) fn held_values(&self) -> &[Value]
         ensures { values_of_list (map value_of result.now) ≡ held_values (value_of self.now) }

@@ -6,7 +6,7 @@ ghost use Rattle.dexspec.specs.Mentions.{Mentions};
 ghost use Rattle.dexspec.specs.Weight.{value_weight, set_weight};
 ghost use Rattle.dexval.specs.Code.{value_of, encoded_of, set_of};
 ghost use Rattle.dexval.specs.Numbered.{value_in, set_in, values_of_list};
-ghost use Rattle.dexval.specs.Spelled.{numbered_weight, numbered_values_weight, numbered_set_weight};
+ghost use Rattle.dexval.specs.Spelled.{numbered_weight, numbered_values_weight};
 ghost use Rattle.dexval.specs.Writing.{weight_of_statics, weight_of_sets};
 
 use crate::{AnnotationSet, EncodedAnnotation, Value};
@@ -68,13 +68,6 @@ fn listed_weight<T, F: Fn(&T) -> u64>(items: &[T], weight_of: F) -> u64
     weight
 }
 
-// The weight of a set: each annotation has an annotation_item and an offset.
-fn set_weight(set: &AnnotationSet) -> u64
-    ensures { result ≡ min (2 ^ 64 - 1) (numbered_set_weight (set_of set.now)) }
-{
-    listed_weight(&set.annotations, |item| annotation_weight(&item.annotation))
-}
-
 impl Value {
     /// The weight of the value, or 2^64 - 1 if it weighs more. It is at least the size of its shortest encoding.
     #[tactic(auto, using(crate::proofs::Weights::weight_is))]
@@ -89,12 +82,14 @@ impl Value {
 impl AnnotationSet {
     /// The weight of the set, or 2^64 - 1 if it weighs more. It is at least the size of its item and of its
     /// annotations. An empty set weighs nothing.
-    #[tactic(auto, using(crate::proofs::Weights::set_weight_is))]
     pub fn weight(&self) -> u64
         ensures { (m : Mentions)
             → result ≡ min (2 ^ 64 - 1) (set_weight (set_in m (set_of self.now))) }
     {
-        set_weight(self)
+        listed_weight(
+            &self.annotations,
+            |item| annotation_weight(&item.annotation),
+        )
     }
 }
 
@@ -103,7 +98,7 @@ impl AnnotationSet {
 pub fn parameter_sets_weight(sets: &[AnnotationSet]) -> u64
     ensures { (m : Mentions) → result ≡ min (2 ^ 64 - 1) (weight_of_sets m sets.now) }
 {
-    listed_weight(sets, |set| set_weight(set))
+    listed_weight(sets, |set| set.weight())
 }
 
 /// The weight of the initial values of static fields, or 2^64 - 1 if they weigh more. An empty list weighs nothing.

@@ -70,18 +70,19 @@ value::Value::same_mapped-returns-then-not-eq_heads t c = ((λ t. absurd cc), (�
 pub value::Value::same_mapped-same_values_mapped-requires : goal.value::Value::same_mapped-same_values_mapped-requires
 value::Value::same_mapped-same_values_mapped-requires t c = (omega (arith, held_values_lighter (value_of c.args.self.now), ap numbered_values_weight c.held_values.ensures), tt)
 
-pub value::Value::same_mapped-returns-then-not-same_values_mapped : goal.value::Value::same_mapped-returns-then-not-same_values_mapped
-value::Value::same_mapped-returns-then-not-same_values_mapped t c =
+pub value::Value::same_mapped-returns-else-same_values_mapped : goal.value::Value::same_mapped-returns-else-same_values_mapped
+value::Value::same_mapped-returns-else-same_values_mapped t c =
+    let no = c.if-same_values_mapped.false in
     ((λ t. absurd cc), (λ e. let found = c.same_values_mapped.ensures.1 ((held_values_same c.args.mine.now c.args.theirs.now (value_of c.args.self.now) (value_of c.args.other.now) _ _ c.held_values.ensures c.held_values-2.ensures) e) in cc))
 
 pub value::Value::same_mapped-same_elements-requires : goal.value::Value::same_mapped-same_elements-requires
 value::Value::same_mapped-same_elements-requires t c = (omega (arith, held_elements_lighter (value_of c.args.self.now), ap numbered_elements_weight c.held_elements.ensures), tt)
 
-pub value::Value::same_mapped-returns : goal.value::Value::same_mapped-returns
-value::Value::same_mapped-returns t c =
+pub value::Value::same_mapped-returns-then-same_values_mapped : goal.value::Value::same_mapped-returns-then-same_values_mapped
+value::Value::same_mapped-returns-then-same_values_mapped t c =
     let x = value_of c.args.self.now in
     let y = value_of c.args.other.now in
-    let values = c.same_values_mapped.ensures.0 c.if-not-same_values_mapped.false in (
-      (λ t. parts_same c.args.mine.now c.args.theirs.now x y _ _ _ _ c.held_values.ensures c.held_values-2.ensures c.held_elements.ensures c.held_elements-2.ensures (c.eq_heads.ensures.0 c.if-not-eq_heads.false) values (c.same_elements.ensures.0 t)),
-      (λ e. c.same_elements.ensures.1 (held_elements_same c.args.mine.now c.args.theirs.now x y _ _ c.held_elements.ensures c.held_elements-2.ensures e)),
+    let values = c.same_values_mapped.ensures.0 c.if-same_values_mapped.true in (
+      (λ t. parts_same c.args.mine.now c.args.theirs.now x y _ _ _ _ c.held_values.ensures c.held_values-2.ensures c.held_elements.ensures c.held_elements-then-same_values_mapped.ensures (c.eq_heads.ensures.0 c.if-not-eq_heads.false) values (c.same_elements.ensures.0 t)),
+      (λ e. c.same_elements.ensures.1 (held_elements_same c.args.mine.now c.args.theirs.now x y _ _ c.held_elements.ensures c.held_elements-then-same_values_mapped.ensures e)),
     )

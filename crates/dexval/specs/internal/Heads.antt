@@ -1,42 +1,33 @@
 -- Values without their contents.
-use Rattle.std.specs.Prelude.{ℕ}
-use Rattle.dexval.specs.declared.same.Head.{Head}
-use Rattle.dexval.specs.declared.same.Head.TheVariants as heads
+use Rattle.std.specs.Prelude.{[], ℕ, ℤ, pos, if◌then◌else◌}
 use Rattle.dexpool.specs.Numberings.{Maps}
 use Rattle.dexval.specs.declared.value.Value.{Value}
 use Rattle.dexval.specs.Code.{value_of}
 use Rattle.dexval.specs.Renumbering.{renumbered}
-use Rattle.dexval.specs.Numbered.{NumberedValue, NumberedValues, NumberedElements, NoValue, NoElement, Plain, Named, Array, Annotated, Literal, ByteLiteral, ShortLiteral, CharLiteral, IntLiteral, LongLiteral, FloatLiteral, DoubleLiteral, NullLiteral, BooleanLiteral, Reference, StringReference, TypeReference, FieldReference, MethodReference, EnumReference}
+use Rattle.dexval.specs.internal.Scalars.{code_of_reference}
+use Rattle.dexval.specs.Numbered.{NumberedValue, NumberedValues, NumberedElements, NoValue, NoElement, Plain, Named, Array, Annotated, Literal, ByteLiteral, ShortLiteral, CharLiteral, IntLiteral, LongLiteral, FloatLiteral, DoubleLiteral, NullLiteral, BooleanLiteral}
 
--- the head of a literal
-abbrev pub literal_head : Literal → Head
-literal_head (ByteLiteral z) = heads.Byte z
-literal_head (ShortLiteral z) = heads.Short z
-literal_head (CharLiteral u) = heads.Char u
-literal_head (IntLiteral z) = heads.Int z
-literal_head (LongLiteral z) = heads.Long z
-literal_head (FloatLiteral bits) = heads.Float bits
-literal_head (DoubleLiteral bits) = heads.Double bits
-literal_head NullLiteral = heads.Null
-literal_head (BooleanLiteral is) = heads.Boolean is
-
--- the head of a reference to the symbol of a number
-abbrev pub reference_head : Reference → ℕ → Head
-reference_head StringReference i = heads.String i
-reference_head TypeReference i = heads.Typ i
-reference_head FieldReference i = heads.Field i
-reference_head MethodReference i = heads.Method i
-reference_head EnumReference i = heads.Enum i
+-- the head of a literal: its type code and its number
+abbrev pub literal_head : Literal → ℕ × ℤ
+literal_head (ByteLiteral z) = (0x00, z)
+literal_head (ShortLiteral z) = (0x02, z)
+literal_head (CharLiteral u) = (0x03, pos u)
+literal_head (IntLiteral z) = (0x04, z)
+literal_head (LongLiteral z) = (0x06, z)
+literal_head (FloatLiteral bits) = (0x10, pos bits)
+literal_head (DoubleLiteral bits) = (0x11, pos bits)
+literal_head NullLiteral = (0x1e, pos 0)
+literal_head (BooleanLiteral is) = (0x1f, pos (if is then 1 else 0))
 
 -- the head of a value: all but the values that it holds
-abbrev pub head_of : NumberedValue → Head
+abbrev pub head_of : NumberedValue → ℕ × ℤ
 head_of (Plain literal) = literal_head literal
-head_of (Named reference i) = reference_head reference i
-head_of (Array xs) = heads.Array
-head_of (Annotated t es) = heads.Annotation t
+head_of (Named reference i) = (code_of_reference reference, pos i)
+head_of (Array xs) = (0x1c, pos 0)
+head_of (Annotated t es) = (0x1d, pos t)
 
 -- the head of a value of the code, its number remapped
-abbrev pub mapped_head : Maps → Value → Head
+abbrev pub mapped_head : Maps → Value → ℕ × ℤ
 mapped_head r value = head_of (renumbered r (value_of value))
 
 -- the values of an array
@@ -48,3 +39,7 @@ held_values _ = NoValue
 abbrev pub held_elements : NumberedValue → NumberedElements
 held_elements (Annotated t es) = es
 held_elements _ = NoElement
+
+-- the map without images
+abbrev pub no_images : Maps
+no_images = record { texts = []; types = []; protos = []; fields = []; methods = [] }

@@ -1,16 +1,28 @@
-use Rattle.dexval.proofs.Common.{◌≡◌, ◌+◌, List, [], take, flat_map, fold, ap, sym, subst, ◌∙◌, arith, vec_len, Element}
+use Rattle.dexval.proofs.Common.{◌+◌, ◌<◌, [], ap, arith, rules, value_of, values_of, elements_of, numbered_weight, numbered_values_weight, numbered_elements_weight}
 use Rattle.std.specs.Hash as fed
-use Rattle.dexval.proofs.Hashed.{value_fed, element_fed, values_are_fed, elements_are_fed, fed_more, fed_all, array_whole, annotation_whole, encoded_parts}
+use Rattle.dexval.proofs.Hashed.{value_fed, element_fed, values_are_fed, elements_are_fed, fed_more, fed_all, value_whole}
+use Rattle.dexval.proofs.Heads.{held_values_lighter, held_elements_lighter}
+use Rattle.dexval.proofs.Members.{value_lighter, element_lighter}
 use Rattle.dexval.proofs.equality.+hashing.Goals as goal
 
-pub hash_value-returns-in-Array : goal.hash_value-returns-in-Array
-hash_value-returns-in-Array g t c =
-    array_whole g.H.Hasher.write c.args.value.now c.in-Array.values c.len.result c.args.state.now c.hash_coded-in-Array.new.state c.hash_values.new.state c.in-Array.is (c.deref-in-Array-2.ensures.value ∙ ap (λ v. v.items) c.deref-in-Array.ensures) (c.len.ensures ∙ ap (λ v. vec_len v) (c.deref.ensures ∙ sym c.deref-in-Array.ensures) ∙ sym c.deref-in-Array-2.ensures.len)
-    c.hash_coded-in-Array.ensures c.hash_values.ensures
+pub hash_value-hash_values-requires : goal.hash_value-hash_values-requires
+hash_value-hash_values-requires g t c =
+    let none = c.requires in
+    let lighter : numbered_values_weight (values_of c.held_values.result.now) + 1 < numbered_weight (value_of c.args.value.now) = omega (arith, held_values_lighter (value_of c.args.value.now), ap numbered_values_weight c.held_values.ensures) in search rules
 
-pub hash_value-returns-in-Annotation : goal.hash_value-returns-in-Annotation
-hash_value-returns-in-Annotation g t c =
-    annotation_whole g.H.Hasher.write c.args.value.now c.in-Annotation.annotation c.args.state.now c.write_u8.new.self c.hash_encoded.new.state c.in-Annotation.is c.deref-in-Annotation.ensures c.write_u8.ensures c.hash_encoded.ensures
+pub hash_value-hash_elements-requires : goal.hash_value-hash_elements-requires
+hash_value-hash_elements-requires g t c =
+    let none = c.requires in
+    let lighter : numbered_elements_weight (elements_of c.held_elements.result.now) + 2 < numbered_weight (value_of c.args.value.now) = omega (arith, held_elements_lighter (value_of c.args.value.now), ap numbered_elements_weight c.held_elements.ensures) in search rules
+
+pub hash_value-returns : goal.hash_value-returns
+hash_value-returns g t c =
+    value_whole g.H.Hasher.write (value_of c.args.value.now) c.args.nowhere.now c.head.result _ _ c.args.state.now c.hash.new.state c.hash_values.new.state c.hash_elements.new.state c.requires c.head.ensures c.held_values.ensures c.held_elements.ensures c.hash.ensures c.hash_values.ensures c.hash_elements.ensures
+
+pub hash_values-hash_value-requires : goal.hash_values-hash_value-requires
+hash_values-hash_value-requires g t c =
+    let none = c.requires in
+    let lighter = value_lighter c.args.values.now c.loop-value.value-index c.value-item.result c.loop-value-test.true c.value-item.is in search rules
 
 pub hash_values-loop-value-preserved : goal.hash_values-loop-value-preserved
 hash_values-loop-value-preserved g t c =
@@ -20,18 +32,16 @@ pub hash_values-returns : goal.hash_values-returns
 hash_values-returns g t c =
     fed.fed_along g.H.Hasher.write c.args.state.now c.loop-value.state (values_are_fed c.args.values.now) (fed_all g.H.Hasher.write value_fed [] c.args.values.now c.loop-value.value-index c.args.state.now c.loop-value.state (omega arith) c.loop-value.invariant)
 
-pub hash_encoded-loop-element-preserved : goal.hash_encoded-loop-element-preserved
-hash_encoded-loop-element-preserved g t c =
-    let start = c.hash-2.new.state in
-    let fed_so = subst (λ (xs : List Element). c.loop-element.state ≡ fold g.H.Hasher.write start (flat_map element_fed (take c.loop-element.element-index xs))) (sym c.deref-element-items.ensures.value) c.loop-element.invariant in
-    subst (λ (xs : List Element). c.hash_value.new.state ≡ fold g.H.Hasher.write start (flat_map element_fed (take (c.loop-element.element-index + 1) xs))) c.deref-element-items.ensures.value
-    (fed_more g.H.Hasher.write element_fed [] c.deref-element-items.result.now c.loop-element.element-index c.element-item.result start c.loop-element.state c.hash_value.new.state c.loop-element-test.true c.element-item.is fed_so
-    (fed.fed_then g.H.Hasher.write c.loop-element.state c.hash-in-loop-element.new.state c.hash_value.new.state (fed.u32 c.element-item.result.name) (value_fed c.element-item.result.value) c.hash-in-loop-element.ensures c.hash_value.ensures))
+pub hash_elements-hash_value-requires : goal.hash_elements-hash_value-requires
+hash_elements-hash_value-requires g t c =
+    let none = c.requires in
+    let lighter = element_lighter c.args.elements.now c.loop-element.element-index c.element-item.result c.loop-element-test.true c.element-item.is in search rules
 
-pub hash_encoded-returns : goal.hash_encoded-returns
-hash_encoded-returns g t c =
-    let seen = c.deref-element-items.result.now in
-    let start = c.hash-2.new.state in
-    let before = subst (λ (xs : List Element). c.loop-element.state ≡ fold g.H.Hasher.write start (flat_map element_fed (take c.loop-element.element-index xs))) (sym c.deref-element-items.ensures.value) c.loop-element.invariant in
-    let all = fed_all g.H.Hasher.write element_fed [] seen c.loop-element.element-index start c.loop-element.state c.loop-element-test.false before in
-    encoded_parts g.H.Hasher.write c.args.annotation.now c.len.result c.args.state.now c.hash.new.state start c.loop-element.state c.deref-element-items.ensures.value (c.len.ensures ∙ sym c.deref-element-items.ensures.len) c.hash.ensures c.hash-2.ensures (fed.fed_along g.H.Hasher.write start c.loop-element.state (elements_are_fed seen) all)
+pub hash_elements-loop-element-preserved : goal.hash_elements-loop-element-preserved
+hash_elements-loop-element-preserved g t c =
+    fed_more g.H.Hasher.write element_fed [] c.args.elements.now c.loop-element.element-index c.element-item.result c.args.state.now c.loop-element.state c.hash_value.new.state c.loop-element-test.true c.element-item.is c.loop-element.invariant
+    (fed.fed_then g.H.Hasher.write c.loop-element.state c.hash.new.state c.hash_value.new.state (fed.u32 c.element-item.result.name) (value_fed c.element-item.result.value) c.hash.ensures c.hash_value.ensures)
+
+pub hash_elements-returns : goal.hash_elements-returns
+hash_elements-returns g t c =
+    fed.fed_along g.H.Hasher.write c.args.state.now c.loop-element.state (elements_are_fed c.args.elements.now) (fed_all g.H.Hasher.write element_fed [] c.args.elements.now c.loop-element.element-index c.args.state.now c.loop-element.state (omega arith) c.loop-element.invariant)

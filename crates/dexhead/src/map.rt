@@ -25,6 +25,14 @@ struct Entry {
     off: u32,
 }
 
+impl Entry {
+    fn new(kind: u16, size: u32, off: u32) -> Entry
+        ensures { read result ≡ record { kind = kind; size = size; off = off } }
+    {
+        Entry { kind, size, off }
+    }
+}
+
 /// The entries of a map, which are there.
 #[derive(Drop)]
 struct Map<'a> {
@@ -148,12 +156,7 @@ impl<'a> Map<'a> {
     fn begins_with_header(&self) -> bool
         ensures { IsTrue result ↔ BeginsWithHeader (entries self.now) }
     {
-        let header = Entry {
-            kind: HEADER_ITEM,
-            size: 1,
-            off: 0,
-        };
-        self.count > 0 && self.entry(0) == header
+        self.count > 0 && self.entry(0) == Entry::new(HEADER_ITEM, 1, 0)
     }
 
     fn has_tables(&self) -> bool
@@ -172,21 +175,13 @@ impl<'a> Map<'a> {
     {
         match header::table_size(self.bytes, table) {
             0 => self.lacks(table.code(), self.count),
-            size => self.has(Entry {
-                kind: table.code(),
-                size,
-                off: header::table_off(self.bytes, table),
-            }),
+            size => self.has(Entry::new(table.code(), size, header::table_off(self.bytes, table))),
         }
     }
 
     fn has_itself(&self) -> bool
         ensures { IsTrue result ↔ HaveMap self.now.bytes.now (entries self.now) }
     {
-        self.has(Entry {
-            kind: MAP_LIST,
-            size: 1,
-            off: u32_at(self.bytes, header::MAP_OFF),
-        })
+        self.has(Entry::new(MAP_LIST, 1, u32_at(self.bytes, header::MAP_OFF)))
     }
 }

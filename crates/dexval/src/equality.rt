@@ -1,11 +1,11 @@
 //! Sets of annotations that are the same are equal by `==`, and have equal hash input.
 
 ghost use Rattle.std.specs.Cmp.{partial_equiv_from_equiv};
-ghost use Rattle.dexval.specs.Equality.{equal_sets, equal_sets_equiv, set_input, equal_sets_agree, IsSetEquality, DependsOnSet, value_input, values_input, elements_input, annotation_input};
+ghost use Rattle.dexval.specs.Equality.{equal_sets, equal_sets_equiv, set_input, equal_sets_agree, IsSetEquality, DependsOnSet, value_input, elements_input, annotation_input};
 ghost use Rattle.std.specs.Prelude.{◌≡◌, fold, map};
 ghost use Rattle.std.specs.Hash as fed;
 ghost use Rattle.dexval.specs.Code.{value_of, element_of, set_from};
-ghost use Rattle.dexval.specs.Numbered.{values_of_list, elements_of_list};
+ghost use Rattle.dexval.specs.Numbered.{elements_of_list};
 ghost use Rattle.dexval.specs.internal.Heads.{no_images};
 
 use crate::{Annotation, AnnotationSet, Element, Value};
@@ -53,20 +53,10 @@ fn hash_value<H: Hasher>(value: &Value, nowhere: &Remap, state: &mut H)
     ensures { state.new ≡ fold H.write state.old (value_input (value_of value.now)) }
 {
     value.head(nowhere).hash(state);
-    hash_values(value.held_values(), nowhere, state);
-    hash_elements(value.held_elements(), nowhere, state);
-}
-
-// Feeds values.
-#[cycle(hashing)]
-fn hash_values<H: Hasher>(values: &[Value], nowhere: &Remap, state: &mut H)
-    requires { nowhere.now ≡ no_images }
-    ensures { state.new
-        ≡ fold H.write state.old (values_input (values_of_list (map value_of values.now))) }
-{
-    for value in values {
-        hash_value(value, nowhere, state);
+    for held in value.held_values() {
+        hash_value(held, nowhere, state);
     }
+    hash_elements(value.held_elements(), nowhere, state);
 }
 
 // Feeds elements.

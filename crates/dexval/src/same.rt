@@ -5,7 +5,7 @@ ghost use Rattle.dexpool.specs.declared.symbols.SymbolKind.TheVariants as kinds;
 ghost use Rattle.dexval.specs.Renumbering.{remapped, renumbered};
 ghost use Rattle.dexval.specs.Same.{SameValue, SameValues, SameElement, SameElements, SameAnnotation, SameSet};
 ghost use Rattle.dexval.specs.Code.{value_of, element_of};
-ghost use Rattle.dexval.specs.internal.Heads.{head_of, held_values, held_elements, mapped_head};
+ghost use Rattle.dexval.specs.internal.Heads.{head_of, held_values, held_elements};
 ghost use Rattle.dexval.specs.Numbered.{values_of_list, elements_of_list};
 
 use crate::{Annotation, AnnotationSet, Element, Value, type_codes as codes};
@@ -68,7 +68,7 @@ impl Value {
     pub fn same_mapped(&self, mine: &Remap, other: &Value, theirs: &Remap) -> bool
         ensures { IsTrue result ↔ SameValue mine.now self.now theirs.now other.now }
     {
-        if !eq_heads(self, mine, other, theirs) {
+        if self.head(mine) != other.head(theirs) {
             return false;
         }
         same_values_mapped(self.held_values(), mine, other.held_values(), theirs)
@@ -117,13 +117,6 @@ impl AnnotationSet {
         }
         true
     }
-}
-
-/// Whether the heads of two values are equal, once the numbers of each are remapped by its own map.
-pub(crate) fn eq_heads(value: &Value, mine: &Remap, other: &Value, theirs: &Remap) -> bool
-    ensures { IsTrue result ↔ (mapped_head mine.now value.now ≡ mapped_head theirs.now other.now) }
-{
-    value.head(mine) == other.head(theirs)
 }
 
 impl Value {

@@ -1,4 +1,4 @@
-use Rattle.dexval.proofs.Common.{ap, rules, ◌<◌, length, map, arith, value_of, element_of, head_of, renumbered, renumbered_element, numbered_values_weight, numbered_elements_weight}
+use Rattle.dexval.proofs.Common.{◌≡◌, ◌≢◌, ap, rules, ◌<◌, length, map, arith, value_of, element_of, head_of, renumbered, renumbered_element, numbered_values_weight, numbered_elements_weight}
 use Rattle.dexval.proofs.Compared.{same_count, same_at, same_all, values_same, same_values, elements_same, same_elements}
 use Rattle.dexval.proofs.Heads.{held_values_same, held_elements_same, parts_same, held_values_lighter, held_elements_lighter}
 use Rattle.dexval.proofs.Members.{value_lighter, element_lighter}
@@ -64,8 +64,10 @@ same::same_values_mapped-returns t c =
       (λ e. search rules),
     )
 
-pub value::Value::same_mapped-returns-then-not-eq_heads : goal.value::Value::same_mapped-returns-then-not-eq_heads
-value::Value::same_mapped-returns-then-not-eq_heads t c = ((λ t. absurd cc), (λ e. let found = c.eq_heads.ensures.1 (ap head_of e) in cc))
+pub value::Value::same_mapped-returns-then-ne : goal.value::Value::same_mapped-returns-then-ne
+value::Value::same_mapped-returns-then-ne t c =
+    let other : head_of (renumbered c.args.mine.now (value_of c.args.self.now)) ≢ head_of (renumbered c.args.theirs.now (value_of c.args.other.now)) = search rules in
+    ((λ t. absurd cc), (λ e. absurd (other (ap head_of e))))
 
 pub value::Value::same_mapped-same_values_mapped-requires : goal.value::Value::same_mapped-same_values_mapped-requires
 value::Value::same_mapped-same_values_mapped-requires t c = (omega (arith, held_values_lighter (value_of c.args.self.now), ap numbered_values_weight c.held_values.ensures), tt)
@@ -82,7 +84,8 @@ pub value::Value::same_mapped-returns-then-same_values_mapped : goal.value::Valu
 value::Value::same_mapped-returns-then-same_values_mapped t c =
     let x = value_of c.args.self.now in
     let y = value_of c.args.other.now in
+    let heads : head_of (renumbered c.args.mine.now x) ≡ head_of (renumbered c.args.theirs.now y) = search rules in
     let values = c.same_values_mapped.ensures.0 c.if-same_values_mapped.true in (
-      (λ t. parts_same c.args.mine.now c.args.theirs.now x y _ _ _ _ c.held_values.ensures c.held_values-2.ensures c.held_elements.ensures c.held_elements-then-same_values_mapped.ensures (c.eq_heads.ensures.0 c.if-not-eq_heads.false) values (c.same_elements.ensures.0 t)),
+      (λ t. parts_same c.args.mine.now c.args.theirs.now x y _ _ _ _ c.held_values.ensures c.held_values-2.ensures c.held_elements.ensures c.held_elements-then-same_values_mapped.ensures heads values (c.same_elements.ensures.0 t)),
       (λ e. c.same_elements.ensures.1 (held_elements_same c.args.mine.now c.args.theirs.now x y _ _ c.held_elements.ensures c.held_elements-then-same_values_mapped.ensures e)),
     )

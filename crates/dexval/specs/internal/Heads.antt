@@ -1,9 +1,6 @@
 -- Values without their contents.
 use Rattle.std.specs.Prelude.{[], ℕ, ℤ, pos, if◌then◌else◌}
 use Rattle.dexpool.specs.Numberings.{Maps}
-use Rattle.dexval.specs.declared.value.Value.{Value}
-use Rattle.dexval.specs.Code.{value_of}
-use Rattle.dexval.specs.Renumbering.{renumbered}
 use Rattle.dexval.specs.internal.Scalars.{code_of_reference}
 use Rattle.dexval.specs.Numbered.{NumberedValue, NumberedValues, NumberedElements, NoValue, NoElement, Plain, Named, Array, Annotated, Literal, ByteLiteral, ShortLiteral, CharLiteral, IntLiteral, LongLiteral, FloatLiteral, DoubleLiteral, NullLiteral, BooleanLiteral}
 
@@ -25,10 +22,6 @@ head_of (Plain literal) = literal_head literal
 head_of (Named reference i) = (code_of_reference reference, pos i)
 head_of (Array xs) = (0x1c, pos 0)
 head_of (Annotated t es) = (0x1d, pos t)
-
--- the head of a value of the code, its number remapped
-abbrev pub mapped_head : Maps → Value → ℕ × ℤ
-mapped_head r value = head_of (renumbered r (value_of value))
 
 -- the values of an array
 abbrev pub held_values : NumberedValue → NumberedValues

@@ -6,7 +6,7 @@ ghost use Rattle.dexrows.specs.Join.{AreSorted};
 ghost use Rattle.dexpool.specs.Numberings.{IsNumbering, union_of, PartsMapTo};
 ghost use Rattle.dexpool.specs.Orderly.{KeepOrder};
 ghost use Rattle.dexpool.specs.internal.Renumbering.{numbers_in, HasSpans};
-ghost use Rattle.dexpool.specs.internal.Joining.{proto_key, JoinsRows, AreTextsOf, AreTypesOf, AreProtosOf, AreFieldsOf, AreMethodsOf, AreTablesOf, total_maps, HaveSameParts, HavePart, SameFrom, AreRemapsOf};
+ghost use Rattle.dexpool.specs.internal.Joining.{proto_key, JoinsRows, AreTextsOf, AreTypesOf, AreProtosOf, AreFieldsOf, AreMethodsOf, AreTablesOf, MovesTextsOf, MovesTypesOf, total_maps, HaveSameParts, HavePart, SameFrom, AreRemapsOf};
 ghost use Rattle.dexpool.specs.Stored.{symbols_in, AreTables};
 ghost use Rattle.std.specs.List.{AllZip};
 ghost use Rattle.dexpool.specs.Laws.{MapsAll};
@@ -48,6 +48,15 @@ impl<'a> Numbering<'a> {
     }
 }
 
+/// The parts of a join, and their texts and types, which are joined first.
+#[derive(Clone, Copy)]
+struct LowerJoined<'j, 'n, 'a> {
+    alloc: Global,
+    parts: &'j [&'n Numbering<'a>],
+    strings: &'j Joined<Text<'a>>,
+    types: &'j Joined<usize>,
+}
+
 /// The protos of all parts.
 #[derive(Drop)]
 struct JoinedProtos {
@@ -80,9 +89,15 @@ pub(crate) fn join_tables<'a>(
 {
     let strings = join_strings(alloc, parts)?;
     let types = join_types(alloc, parts, &strings)?;
-    let protos = join_protos(alloc, parts, &strings, &types)?;
-    let fields = join_fields(alloc, parts, &strings, &types)?;
-    let methods = join_methods(alloc, parts, &strings, &types, &protos)?;
+    let lower = LowerJoined {
+        alloc,
+        parts,
+        strings: &strings,
+        types: &types,
+    };
+    let protos = lower.join_protos()?;
+    let fields = lower.join_fields()?;
+    let methods = lower.join_methods(&protos)?;
     let images = JoinedImages {
         strings: strings.images,
         types: types.images,
@@ -154,57 +169,97 @@ fn join_types<'a>(
     })
 }
 
-// The protos of all parts, by the joined texts and types.
-fn join_protos<'a>(
-    alloc: Global,
-    parts: &[&Numbering<'a>],
-    strings: &Joined<Text<'a>>,
-    types: &Joined<usize>,
-) -> Result<JoinedProtos, AllocError>
-    requires numberings { All IsNumbering (map (λ part. part.now) parts.now) }
-    requires strings { AreTextsOf parts.now strings.now }
-    requires types { AreTypesOf parts.now strings.now types.now }
-    ensures { IfOk result (AreProtosOf parts.now strings.now types.now) }
-{
-    let tables = renumbered_tables(alloc, parts, strings, types)?;
-    let rows = rows_of_tables(alloc, &tables)?;
-    let joined = join_rows(alloc, &rows)?;
-    let table = stored(alloc, &joined.rows)?;
-    Ok(JoinedProtos {
-        table,
-        images: joined.images,
-    })
-}
-
-// The protos of each part, by the joined texts and types.
-fn renumbered_tables<'a>(
-    alloc: Global,
-    parts: &[&Numbering<'a>],
-    strings: &Joined<Text<'a>>,
-    types: &Joined<usize>,
-) -> Result<Vec<Protos>, AllocError>
-    requires numberings { All IsNumbering (map (λ part. part.now) parts.now) }
-    requires strings { AreTextsOf parts.now strings.now }
-    requires types { AreTypesOf parts.now strings.now types.now }
-    ensures spans { IfOk result (λ tables. All HasSpans tables.items) }
-    ensures sorted { IfOk result (λ tables.
-        All (λ table. AreSorted proto_key (numbers_in table)) tables.items) }
-    ensures rows { IfOk result (λ tables.
-        AreTablesOf parts.now strings.now types.now tables.items) }
-{
-    sorted_law::<ProtoRow<'_>>();
-    let mut tables = Vec::with_capacity(alloc, parts.len())?;
-    for (i, part) in parts.iter().enumerate() {
-        let part = part.tables();
-        tables.push(renumbered_protos(
-            alloc,
-            Vec::from_slice(alloc, &part.protos)?,
-            &part.parameters,
-            &strings.images[i],
-            &types.images[i],
-        )?)?;
+impl LowerJoined<'_, '_, '_> {
+    // Where the texts and types of a part are now, and these are where its protos are.
+    fn places<'p>(&'p self, part: usize, protos: &'p [u32]) -> LowerPlaces<'p>
+        requires part { part < length self.now.parts.now }
+        requires strings { AreTextsOf self.now.parts.now self.now.strings.now }
+        requires types { AreTypesOf self.now.parts.now self.now.strings.now self.now.types.now }
+        ensures strings { MovesTextsOf self.now.parts.now self.now.strings.now part result.strings.now }
+        ensures types { MovesTypesOf
+            self.now.parts.now self.now.strings.now self.now.types.now part result.types.now }
+        ensures protos { result.protos.now ≡ protos.now }
+    {
+        LowerPlaces {
+            strings: &self.strings.images[part],
+            types: &self.types.images[part],
+            protos,
+        }
     }
-    Ok(tables)
+
+    // The protos of all parts, by the joined texts and types.
+    fn join_protos(&self) -> Result<JoinedProtos, AllocError>
+        requires numberings { All IsNumbering (map (λ part. part.now) self.now.parts.now) }
+        requires strings { AreTextsOf self.now.parts.now self.now.strings.now }
+        requires types { AreTypesOf self.now.parts.now self.now.strings.now self.now.types.now }
+        ensures { IfOk result
+            (AreProtosOf self.now.parts.now self.now.strings.now self.now.types.now) }
+    {
+        let tables = self.renumbered_tables()?;
+        let rows = rows_of_tables(self.alloc, &tables)?;
+        let joined = join_rows(self.alloc, &rows)?;
+        Ok(JoinedProtos {
+            table: stored(self.alloc, &joined.rows)?,
+            images: joined.images,
+        })
+    }
+
+    // The protos of each part, by the joined texts and types.
+    fn renumbered_tables(&self) -> Result<Vec<Protos>, AllocError>
+        requires numberings { All IsNumbering (map (λ part. part.now) self.now.parts.now) }
+        requires strings { AreTextsOf self.now.parts.now self.now.strings.now }
+        requires types { AreTypesOf self.now.parts.now self.now.strings.now self.now.types.now }
+        ensures spans { IfOk result (λ tables. All HasSpans tables.items) }
+        ensures sorted { IfOk result (λ tables.
+            All (λ table. AreSorted proto_key (numbers_in table)) tables.items) }
+        ensures rows { IfOk result (λ tables.
+            AreTablesOf self.now.parts.now self.now.strings.now self.now.types.now tables.items) }
+    {
+        sorted_law::<ProtoRow<'_>>();
+        let mut tables = Vec::with_capacity(self.alloc, self.parts.len())?;
+        for (i, part) in self.parts.iter().enumerate() {
+            let part = part.tables();
+            let rows = Vec::from_slice(self.alloc, &part.protos)?;
+            tables.push(renumbered_protos(rows, &part.parameters, self.places(i, &[]))?)?;
+        }
+        Ok(tables)
+    }
+
+    // The fields of all parts, by the joined texts and types.
+    fn join_fields(&self) -> Result<Joined<FieldRow>, AllocError>
+        requires numberings { All IsNumbering (map (λ part. part.now) self.now.parts.now) }
+        requires strings { AreTextsOf self.now.parts.now self.now.strings.now }
+        requires types { AreTypesOf self.now.parts.now self.now.strings.now self.now.types.now }
+        ensures { IfOk result
+            (AreFieldsOf self.now.parts.now self.now.strings.now self.now.types.now) }
+    {
+        sorted_law::<FieldRow>();
+        let mut rows = Vec::with_capacity(self.alloc, self.parts.len())?;
+        for (i, part) in self.parts.iter().enumerate() {
+            let fields = Vec::from_slice(self.alloc, &part.tables().fields)?;
+            rows.push(renumbered_rows(fields, self.places(i, &[])))?;
+        }
+        join_rows(self.alloc, &rows)
+    }
+
+    // The methods of all parts, by the joined texts, types and protos.
+    fn join_methods<'p>(&'p self, protos: &'p JoinedProtos) -> Result<Joined<MethodRow>, AllocError>
+        requires numberings { All IsNumbering (map (λ part. part.now) self.now.parts.now) }
+        requires strings { AreTextsOf self.now.parts.now self.now.strings.now }
+        requires types { AreTypesOf self.now.parts.now self.now.strings.now self.now.types.now }
+        requires protos { AreProtosOf
+            self.now.parts.now self.now.strings.now self.now.types.now protos.now }
+        ensures { IfOk result
+            (AreMethodsOf self.now.parts.now self.now.strings.now self.now.types.now protos.now) }
+    {
+        sorted_law::<MethodRow>();
+        let mut rows = Vec::with_capacity(self.alloc, self.parts.len())?;
+        for (i, part) in self.parts.iter().enumerate() {
+            let methods = Vec::from_slice(self.alloc, &part.tables().methods)?;
+            rows.push(renumbered_rows(methods, self.places(i, &protos.images[i])))?;
+        }
+        join_rows(self.alloc, &rows)
+    }
 }
 
 // The rows of each table of protos.
@@ -218,60 +273,6 @@ fn rows_of_tables(alloc: Global, tables: &[Protos]) -> Result<Vec<Vec<ProtoRow<'
         rows.push(proto_rows(alloc, table)?)?;
     }
     Ok(rows)
-}
-
-// The fields of all parts, by the joined texts and types.
-fn join_fields<'a>(
-    alloc: Global,
-    parts: &[&Numbering<'a>],
-    strings: &Joined<Text<'a>>,
-    types: &Joined<usize>,
-) -> Result<Joined<FieldRow>, AllocError>
-    requires numberings { All IsNumbering (map (λ part. part.now) parts.now) }
-    requires strings { AreTextsOf parts.now strings.now }
-    requires types { AreTypesOf parts.now strings.now types.now }
-    ensures { IfOk result (AreFieldsOf parts.now strings.now types.now) }
-{
-    sorted_law::<FieldRow>();
-    let mut rows = Vec::with_capacity(alloc, parts.len())?;
-    for (i, part) in parts.iter().enumerate() {
-        let lower = LowerPlaces {
-            strings: &strings.images[i],
-            types: &types.images[i],
-            protos: &[],
-        };
-        let fields = Vec::from_slice(alloc, &part.tables().fields)?;
-        rows.push(renumbered_rows(fields, lower))?;
-    }
-    join_rows(alloc, &rows)
-}
-
-// The methods of all parts, by the joined texts, types and protos.
-fn join_methods<'a>(
-    alloc: Global,
-    parts: &[&Numbering<'a>],
-    strings: &Joined<Text<'a>>,
-    types: &Joined<usize>,
-    protos: &JoinedProtos,
-) -> Result<Joined<MethodRow>, AllocError>
-    requires numberings { All IsNumbering (map (λ part. part.now) parts.now) }
-    requires strings { AreTextsOf parts.now strings.now }
-    requires types { AreTypesOf parts.now strings.now types.now }
-    requires protos { AreProtosOf parts.now strings.now types.now protos.now }
-    ensures { IfOk result (AreMethodsOf parts.now strings.now types.now protos.now) }
-{
-    sorted_law::<MethodRow>();
-    let mut rows = Vec::with_capacity(alloc, parts.len())?;
-    for (i, part) in parts.iter().enumerate() {
-        let lower = LowerPlaces {
-            strings: &strings.images[i],
-            types: &types.images[i],
-            protos: &protos.images[i],
-        };
-        let methods = Vec::from_slice(alloc, &part.tables().methods)?;
-        rows.push(renumbered_rows(methods, lower))?;
-    }
-    join_rows(alloc, &rows)
 }
 
 // The rows of each part, which are sorted, joined.

@@ -6,7 +6,7 @@ ghost use Rattle.dexpool.specs.declared.numbering.Tables.{Tables};
 ghost use Rattle.dexpool.specs.Cut.{kept, places};
 ghost use Rattle.dexpool.specs.Numberings.{AreMarksOf, marked, AllMapTo};
 ghost use Rattle.dexpool.specs.Stored.{symbols_in, AreTables};
-ghost use Rattle.dexpool.specs.internal.Closing.{AreClosed, AreMarkedRows, AreKept, IsCut, kept_places};
+ghost use Rattle.dexpool.specs.internal.Closing.{AreClosed, AreMarkedRows, AreKept, kept_places};
 ghost use Rattle.dexspec.specs.Mentions.{closed};
 ghost use Rattle.dexpool.specs.Orderly.{MapsDown};
 ghost use Rattle.dexpool.specs.Uses.{MapsMarked};
@@ -78,21 +78,13 @@ pub(crate) fn marked_rows<'a>(tables: Tables<'a>, marks: &Marks) -> Tables<'a>
     requires closed { AreClosed tables marks.now }
     ensures { AreMarkedRows tables.entry marks.now result }
 {
-    let Tables {
-        strings,
-        types,
-        protos,
-        parameters,
-        fields,
-        methods,
-    } = tables;
     Tables {
-        strings: marked(strings, &marks.strings),
-        types: marked(types, &marks.types),
-        protos: marked(protos, &marks.protos),
-        parameters,
-        fields: marked(fields, &marks.fields),
-        methods: marked(methods, &marks.methods),
+        strings: marked(tables.strings, &marks.strings),
+        types: marked(tables.types, &marks.types),
+        protos: marked(tables.protos, &marks.protos),
+        parameters: tables.parameters,
+        fields: marked(tables.fields, &marks.fields),
+        methods: marked(tables.methods, &marks.methods),
     }
 }
 
@@ -131,47 +123,24 @@ pub(crate) fn renumbered<'a>(
     ensures { IfOk result (λ cut. (t : Tables)
         → AreMarkedRows t marks rows.entry → AreKept t marks cut.0 cut.1) }
 {
-    let kept = renumbered_tables(alloc, rows, marks)?;
     sorted_law::<TypeRow>();
     sorted_law::<ProtoRow<'_>>();
     sorted_law::<FieldRow>();
     sorted_law::<MethodRow>();
-    Ok(kept)
-}
-
-// The rows by their new numbers, and where each number leads.
-fn renumbered_tables<'a>(
-    alloc: Global,
-    rows: Tables<'a>,
-    marks: Marks,
-) -> Result<(Tables<'a>, Remap), AllocError>
-    requires { (t : Tables) × AreMarkedRows t marks rows }
-    ensures cut { IfOk result (λ kept. (t : Tables)
-        → AreMarkedRows t marks rows.entry → IsCut t marks kept.0) }
-    ensures remap { IfOk result (λ kept. kept.1 ≡ kept_places marks) }
-{
     let remap = kept_remap(alloc, marks)?;
     let lower = LowerPlaces {
         strings: remap.strings.numbers(),
         types: remap.types.numbers(),
         protos: remap.protos.numbers(),
     };
-    let Tables {
-        strings,
-        types,
-        protos,
-        parameters,
-        fields,
-        methods,
-    } = rows;
-    let protos = renumbered_protos(alloc, protos, &parameters, lower.strings, lower.types)?;
+    let protos = renumbered_protos(rows.protos, &rows.parameters, lower)?;
     let kept = Tables {
-        strings,
-        types: renumbered_numbers(types, lower.strings),
+        strings: rows.strings,
+        types: renumbered_numbers(rows.types, lower.strings),
         protos: protos.rows,
         parameters: Parameters::own(protos.parameters),
-        fields: renumbered_rows(fields, lower),
-        methods: renumbered_rows(methods, lower),
+        fields: renumbered_rows(rows.fields, lower),
+        methods: renumbered_rows(rows.methods, lower),
     };
     Ok((kept, remap))
 }

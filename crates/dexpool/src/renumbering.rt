@@ -75,35 +75,29 @@ fn push_images(
 ///
 /// Error: the memory for the parameters was refused.
 pub(crate) fn renumbered_protos(
-    alloc: Global,
     mut rows: Vec<ProtoEntry>,
     parameters: &Parameters<'_>,
-    strings: &[u32],
-    types: &[u32],
+    lower: LowerPlaces<'_>,
 ) -> Result<Protos, AllocError>
     requires { All
-        (IsEntryWithin (length strings.now) (length types.now) parameters.now) rows.items }
+        (IsEntryWithin (length lower.strings.now) (length lower.types.now) parameters.now) rows.items }
     ensures spans { IfOk result HasSpans }
     ensures rows { IfOk result
-        (AreMovedProtos strings.now types.now parameters.now rows.items) }
+        (AreMovedProtos lower.entry.strings.now lower.entry.types.now
+        parameters.now rows.items) }
 {
     let range = covering(&rows);
     let count = listed(&rows);
     if count > range.len() {
-        let lower = LowerPlaces {
-            strings,
-            types,
-            protos: &[],
-        };
-        return renumbered_together(alloc, rows, parameters, range, lower);
+        return renumbered_together(rows, parameters, range, lower);
     }
-    let mut moved = Vec::with_capacity(alloc, count)?;
+    let mut moved = Vec::with_capacity(*rows.allocator(), count)?;
     for i in 0..rows.len() {
         let entry = rows[i];
         let start = moved.len();
-        push_images(&parameters.part(entry.parameters), types, &mut moved)?;
+        push_images(&parameters.part(entry.parameters), lower.types, &mut moved)?;
         let end = moved.len();
-        rows[i] = entry.renumbered(strings, types, Span { start, end });
+        rows[i] = entry.renumbered(lower, Span { start, end });
     }
     Ok(Protos {
         rows,
@@ -235,7 +229,6 @@ fn place_within(range: Span, part: Span) -> Span
 ///
 /// Condition: the range has the parameters of each row. Error: the memory for the parameters was refused.
 pub(crate) fn renumbered_together(
-    alloc: Global,
     mut rows: Vec<ProtoEntry>,
     parameters: &Parameters<'_>,
     range: Span,
@@ -250,12 +243,12 @@ pub(crate) fn renumbered_together(
         (AreMovedProtos lower.entry.strings.now lower.entry.types.now
         parameters.now rows.items) }
 {
-    let mut moved = Vec::with_capacity(alloc, range.len())?;
+    let mut moved = Vec::with_capacity(*rows.allocator(), range.len())?;
     push_images(&parameters.part(range), lower.types, &mut moved)?;
     for i in 0..rows.len() {
         let entry = rows[i];
         let place = place_within(range, entry.parameters);
-        rows[i] = entry.renumbered(lower.strings, lower.types, place);
+        rows[i] = entry.renumbered(lower, place);
     }
     Ok(Protos {
         rows,

@@ -3,6 +3,8 @@
 
 ghost use Rattle.std.specs.Prelude.{◌≡◌, ◌⊎◌, ◌-◌, ◌<◌, ◌≤◌, length, take, drop, slice_index, IsTrue};
 
+use dexrows::LowerPlaces;
+
 /// A row of protos.
 ///
 /// Source: "proto_id_item".
@@ -18,18 +20,18 @@ pub struct ProtoEntry {
 
 impl ProtoEntry {
     /// The row, by the images of its text and its type, with its parameters in another place.
-    pub(crate) fn renumbered(self, strings: &[u32], types: &[u32], parameters: Span) -> ProtoEntry
-        requires shorty { self.shorty < length strings.now }
-        requires return_type { self.return_type < length types.now }
+    pub(crate) fn renumbered(self, lower: LowerPlaces<'_>, parameters: Span) -> ProtoEntry
+        requires shorty { self.shorty < length lower.strings.now }
+        requires return_type { self.return_type < length lower.types.now }
         ensures { result ≡ record {
-          shorty = slice_index strings.now self.shorty;
-          return_type = slice_index types.now self.return_type;
+          shorty = slice_index lower.entry.strings.now self.shorty;
+          return_type = slice_index lower.entry.types.now self.return_type;
           parameters = parameters;
         } }
     {
         ProtoEntry {
-            shorty: strings[self.shorty] as usize,
-            return_type: types[self.return_type] as usize,
+            shorty: lower.strings[self.shorty] as usize,
+            return_type: lower.types[self.return_type] as usize,
             parameters,
         }
     }

@@ -127,6 +127,18 @@ AreMethodsOf parts texts types protos methods = AreJoinedMethods (numberings_of 
 abbrev pub AreTablesOf : List (Bor Mentions) → Joined Text → Joined ℕ → List Protos → Type 0
 AreTablesOf parts texts types tables = AllZip (λ part rows. Denote (proto_of_row texts.rows.items types.rows.items) (IsRowOf texts.rows.items types.rows.items) part.protos rows) (numberings_of parts) (map numbers_in tables)
 
+-- these are the images of a part's members, by its place
+abbrev pub MovesPart : {X : Type 0} → (Mentions → List X) → List (Bor Mentions) → List X → ℕ → List ℕ → Type 0
+MovesPart of parts to i image = (part : Bor Mentions) → part ≡ slice_index_or parts i part → Moves (of part.now) to image
+
+-- the images of a part's texts
+abbrev pub MovesTextsOf : List (Bor Mentions) → Joined Text → ℕ → List ℕ → Type 0
+MovesTextsOf parts texts = MovesPart (λ m. m.texts) parts texts.rows.items
+
+-- the images of a part's types
+abbrev pub MovesTypesOf : List (Bor Mentions) → Joined Text → Joined ℕ → ℕ → List ℕ → Type 0
+MovesTypesOf parts texts types = MovesPart (λ m. m.types) parts (map (text_of texts.rows.items) types.rows.items)
+
 -- ---- the maps of all parts
 
 -- the images of the numbers of a part

@@ -1,10 +1,10 @@
 use Rattle.dexpool.proofs.Common.{map, take, All, AllZip, AreSorted, numbers_in, HasSpans, Denote, proto_of_row, IsRowOf}
 use Rattle.dexpool.specs.internal.Joining.{proto_key}
-use Rattle.dexpool.proofs.joined_tables.renumbered_tables.Given as goal
+use Rattle.dexpool.proofs.joined_tables.LowerJoined.renumbered_tables.Given as goal
 
 abbrev pub invariant-loop-i : goal.invariant-loop-i
 invariant-loop-i l = record {
   spans : All HasSpans l.tables.items;
   sorted : All (λ table. AreSorted proto_key (numbers_in table)) l.tables.items;
-  rows : AllZip (λ part rows. Denote (proto_of_row l.strings.rows.items l.types.rows.items) (IsRowOf l.strings.rows.items l.types.rows.items) part.protos rows) (map (λ part. part.now) (take l.i l.parts)) (map numbers_in l.tables.items);
+  rows : AllZip (λ part rows. Denote (proto_of_row l.self.strings.now.rows.items l.self.types.now.rows.items) (IsRowOf l.self.strings.now.rows.items l.self.types.now.rows.items) part.protos rows) (map (λ part. part.now) (take l.i l.self.parts.now)) (map numbers_in l.tables.items);
 }

@@ -1,8 +1,0 @@
-use Rattle.dexpool.proofs.Common.{map, take, length, All, AllZip, AreSorted, field_of, field_key, IsFieldWithin, Denote}
-use Rattle.dexpool.proofs.joined_tables.join_fields.Given as goal
-
-abbrev pub invariant-loop-i : goal.invariant-loop-i
-invariant-loop-i l = record {
-  are_encoded : AllZip (λ part rows. Denote (field_of l.strings.rows.items l.types.rows.items) (IsFieldWithin (length l.strings.rows.items) (length l.types.rows.items)) part.fields rows) (map (λ part. part.now) (take l.i l.parts)) (map (λ rows. rows.items) l.rows.items);
-  sorted : All (λ rows. AreSorted field_key rows.items) l.rows.items;
-}

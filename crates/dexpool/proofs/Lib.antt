@@ -41,3 +41,4 @@ pub mod StoredImages
 pub mod InPlace
 pub mod CutRows
 pub mod KeptPlaces
+pub mod Tested

@@ -22,7 +22,17 @@ pub(crate) fn closed(tables: &Tables<'_>, marks: &Marks) -> Result<Marks, AllocE
     ensures { IfOk result (AreClosure tables.now marks.now) }
 {
     let mut closed = copied(marks)?;
-    mark_below(tables, &mut closed);
+    let Marks {
+        strings,
+        types,
+        protos,
+        fields,
+        methods,
+    } = &mut closed;
+    mark_by_methods(&tables.methods, methods, strings, types, protos);
+    mark_by_fields(&tables.fields, fields, strings, types);
+    mark_by_protos(&tables.protos, &tables.parameters, protos, strings, types);
+    mark_by_types(&tables.types, types, strings);
     Ok(closed)
 }
 
@@ -42,25 +52,6 @@ fn copied(marks: &Marks) -> Result<Marks, AllocError>
         fields: Vec::from_slice(alloc, &marks.fields)?,
         methods: Vec::from_slice(alloc, &marks.methods)?,
     })
-}
-
-// Marks what marked methods, fields, protos and types name.
-fn mark_below(tables: &Tables<'_>, marks: &mut Marks)
-    requires tables { AreTables tables.now }
-    requires marks { AreMarksOf (symbols_in tables.now) marks.old }
-    ensures { AreClosure tables.now marks.old marks.new }
-{
-    let Marks {
-        strings,
-        types,
-        protos,
-        fields,
-        methods,
-    } = marks;
-    mark_by_methods(&tables.methods, methods, strings, types, protos);
-    mark_by_fields(&tables.fields, fields, strings, types);
-    mark_by_protos(&tables.protos, &tables.parameters, protos, strings, types);
-    mark_by_types(&tables.types, types, strings);
 }
 
 // Marks the classes, names and protos of marked methods.

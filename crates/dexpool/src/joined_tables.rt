@@ -7,7 +7,6 @@ ghost use Rattle.dexpool.specs.Numberings.{IsNumbering, union_of, PartsMapTo};
 ghost use Rattle.dexpool.specs.Orderly.{KeepOrder};
 ghost use Rattle.dexpool.specs.internal.Renumbering.{numbers_in, HasSpans};
 ghost use Rattle.dexpool.specs.internal.Joining.{proto_key, JoinsRows, AreTextsOf, AreTypesOf, AreProtosOf, AreFieldsOf, AreMethodsOf, AreTablesOf, MovesTextsOf, MovesTypesOf, total_maps, HaveSameParts, HavePart, SameFrom, AreRemapsOf};
-ghost use Rattle.dexpool.specs.Stored.{symbols_in, AreTables};
 ghost use Rattle.std.specs.List.{AllZip};
 ghost use Rattle.dexpool.specs.Laws.{MapsAll};
 
@@ -43,7 +42,33 @@ impl<'a> Numbering<'a> {
         ensures whole { IfOk result (λ joined.
             AllZip MapsAll (map (λ part. part.now) parts.now) joined.1.items) }
     {
-        let (tables, remaps) = join_tables(alloc, parts)?;
+        let strings = join_strings(alloc, parts)?;
+        let types = join_types(alloc, parts, &strings)?;
+        let lower = LowerJoined {
+            alloc,
+            parts,
+            strings: &strings,
+            types: &types,
+        };
+        let protos = lower.join_protos()?;
+        let fields = lower.join_fields()?;
+        let methods = lower.join_methods(&protos)?;
+        let images = JoinedImages {
+            strings: strings.images,
+            types: types.images,
+            protos: protos.images,
+            fields: fields.images,
+            methods: methods.images,
+        };
+        let remaps = images.remaps(alloc)?;
+        let tables = Tables {
+            strings: strings.rows,
+            types: types.rows,
+            protos: protos.table.rows,
+            parameters: Parameters::own(protos.table.parameters),
+            fields: fields.rows,
+            methods: methods.rows,
+        };
         Ok((Numbering { tables }, remaps))
     }
 }
@@ -72,49 +97,6 @@ struct JoinedImages {
     protos: Vec<Vec<u32>>,
     fields: Vec<Vec<u32>>,
     methods: Vec<Vec<u32>>,
-}
-
-/// The symbols of all parts in one numbering's tables, and for each part where its numbers lead.
-///
-/// Error: the memory for the tables and the maps was refused.
-pub(crate) fn join_tables<'a>(
-    alloc: Global,
-    parts: &[&Numbering<'a>],
-) -> Result<(Tables<'a>, Vec<Remap>), AllocError>
-    ensures tables { IfOk result (λ joined. AreTables joined.0) }
-    ensures union { IfOk result (λ joined.
-        symbols_in joined.0 ≡ union_of (map (λ part. part.now) parts.now)) }
-    ensures maps { IfOk result (λ joined.
-        PartsMapTo parts.now (symbols_in joined.0) joined.1.items) }
-{
-    let strings = join_strings(alloc, parts)?;
-    let types = join_types(alloc, parts, &strings)?;
-    let lower = LowerJoined {
-        alloc,
-        parts,
-        strings: &strings,
-        types: &types,
-    };
-    let protos = lower.join_protos()?;
-    let fields = lower.join_fields()?;
-    let methods = lower.join_methods(&protos)?;
-    let images = JoinedImages {
-        strings: strings.images,
-        types: types.images,
-        protos: protos.images,
-        fields: fields.images,
-        methods: methods.images,
-    };
-    let remaps = images.remaps(alloc)?;
-    let tables = Tables {
-        strings: strings.rows,
-        types: types.rows,
-        protos: protos.table.rows,
-        parameters: Parameters::own(protos.table.parameters),
-        fields: fields.rows,
-        methods: methods.rows,
-    };
-    Ok((tables, remaps))
 }
 
 // The texts of all parts.
@@ -196,7 +178,10 @@ impl LowerJoined<'_, '_, '_> {
             (AreProtosOf self.now.parts.now self.now.strings.now self.now.types.now) }
     {
         let tables = self.renumbered_tables()?;
-        let rows = rows_of_tables(self.alloc, &tables)?;
+        let mut rows = Vec::with_capacity(self.alloc, tables.len())?;
+        for table in &tables {
+            rows.push(proto_rows(self.alloc, table)?)?;
+        }
         let joined = join_rows(self.alloc, &rows)?;
         Ok(JoinedProtos {
             table: stored(self.alloc, &joined.rows)?,
@@ -262,38 +247,16 @@ impl LowerJoined<'_, '_, '_> {
     }
 }
 
-// The rows of each table of protos.
-fn rows_of_tables(alloc: Global, tables: &[Protos]) -> Result<Vec<Vec<ProtoRow<'_>>>, AllocError>
-    requires { All HasSpans tables.now }
-    ensures { IfOk result (λ rows. map (λ table. table.items) rows.items
-        ≡ map numbers_in tables.now) }
-{
-    let mut rows = Vec::with_capacity(alloc, tables.len())?;
-    for table in tables {
-        rows.push(proto_rows(alloc, table)?)?;
-    }
-    Ok(rows)
-}
-
 // The rows of each part, which are sorted, joined.
 fn join_rows<R: Row>(alloc: Global, parts: &[Vec<R>]) -> Result<Joined<R>, AllocError>
     requires { All (λ part. AreSorted R.key_of part.items) parts.now }
     ensures { IfOk result (JoinsRows R.key_of parts.now) }
 {
-    let slices = slices_of(alloc, parts)?;
-    join(alloc, &slices)
-}
-
-// The rows of each part, lent.
-fn slices_of<R: Row>(alloc: Global, parts: &[Vec<R>]) -> Result<Vec<&[R]>, AllocError>
-    ensures { IfOk result (λ slices. map (λ slice. slice.now) slices.items
-        ≡ map (λ part. part.items) parts.now) }
-{
     let mut slices = Vec::with_capacity(alloc, parts.len())?;
     for part in parts {
         slices.push(part.as_slice())?;
     }
-    Ok(slices)
+    join(alloc, &slices)
 }
 
 impl JoinedImages {

@@ -3,7 +3,7 @@
 
 ghost use Rattle.std.specs.Prelude.{◌≡◌, length, IfOk, ◌≢◌, IfSome, IfNone};
 ghost use Rattle.dexpool.specs.declared.numbering.Tables.{Tables};
-ghost use Rattle.dexpool.specs.Cut.{kept, places};
+ghost use Rattle.dexpool.specs.Cut.{kept};
 ghost use Rattle.dexpool.specs.Numberings.{AreMarksOf, marked, AllMapTo};
 ghost use Rattle.dexpool.specs.Stored.{symbols_in, AreTables};
 ghost use Rattle.dexpool.specs.internal.Closing.{AreClosed, AreMarkedRows, AreKept, kept_places};
@@ -150,11 +150,11 @@ fn kept_remap(alloc: Global, marks: Marks) -> Result<Remap, AllocError>
     ensures { IfOk result (λ remap. remap ≡ kept_places marks) }
 {
     Ok(Remap {
-        strings: places_of(alloc, &marks.strings)?,
-        types: places_of(alloc, &marks.types)?,
-        protos: places_of(alloc, &marks.protos)?,
-        fields: places_of(alloc, &marks.fields)?,
-        methods: places_of(alloc, &marks.methods)?,
+        strings: Images::places(alloc, &marks.strings)?,
+        types: Images::places(alloc, &marks.types)?,
+        protos: Images::places(alloc, &marks.protos)?,
+        fields: Images::places(alloc, &marks.fields)?,
+        methods: Images::places(alloc, &marks.methods)?,
     })
 }
 
@@ -188,21 +188,4 @@ fn marked_copy<R: Row>(alloc: Global, rows: &[R], marks: &[bool]) -> Result<Vec<
         }
     }
     Ok(copy)
-}
-
-// The place of each row among the marked ones, if it is one.
-fn places_of(alloc: Global, marks: &[bool]) -> Result<Images, AllocError>
-    ensures { IfOk result (λ images. images ≡ places 0 marks.now) }
-{
-    let mut images = Images::with_capacity(alloc, marks.len())?;
-    let mut count: u32 = 0;
-    for is_marked in marks {
-        if *is_marked {
-            images.push_image(count)?;
-            count += 1;
-        } else {
-            images.push_none()?;
-        }
-    }
-    Ok(images)
 }

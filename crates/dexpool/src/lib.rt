@@ -32,7 +32,6 @@ mod strings;
 mod symbols;
 mod types;
 mod visiting;
-mod weight;
 
 pub use dexrows::{FieldRow, MethodRow, ProtoRow, Row, TypeNumbers, TypeRow};
 pub use faults::{ItemFault, ReadFault};

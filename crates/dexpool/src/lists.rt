@@ -24,10 +24,9 @@ pub fn type_list_len(frame: &Frame<'_>, off: u32) -> Option<u32>
         return None;
     }
     let count = u32_at(frame.rest(off), 0);
-    if !frame.is_in_data(off, 4 + 2 * u64::from(count)) {
-        return None;
-    }
-    Some(count)
+    frame
+        .is_in_data(off, 4 + 2 * u64::from(count))
+        .then_some(count)
 }
 
 /// Returns the place of the numbers of the types that are listed at an offset, in the bytes as numbers of two bytes
@@ -40,12 +39,9 @@ pub(crate) fn place_at(frame: &Frame<'_>, off: u32) -> Option<Span>
     if off == 0 {
         return Some(Span { start: 0, end: 0 });
     }
-    let count = type_list_len(frame, off)?;
     let start = (off as usize + 4) / 2;
-    Some(Span {
-        start,
-        end: start + count as usize,
-    })
+    let end = start + type_list_len(frame, off)? as usize;
+    Some(Span { start, end })
 }
 
 /// How the lists of a table are kept.

@@ -57,10 +57,7 @@ fn field_at(names: &Names<'_, '_>, known: &mut [bool], i: u32) -> Option<FieldRo
     let class = names.typ(field.class as usize)?;
     let typ = names.typ(field.typ as usize)?;
     let name = names.text(field.name as usize)?;
-    if !is_field(class, name, typ, &mut known[field.name as usize]) {
-        return None;
-    }
-    Some(field)
+    is_field(class, name, typ, &mut known[field.name as usize]).then_some(field)
 }
 
 /// Reads the fields of a file whose texts and types are read. The condition fails at a row with an index out of range,
@@ -146,10 +143,7 @@ fn method_at(
     if protos.len() <= method.proto as usize {
         return None;
     }
-    if !is_method(class, name, &mut known[method.name as usize]) {
-        return None;
-    }
-    Some(method)
+    is_method(class, name, &mut known[method.name as usize]).then_some(method)
 }
 
 /// Reads the methods of a file whose texts, types and protos are read. The condition fails at a row with an index out of

@@ -94,8 +94,7 @@ impl<'a> Pools<'a> {
     pub fn into_numbering(self) -> Numbering<'a>
         ensures { result ≡ self.entry }
     {
-        let Pools { numbering } = self;
-        numbering
+        self.numbering
     }
 
     /// The number of rows of a pool.

@@ -81,56 +81,44 @@ impl<'r, 'p, 'a> ProtoReader<'r, 'p, 'a> {
         }
     }
 
-    /// Returns whether types of values are listed at an offset, where there is a place for them, and their shorty is
-    /// the text of the number after the letter. A long list that passed this check is not checked again.
-    pub(crate) fn has_shorty(
-        &self,
-        lists: &CheckedLists,
-        off: u32,
-        checked: CheckedList,
-        text: &Text<'_>,
-    ) -> bool
+    // Returns whether types of values are listed at an offset, where there is a place for them, and their shorty is
+    // the text of the number after the letter. A long list that passed this check is not checked again.
+    fn has_shorty(&self, lists: &CheckedLists, off: u32, list: CheckedList, text: &Text<'_>) -> bool
         requires reader { IsReader self.now }
         requires lists { AreFileLists self.now lists.now }
-        requires placed { IsPlaced self.now.names.now.frame.now off checked.span }
-        requires text { text.now ≡ text_of self.now.names.now.strings.now checked.shorty }
-        requires letter { IsAscii checked.letter }
-        ensures yes { result ≡ true → IsFileList self.now.names.now off checked }
+        requires placed { IsPlaced self.now.names.now.frame.now off list.span }
+        requires text { text.now ≡ text_of self.now.names.now.strings.now list.shorty }
+        requires letter { IsAscii list.letter }
+        ensures yes { result ≡ true → IsFileList self.now.names.now off list }
         ensures no { result ≡ false
-            → NotListedAs self.now.names.now.frame.now off checked.letter text.now }
+            → NotListedAs self.now.names.now.frame.now off list.letter text.now }
     {
         if let Some(known) = lists.long.get(&off) {
-            if known.shorty == checked.shorty && known.letter == checked.letter {
+            if known.shorty == list.shorty && known.letter == list.letter {
                 return true;
             }
         }
         match text.ascii() {
-            Some(units) => self.spells(lists, units, checked),
+            Some(units) => self.spells(lists, units, list),
             None => false,
         }
     }
 
-    /// Notes a list that was checked, if it is long.
-    ///
-    /// Error: the memory for it was refused.
-    pub(crate) fn note(
-        &self,
-        lists: &mut CheckedLists,
-        off: u32,
-        checked: CheckedList,
-    ) -> Result<(), AllocError>
+    // Notes a list that was checked, if it is long.
+    //
+    // Error: the memory for it was refused.
+    fn note(&self, lists: &mut CheckedLists, off: u32, list: CheckedList) -> Result<(), AllocError>
         requires reader { IsReader self.now }
         requires lists { AreFileLists self.now lists.old }
-        requires checked { IsFileList self.now.names.now off checked }
+        requires checked { IsFileList self.now.names.now off list }
         ensures { OnOk result (AreFileLists self.now lists.new) }
     {
-        let count = checked.span.len();
+        let count = list.span.len();
         if count <= SHORT {
             return Ok(());
         }
-        lists.long.insert(off, checked)?;
-        self.add(lists, count)?;
-        Ok(())
+        lists.long.insert(off, list)?;
+        self.add(lists, count)
     }
 
     // Counts the numbers of a long list, and looks the letters up once they are more than the file has.
@@ -156,24 +144,17 @@ pub(crate) struct Protos {
     pub(crate) parameters: Vec<usize>,
 }
 
-// The numbers in a row.
-#[derive(Clone, Copy)]
-struct Indices {
-    shorty: usize,
-    return_type: usize,
-    off: u32,
-}
-
-fn indices_at(frame: &Frame<'_>, i: u32) -> Indices
+// The numbers in a row: of the shorty, of the return type, and the offset of the parameters.
+fn indices_at(frame: &Frame<'_>, i: u32) -> (usize, usize, u32)
     requires { i < table_size frame.now ProtoIds }
-    ensures { HasIndices frame.now i result.shorty result.return_type result.off }
+    ensures { HasIndices frame.now i result.0 result.1 result.2 }
 {
     let row = frame.row(Table::ProtoIds, i);
-    Indices {
-        shorty: u32_at(row, 0) as usize,
-        return_type: u32_at(row, 4) as usize,
-        off: u32_at(row, 8),
-    }
+    (
+        u32_at(row, 0) as usize,
+        u32_at(row, 4) as usize,
+        u32_at(row, 8),
+    )
 }
 
 impl TableReader for ProtoReader<'_, '_, '_> {
@@ -202,31 +183,31 @@ impl TableReader for ProtoReader<'_, '_, '_> {
     // Of lists that rows share, `lists` has those that were checked.
     fn row_at(&self, lists: &mut CheckedLists, i: u32) -> Result<Option<ProtoEntry>, AllocError> {
         let names = self.names;
-        let indices = indices_at(names.frame, i);
-        let shorty = match names.text(indices.shorty) {
-            Some(shorty) => shorty,
+        let (shorty, return_type, off) = indices_at(names.frame, i);
+        let text = match names.text(shorty) {
+            Some(text) => text,
             None => return Ok(None),
         };
-        let return_type = match names.typ(indices.return_type) {
-            Some(return_type) => return_type,
+        let typ = match names.typ(return_type) {
+            Some(typ) => typ,
             None => return Ok(None),
         };
-        let span = match place_at(names.frame, indices.off) {
+        let span = match place_at(names.frame, off) {
             Some(span) => span,
             None => return Ok(None),
         };
-        let checked = CheckedList {
+        let list = CheckedList {
             span,
-            shorty: indices.shorty,
-            letter: letter(return_type),
+            shorty,
+            letter: letter(typ),
         };
-        if !self.has_shorty(lists, indices.off, checked, shorty) {
+        if !self.has_shorty(lists, off, list, text) {
             return Ok(None);
         }
-        self.note(lists, indices.off, checked)?;
+        self.note(lists, off, list)?;
         Ok(Some(ProtoEntry {
-            shorty: indices.shorty,
-            return_type: indices.return_type,
+            shorty,
+            return_type,
             parameters: span,
         }))
     }

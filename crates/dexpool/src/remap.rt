@@ -1,6 +1,7 @@
 //! Maps from the numbers of one numbering to those of another, in four bytes for each number.
 
-ghost use Rattle.std.specs.Prelude.{◌≡◌, [], unwrap_or, ◌∷◌, ◌++◌, ◌<◌, Some, None, OnOk, IfOk, map};
+ghost use Rattle.std.specs.Prelude.{◌≡◌, [], unwrap_or, Some, IfOk, map};
+ghost use Rattle.dexpool.specs.Cut.{places};
 ghost use Rattle.dexpool.specs.Numberings.{image_of, image};
 ghost use Rattle.dexpool.specs.Orderly.{KeepOrder};
 ghost use Rattle.dexpool.specs.internal.Closing.{number_or_none};
@@ -37,13 +38,25 @@ impl Images {
         }
     }
 
-    /// The images of no number, with room for those of `count`.
-    pub(crate) fn with_capacity(alloc: Global, count: usize) -> Result<Images, AllocError>
-        ensures { IfOk result (λ images. images ≡ []) }
+    /// For each mark its place among those that are set, or none where it is not set.
+    ///
+    /// Error: the memory for the places was refused, or one of them is 2^32 - 1, for which there is no room.
+    pub(crate) fn places(alloc: Global, marks: &[bool]) -> Result<Images, AllocError>
+        ensures { IfOk result (λ images. images ≡ places 0 marks.now) }
     {
-        Ok(Images {
-            numbers: Vec::with_capacity(alloc, count)?,
-        })
+        let mut places = Vec::with_capacity(alloc, marks.len())?;
+        let mut count: u32 = 0;
+        for is_marked in marks {
+            if !*is_marked {
+                places.push(NO_IMAGE)?;
+            } else if count < NO_IMAGE {
+                places.push(count)?;
+                count += 1;
+            } else {
+                return Err(AllocError);
+            }
+        }
+        Ok(Images { numbers: places })
     }
 
     /// These images, one for each number. They are not copied.
@@ -57,26 +70,6 @@ impl Images {
             return Err(AllocError);
         }
         Ok(Images { numbers })
-    }
-
-    /// Appends the image of the next number.
-    ///
-    /// Error: the memory for it was refused, or it is 2^32 - 1, for which there is no room.
-    pub(crate) fn push_image(&mut self, image: u32) -> Result<(), AllocError>
-        ensures image { OnOk result (self.new ≡ self.old ++ Some image ∷ []) }
-        ensures small { OnOk result (image < 0xffffffff) }
-    {
-        if image == NO_IMAGE {
-            return Err(AllocError);
-        }
-        Ok(self.numbers.push(image)?)
-    }
-
-    /// Appends that the next number has no image.
-    pub(crate) fn push_none(&mut self) -> Result<(), AllocError>
-        ensures { OnOk result (self.new ≡ self.old ++ None ∷ []) }
-    {
-        Ok(self.numbers.push(NO_IMAGE)?)
     }
 
     /// The image of a number, or `None` where it has none.

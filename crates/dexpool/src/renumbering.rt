@@ -112,11 +112,8 @@ pub(crate) fn proto_rows(alloc: Global, protos: &Protos) -> Result<Vec<ProtoRow<
 {
     let mut rows = Vec::with_capacity(alloc, protos.rows.len())?;
     for entry in &protos.rows {
-        rows.push(ProtoRow::new(
-            entry.shorty,
-            entry.return_type,
-            entry.parameters.of(&protos.parameters),
-        ))?;
+        let parameters = entry.parameters.of(&protos.parameters);
+        rows.push(ProtoRow::new(entry.shorty, entry.return_type, parameters))?;
     }
     Ok(rows)
 }
@@ -142,13 +139,11 @@ pub(crate) fn stored(alloc: Global, protos: &[ProtoRow<'_>]) -> Result<Protos, A
     for proto in protos {
         let start = parameters.len();
         push_numbers(&proto.parameters(), &mut parameters)?;
+        let end = parameters.len();
         rows.push(ProtoEntry {
             shorty: proto.shorty(),
             return_type: proto.return_type(),
-            parameters: Span {
-                start,
-                end: parameters.len(),
-            },
+            parameters: Span { start, end },
         })?;
     }
     Ok(Protos { rows, parameters })

@@ -6,4 +6,4 @@ pub returns-then-off-eq0 : goal.returns-then-off-eq0
 returns-then-off-eq0 c = none_placed c.args.frame.now c.args.off c.if-off-eq0.true
 
 pub returns : goal.returns
-returns c = some_placed c.args.frame.now c.args.off c.in_ok-count.count _ c.in_ok-count.ensures c.if-off-eq0.false refl refl
+returns c = some_placed c.args.frame.now c.args.off c.in_ok-end.field-0 _ c.in_ok-end.ensures c.if-off-eq0.false refl refl

@@ -218,9 +218,6 @@ impl<W: Sink> Listing<'_, '_, '_, W> {
         requires { W.has_failed self.old.out.now ≡ false }
         ensures { GoesOn W.has_failed self.old self.new result }
     {
-        match mnemonic(opcode) {
-            Some(mnemonic) => self.put(mnemonic.as_bytes()),
-            None => Ok(()),
-        }
+        self.put(mnemonic(opcode).unwrap_or("").as_bytes())
     }
 }

@@ -1,12 +1,11 @@
 //! Checking a whole file.
 
-ghost use Rattle.std.specs.Prelude.{◌+◌, ◌<◌, All, IfOk, IfErr, OnOk};
+ghost use Rattle.std.specs.Prelude.{◌<◌, All, IfOk, IfErr};
 ghost use Rattle.dexspec.specs.Header.{ClassDefs, table_size};
 ghost use Rattle.dexspec.specs.Accepted.{HoldBelow};
 ghost use Rattle.dexpool.specs.Pools.{ArePools};
 ghost use Rattle.dexclass.specs.Programs.{IsFaultOf};
 ghost use Rattle.dexclass.specs.Checking.{HaveBodiesOf, IsCheckedAs};
-ghost use Rattle.dexclass.specs.internal.Checked.{AreCheckedRows};
 
 use crate::class_checks::check_classes;
 use crate::reading::{
@@ -47,62 +46,15 @@ pub fn check_frame(alloc: Global, frame: &Frame<'_>) -> Result<usize, ReadFault>
         return Ok(frame.size(Table::ClassDefs) as usize);
     }
     // Of the symbols of the pools only those count that the classes mention.
-    read_len(alloc, frame, pools)
+    are_bytes(frame.bytes());
+    let program = read_rows(alloc, frame, pools)?;
+    Ok(program.len())
 }
 
 // The numbers of bytes are below 256.
 fn are_bytes(bytes: &[u8])
     ensures { All (λ byte. byte < 256) bytes.now }
 {}
-
-// The number of class definitions of a file of which conditions 1 to 16 hold and whose classes are read.
-fn read_len<'a>(alloc: Global, frame: &Frame<'a>, pools: Pools<'a>) -> Result<usize, ReadFault>
-    requires pools { ArePools frame.now pools }
-    requires holds { HoldBelow 17 frame.now }
-    ensures accepted { IfOk result (IsCheckedAs frame.now) }
-    ensures refused { IfErr result (IsFaultOf frame.now) }
-{
-    are_bytes(frame.bytes());
-    let program = read_rows(alloc, frame, pools)?;
-    Ok(program.len())
-}
-
-// What was checked of a file with its first class rows, and what these weigh together.
-#[derive(Drop)]
-struct CheckedRows {
-    checks: Checks,
-    weight: u64,
-}
-
-// Checks class row `r`, and adds it to the rows before it.
-fn check_row(
-    alloc: Global,
-    frame: &Frame<'_>,
-    pools: &Pools<'_>,
-    r: u32,
-    rows: &mut CheckedRows,
-) -> Result<(), ReadFault>
-    requires pools { ArePools frame.now pools.now }
-    requires holds { HoldBelow 17 frame.now }
-    requires row { r < table_size frame.now ClassDefs }
-    requires rows { AreCheckedRows frame.now pools.now r rows.old }
-    ensures accepted { OnOk result (AreCheckedRows frame.now pools.now (r + 1) rows.new) }
-    ensures refused { IfErr result (IsFaultOf frame.now) }
-{
-    let row = ClassDef::at(frame, r);
-    let interfaces = interface_count(frame, row.interfaces_off);
-    let members = match check_members(alloc, frame, pools, &row, &mut rows.checks) {
-        Ok(members) => members,
-        Err(fault) => return Err(at_row(fault, r)),
-    };
-    let before = rows.weight.saturating_add(row_weight(interfaces));
-    let weight = before.saturating_add(members);
-    if weight > MOST_WEIGHT {
-        return Err(too_heavy(r));
-    }
-    rows.weight = weight;
-    Ok(())
-}
 
 // Checks the class rows of a file of which conditions 1 to 16 hold, from row 0 on, until they weigh too much. Returns
 // what they weigh together.
@@ -112,12 +64,20 @@ fn check_rows(alloc: Global, frame: &Frame<'_>, pools: &Pools<'_>) -> Result<u64
     ensures accepted { IfOk result (HaveBodiesOf frame.now (table_size frame.now ClassDefs)) }
     ensures refused { IfErr result (IsFaultOf frame.now) }
 {
-    let mut rows = CheckedRows {
-        checks: Checks::none(alloc),
-        weight: 0,
-    };
+    let mut checks = Checks::none(alloc);
+    let mut weight: u64 = 0;
     for r in 0..frame.size(Table::ClassDefs) {
-        check_row(alloc, frame, pools, r, &mut rows)?;
+        let row = ClassDef::at(frame, r);
+        let interfaces = interface_count(frame, row.interfaces_off);
+        let members = match check_members(alloc, frame, pools, &row, &mut checks) {
+            Ok(members) => members,
+            Err(fault) => return Err(at_row(fault, r)),
+        };
+        let before = weight.saturating_add(row_weight(interfaces));
+        weight = before.saturating_add(members);
+        if weight > MOST_WEIGHT {
+            return Err(too_heavy(r));
+        }
     }
-    Ok(rows.weight)
+    Ok(weight)
 }

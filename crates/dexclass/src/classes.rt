@@ -1,13 +1,12 @@
 //! Class definitions with numbers instead of symbols.
 
-ghost use Rattle.std.specs.Prelude.{◌≡◌, ℕ, List, length, IfOk};
-ghost use Rattle.dexmembers.specs.ClassDefs.{IsClassDef};
+ghost use Rattle.std.specs.Prelude.{◌≡◌, length, IfOk};
 ghost use Rattle.dexclass.specs.internal.Rows.{interface_indices, HasInterfaceList};
-ghost use Rattle.dexclass.specs.Numbered.{number_of, IsOfRow};
+ghost use Rattle.dexclass.specs.Numbered.{number_of};
 
 use dexflags::ClassFlags;
 use dexhead::{Frame, u16_at};
-use dexmembers::{ClassDef, Members};
+use dexmembers::Members;
 use dexorder::HasParents;
 use std::alloc::{AllocError, Global};
 use std::marker::Model;
@@ -130,8 +129,8 @@ impl<'a> HasParents for Class<'a> {
     }
 }
 
-// The number of an index, if it is one.
-fn number_of(index: u32) -> Option<usize>
+/// The number of an index, if it is one.
+pub(crate) fn number_of(index: u32) -> Option<usize>
     ensures { result ≡ number_of index }
 {
     (index != NO_INDEX).then_some(index as usize)
@@ -158,29 +157,4 @@ pub(crate) fn interfaces_at(
         interfaces.push(usize::from(u16_at(list, 4 + 2 * k as usize)))?;
     }
     Ok(interfaces)
-}
-
-/// The class of a row, with the indices of the file as numbers: the row has these interfaces, declares these members,
-/// and weighs this much.
-///
-/// Source: "class_def_item".
-pub(crate) fn class_of<'a>(
-    row: &ClassDef,
-    interfaces: Vec<usize>,
-    members: Members<'a>,
-    weight: u64,
-) -> Class<'a>
-    ensures { (b : List ℕ) (r : ℕ) → IsClassDef b r row.now
-        → interfaces.items ≡ interface_indices b row.now.interfaces_off
-        → IsOfRow b r members.entry weight result }
-{
-    Class {
-        name: row.class_idx as usize,
-        flags: row.access_flags,
-        superclass: number_of(row.superclass_idx),
-        interfaces,
-        source: number_of(row.source_file_idx),
-        members,
-        weight,
-    }
 }

@@ -1,6 +1,6 @@
 //! Reading a whole file.
 
-ghost use Rattle.std.specs.Prelude.{◌≡◌, ◌+◌, ◌*◌, ◌<◌, All, length, IfOk, IfErr, MatchOption, OnOk};
+ghost use Rattle.std.specs.Prelude.{◌≡◌, ◌+◌, ◌*◌, ◌<◌, All, length, IfOk, IfErr, MatchOption};
 ghost use Rattle.dexspec.specs.Header.{ClassDefs, table_size};
 ghost use Rattle.dexspec.specs.Accepted.{HoldBelow};
 ghost use Rattle.dexpool.specs.Pools.{ArePools};
@@ -11,7 +11,7 @@ ghost use Rattle.dexclass.specs.Programs.{IsReadAs, IsFaultOf};
 ghost use Rattle.dexclass.specs.internal.Reading.{AreBodies, AreHeavy, IsWhole};
 
 use crate::class_checks::check_classes;
-use crate::classes::{Class, class_of, interfaces_at};
+use crate::classes::{Class, interfaces_at, number_of};
 use crate::programs::Program;
 use crate::trimming::into_trimmed;
 use dexhead::{Condition, Frame, Refusal, Table};
@@ -84,42 +84,6 @@ struct Bodies<'a> {
     weight: u64,
 }
 
-// Reads class row `r` and adds it to the classes of the rows before it.
-fn read_row<'a>(
-    alloc: Global,
-    frame: &Frame<'a>,
-    pools: &Pools<'a>,
-    r: u32,
-    bodies: &mut Bodies<'a>,
-) -> Result<(), ReadFault>
-    requires pools { ArePools frame.now pools.now }
-    requires before { HoldBelow 17 frame.now }
-    requires row { r < table_size frame.now ClassDefs }
-    requires bodies { AreBodies frame.now pools.now r bodies.old }
-    ensures accepted { OnOk result (AreBodies frame.now pools.now (r + 1) bodies.new) }
-    ensures refused { IfErr result (IsFaultOf frame.now) }
-{
-    pools.numbering().is_numbering();
-    let row = ClassDef::at(frame, r);
-    let count = interface_count(frame, row.interfaces_off);
-    let own = row_weight(count);
-    let most = MOST_WEIGHT.saturating_sub(bodies.weight + own) as u32;
-    let (members, weight) = match read_members(alloc, frame, pools, &row, most) {
-        Ok(found) => found,
-        Err(fault) => return Err(at_row(fault, r)),
-    };
-    let body = own + u64::from(weight);
-    let weight = bodies.weight + body;
-    if weight > MOST_WEIGHT {
-        return Err(too_heavy(r));
-    }
-    let interfaces = interfaces_at(alloc, frame, row.interfaces_off, count)?;
-    let class = class_of(&row, interfaces, members, body);
-    bodies.classes.push(class)?;
-    bodies.weight = weight;
-    Ok(())
-}
-
 // Reads the class rows, from row 0 on, until the classes weigh too much.
 fn read_bodies<'a>(
     alloc: Global,
@@ -132,13 +96,38 @@ fn read_bodies<'a>(
         (AreBodies frame.now pools.now (table_size frame.now ClassDefs)) }
     ensures refused { IfErr result (IsFaultOf frame.now) }
 {
-    let count = frame.size(Table::ClassDefs);
+    pools.numbering().is_numbering();
+    let rows = frame.size(Table::ClassDefs);
     let mut bodies = Bodies {
-        classes: Vec::with_capacity(alloc, count as usize)?,
+        classes: Vec::with_capacity(alloc, rows as usize)?,
         weight: 0,
     };
-    for r in 0..count {
-        read_row(alloc, frame, pools, r, &mut bodies)?;
+    for r in 0..rows {
+        let row = ClassDef::at(frame, r);
+        let count = interface_count(frame, row.interfaces_off);
+        let own = row_weight(count);
+        let most = MOST_WEIGHT.saturating_sub(bodies.weight + own) as u32;
+        let (members, weight) = match read_members(alloc, frame, pools, &row, most) {
+            Ok(found) => found,
+            Err(fault) => return Err(at_row(fault, r)),
+        };
+        let body = own + u64::from(weight);
+        let weight = bodies.weight + body;
+        if weight > MOST_WEIGHT {
+            return Err(too_heavy(r));
+        }
+        let interfaces = interfaces_at(alloc, frame, row.interfaces_off, count)?;
+        let class = Class {
+            name: row.class_idx as usize,
+            flags: row.access_flags,
+            superclass: number_of(row.superclass_idx),
+            interfaces,
+            source: number_of(row.source_file_idx),
+            members,
+            weight: body,
+        };
+        bodies.classes.push(class)?;
+        bodies.weight = weight;
     }
     Ok(bodies)
 }
@@ -150,10 +139,7 @@ pub(crate) fn whole_weight(numbering: &Numbering<'_>, bodies: u64) -> Option<u64
 {
     let symbols = numbering.weight().saturating_add(1024);
     let weight = symbols.saturating_add(bodies);
-    if weight > MOST_WEIGHT {
-        return None;
-    }
-    Some(weight)
+    (weight <= MOST_WEIGHT).then_some(weight)
 }
 
 /// Reads the class rows of a file of which conditions 1 to 16 hold. Its pools are given up: where the classes mention
@@ -170,13 +156,10 @@ pub(crate) fn read_rows<'a>(
     ensures refused { IfErr result (IsFaultOf frame.now) }
 {
     denoted_is_good();
-    let Bodies {
-        mut classes,
-        weight,
-    } = read_bodies(alloc, frame, &pools)?;
-    let numbering = into_trimmed(alloc, pools.into_numbering(), &mut classes)?;
-    let Some(total) = whole_weight(&numbering, weight) else {
+    let mut bodies = read_bodies(alloc, frame, &pools)?;
+    let numbering = into_trimmed(alloc, pools.into_numbering(), &mut bodies.classes)?;
+    let Some(total) = whole_weight(&numbering, bodies.weight) else {
         return Err(too_heavy(frame.size(Table::ClassDefs).saturating_sub(1)));
     };
-    Ok(Program::weighing(alloc, numbering, classes, total)?)
+    Ok(Program::weighing(alloc, numbering, bodies.classes, total)?)
 }

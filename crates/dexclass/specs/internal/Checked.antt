@@ -11,7 +11,6 @@ use Rattle.dexpool.specs.declared.faults.ReadFault.TheVariants.{Refused, Memory}
 use Rattle.dexmembers.specs.Checking.{AreChecks}
 use Rattle.dexclass.specs.Checking.{HaveBodiesOf}
 use Rattle.dexclass.specs.declared.checked_lists.CheckedLists.{CheckedLists}
-use Rattle.dexclass.specs.declared.checking.CheckedRows.{CheckedRows}
 use Rattle.dexclass.specs.declared.class_checks.KnownFile.{KnownFile}
 use Rattle.dexclass.specs.internal.Rows.{AreDefinedMarks, IsInterfaceIndex, superclass_indices}
 
@@ -43,8 +42,3 @@ MarksClass index old new = (b : List ℕ) (r : ℕ) → class_idx b r ≡ index 
 abbrev pub IsFaultAtRow : ItemFault → ℕ → ReadFault → Type 0
 IsFaultAtRow items.Memory r fault = fault ≡ Memory
 IsFaultAtRow (items.Refused n) r fault = fault ≡ Refused (record { number = n; place = r })
-
--- what was checked is of the file, and the rows before row n weigh what is counted
-pub record AreCheckedRows (b : List ℕ) (m : Mentions) (n : ℕ) (rows : CheckedRows) : Type 0 where
-  pub checks_are : AreChecks b m rows.checks
-  pub bodies_are : HaveBodiesOf b n rows.weight

@@ -27,15 +27,10 @@ impl<'a> Class<'a> {
     pub fn copy(&self) -> Result<Class<'a>, AllocError>
         ensures { IfOk result (λ copy. copy ≡ self.now) }
     {
-        let interfaces = Vec::from_slice(*self.interfaces.allocator(), &self.interfaces)?;
         Ok(Class {
-            name: self.name,
-            flags: self.flags,
-            superclass: self.superclass,
-            interfaces,
-            source: self.source,
+            interfaces: Vec::from_slice(*self.interfaces.allocator(), &self.interfaces)?,
             members: self.members.copy()?,
-            weight: self.weight,
+            ..*self
         })
     }
 

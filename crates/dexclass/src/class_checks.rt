@@ -11,9 +11,10 @@ ghost use Rattle.dexclass.specs.internal.Checked.{AreSeen, IsInterface, AreInter
 use crate::checked_lists::{CheckedLists, Range16};
 use crate::class_types::{defined, is_class, mark, no_marks};
 use crate::classes::NO_INDEX;
-use dexhead::{Condition, Frame, Refusal, Table, u16_at};
+use crate::reading::at_row;
+use dexhead::{Condition, Frame, Table, u16_at};
 use dexmembers::ClassDef;
-use dexpool::{Pools, ReadFault, SymbolKind, type_list_len};
+use dexpool::{ItemFault, Pools, ReadFault, SymbolKind, type_list_len};
 use std::alloc::{AllocError, Global};
 
 // A list of at least this many numbers is remembered once it is checked. Pieces of this length are checked at a time.
@@ -204,10 +205,7 @@ pub(crate) fn check_classes(
             seen: &seen,
         };
         if !known_file.holds(&mut checked, &row)? {
-            return Err(ReadFault::Refused(Refusal {
-                number: Condition::Classes as u8,
-                place: r,
-            }));
+            return Err(at_row(ItemFault::Refused(Condition::Classes as u8), r));
         }
         mark(row.class_idx, &mut seen);
     }

@@ -31,27 +31,16 @@ fn marked(
     Ok(marks)
 }
 
-impl<'a> Class<'a> {
-    // Remaps the numbers of the class to those of a part of its numbering.
-    fn cut(&mut self, remap: &Remap)
-        requires down { MapsDown remap.now }
-        requires remapped { IsMappedClass remap.now self.old }
-        ensures { self.new ≡ renumbered remap.now self.old }
-    {
-        members_cut_law();
-        self.members.numbers_fit();
-        self.renumber(remap);
-    }
-}
-
 // Remaps the numbers of the classes to those of a part of their numbering.
 fn cut_all(remap: &Remap, classes: &mut Vec<Class<'_>>)
     requires down { MapsDown remap.now }
     requires remapped { All (IsMappedClass remap.now) classes.old.items }
     ensures { classes.new.items ≡ map (renumbered remap.now) classes.old.items }
 {
+    members_cut_law();
     for i in 0..classes.len() {
-        classes[i].cut(remap);
+        classes[i].members().numbers_fit();
+        classes[i].renumber(remap);
     }
 }
 

@@ -104,32 +104,22 @@ pub(crate) fn attach<'a>(
         → IfOk result (IsAttached declared.now parts.entry) }
     ensures held { IfOk result AreHeld }
 {
-    let Parts {
-        directory,
-        direct_codes: direct,
-        virtual_codes: virtuals,
-        codes_weight: _,
-        static_values,
-    } = parts;
-    let SharedDirectory {
-        table,
-        own,
-        fields,
-        methods: sets,
-        parameters: lists,
-    } = directory;
-    let static_fields = attach_fields(alloc, &declared.static_fields, &fields)?;
-    let instance_fields = attach_fields(alloc, &declared.instance_fields, &fields)?;
-    let direct_methods = attach_methods(alloc, &declared.direct_methods, direct, &sets, &lists)?;
+    let directory = parts.directory;
+    let sets = &directory.fields;
+    let static_fields = attach_fields(alloc, &declared.static_fields, sets)?;
+    let instance_fields = attach_fields(alloc, &declared.instance_fields, sets)?;
+    let (sets, lists) = (&directory.methods, &directory.parameters);
+    let (direct, virtuals) = (parts.direct_codes, parts.virtual_codes);
+    let direct_methods = attach_methods(alloc, &declared.direct_methods, direct, sets, lists)?;
     let listed = &declared.virtual_methods;
-    let virtual_methods = attach_methods(alloc, listed, virtuals, &sets, &lists)?;
+    let virtual_methods = attach_methods(alloc, listed, virtuals, sets, lists)?;
     Ok(Contents {
-        table,
-        set: own,
+        table: directory.table,
+        set: directory.own,
         static_fields,
         instance_fields,
         direct_methods,
         virtual_methods,
-        static_values,
+        static_values: parts.static_values,
     })
 }

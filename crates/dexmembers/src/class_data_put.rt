@@ -96,15 +96,6 @@ pub(crate) fn append<T: Encode>(item: &T, most: usize, out: &mut Vec<u8>) -> Res
 }
 
 impl Members<'_> {
-    // No class data of as many members has more bytes.
-    fn most_class_data_len(&self) -> usize
-        ensures { result ≡ 20 + 10 * length (fields_of self.now)
-            + 15 * length (methods_of self.now) }
-    {
-        self.are_few();
-        20 + 10 * self.field_count() + 15 * self.method_count()
-    }
-
     /// Appends the class_data_item: the counts of the four lists, and then each field as the difference of its number
     /// to that of the one before it and its access flags, and each method so with the offset of its code, each number a
     /// uleb128 in the fewest bytes. `code_offs` has the offset of the code of each method, the direct ones first, and 0
@@ -126,7 +117,9 @@ impl Members<'_> {
             → IsOk result }
     {
         members_bytes_law();
-        let most = self.most_class_data_len();
+        self.are_few();
+        // No class data of as many members has more bytes.
+        let most = 20 + 10 * self.field_count() + 15 * self.method_count();
         let item = ClassDataItem {
             members: self,
             code_offs,

@@ -90,10 +90,9 @@ impl<'m> Fields<'m> {
         requires { place < length self.now }
         ensures { result ≡ slice_index_or self.now place result }
     {
-        let fields = self.fields;
         Field {
             table: self.table,
-            field: &fields[place],
+            field: &self.fields[place],
         }
     }
 }

@@ -228,7 +228,6 @@ impl<'m> ParameterSets<'m> {
         requires { place < length self.now }
         ensures { IsBorrowedSet result (slice_index_or self.now place []) }
     {
-        let table = self.table;
-        table.set(self.places[place])
+        self.table.set(self.places[place])
     }
 }

@@ -112,7 +112,9 @@ impl<'a> Members<'a> {
             result ≡ min (2 ^ 64 - 1) (weight_in m self.now)) }
     {
         members_weight_law();
-        self.contents.weight()
+        let direct = codes_weight(&self.direct_methods());
+        let virtuals = codes_weight(&self.virtual_methods());
+        self.contents.weight_with(direct.saturating_add(virtuals))
     }
 }
 
@@ -128,19 +130,8 @@ pub fn members_weight_law()
 }
 
 impl Contents<'_> {
-    /// Returns the weight of all that is declared, in bytes, or 2^64 - 1 where that is more.
-    ///
-    /// Condition: the places are the table's.
-    pub(crate) fn weight(&self) -> u64
-        requires { AreHeld self.now }
-        ensures { result ≡ min (2 ^ 64 - 1) (numbered_members_weight (contents_in self.now)) }
-    {
-        let direct = codes_weight(&Methods::of(&self.table, &self.direct_methods));
-        let virtuals = codes_weight(&Methods::of(&self.table, &self.virtual_methods));
-        self.weight_with(direct.saturating_add(virtuals))
-    }
-
-    /// The same, where the code of the methods weighs `codes`, which is not weighed again.
+    /// Returns the weight of all that is declared, in bytes, or 2^64 - 1 where that is more. The code of the methods
+    /// weighs `codes`, and is not weighed again.
     ///
     /// Condition: the places are the table's.
     pub(crate) fn weight_with(&self, codes: u64) -> u64

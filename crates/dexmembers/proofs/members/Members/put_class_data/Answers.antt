@@ -3,7 +3,7 @@ use Rattle.dexmembers.proofs.ClassDataSpelled.{class_data_size}
 use Rattle.dexmembers.proofs.members.Members.put_class_data.Goals as goal
 
 pub append-requires-clause-most : goal.append-requires-clause-most
-append-requires-clause-most c = omega (arith, c.most_class_data_len-most.ensures, class_data_size c.args.self.now c.args.code_offs.now)
+append-requires-clause-most c = omega (arith, c.field_count.ensures, c.method_count.ensures, class_data_size c.args.self.now c.args.code_offs.now)
 
 pub returns-clause-symbolic : goal.returns-clause-symbolic
 returns-clause-symbolic c = λ m name body rising known class same.

@@ -111,8 +111,7 @@ pub(crate) fn attach<'a>(
     let (sets, lists) = (&directory.methods, &directory.parameters);
     let (direct, virtuals) = (parts.direct_codes, parts.virtual_codes);
     let direct_methods = attach_methods(alloc, &declared.direct_methods, direct, sets, lists)?;
-    let listed = &declared.virtual_methods;
-    let virtual_methods = attach_methods(alloc, listed, virtuals, sets, lists)?;
+    let virtual_methods = attach_methods(alloc, &declared.virtual_methods, virtuals, sets, lists)?;
     Ok(Contents {
         table: directory.table,
         set: directory.own,

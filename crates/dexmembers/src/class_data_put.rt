@@ -3,42 +3,26 @@
 ghost use Rattle.std.specs.Prelude.{◌≡◌, ◌+◌, ◌*◌, ◌≤◌, length, IsOk, vec_len, vec_capacity};
 ghost use Rattle.dexspec.specs.internal.Writing.{Puts};
 ghost use Rattle.dexmembers.specs.Numbered.{fields_of, methods_of};
-ghost use Rattle.dexmembers.specs.Spelled.{numbered_field_bytes, numbered_fields_bytes, numbered_method_bytes, numbered_methods_bytes, numbered_class_data_bytes, PutsDenotedClassData, class_data_room};
+ghost use Rattle.dexmembers.specs.Spelled.{numbered_fields_bytes, numbered_methods_bytes, numbered_class_data_bytes, PutsDenotedClassData, class_data_room};
 
-use crate::{Field, Fields, Members, Method, Methods, members_bytes_law};
+use crate::{Fields, Members, Methods, members_bytes_law};
 use dexhead::{Encode, Output, put_encoded};
 use std::alloc::AllocError;
 
-// Writes an encoded_field after one with the number `last`.
-fn encode_field<O: Output>(field: &Field<'_>, last: u32, out: &mut O)
-    ensures { O.gives (numbered_field_bytes last field.now) out.old out.new }
-{
-    out.uleb(field.number().saturating_sub(last));
-    out.uleb(field.flags().bits());
-}
-
-// Writes encoded_fields.
+// Writes encoded_fields, each number as the difference to the one before.
 fn encode_fields<O: Output>(fields: &Fields<'_>, out: &mut O)
     ensures { O.gives (numbered_fields_bytes 0 fields.now) out.old out.new }
 {
     let mut last = 0;
     for i in 0..fields.len() {
         let field = fields.get(i);
-        encode_field(&field, last, out);
+        out.uleb(field.number().saturating_sub(last));
+        out.uleb(field.flags().bits());
         last = field.number();
     }
 }
 
-// Writes an encoded_method after one with the number `last`, with the offset of its code.
-fn encode_method<O: Output>(method: &Method<'_, '_>, last: u32, code_off: u32, out: &mut O)
-    ensures { O.gives (numbered_method_bytes last method.now code_off) out.old out.new }
-{
-    out.uleb(method.number().saturating_sub(last));
-    out.uleb(method.flags().bits());
-    out.uleb(code_off);
-}
-
-// Writes encoded_methods, each with the offset of its code.
+// Writes encoded_methods, each number as the difference to the one before, and each with the offset of its code.
 fn encode_methods<O: Output>(methods: &Methods<'_, '_>, code_offs: &[u32], out: &mut O)
     requires { length code_offs.now ≡ length methods.now }
     ensures { O.gives (numbered_methods_bytes 0 methods.now code_offs.now) out.old out.new }
@@ -46,7 +30,9 @@ fn encode_methods<O: Output>(methods: &Methods<'_, '_>, code_offs: &[u32], out: 
     let mut last = 0;
     for i in 0..methods.len() {
         let method = methods.get(i);
-        encode_method(&method, last, code_offs[i], out);
+        out.uleb(method.number().saturating_sub(last));
+        out.uleb(method.flags().bits());
+        out.uleb(code_offs[i]);
         last = method.number();
     }
 }

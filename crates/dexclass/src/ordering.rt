@@ -1,18 +1,13 @@
-//! Classes in the order of a canonical file: by depth, and then by name.
+//! What classes are put in order by: their depths, and the numbers of their names.
 
-ghost use Rattle.std.specs.Prelude.{◌≡◌, ◌<◌, All, length, map, IfOk, OnOk};
-ghost use Rattle.dexspec.specs.Mentions.{Mentions};
-ghost use Rattle.dexpool.specs.Numberings.{AreIn};
-ghost use Rattle.dexclass.specs.Parents.{AreNamed};
-ghost use Rattle.dexclass.specs.internal.Ordered.{depths_by_name, AreInClassOrder};
+ghost use Rattle.std.specs.Prelude.{◌≡◌, ◌<◌, All, length, map, IfOk};
+ghost use Rattle.dexclass.specs.internal.Ordered.{depths_by_name};
 
-use crate::arranging::arrange;
 use crate::classes::Class;
-use dexorder::class_order;
 use std::alloc::{AllocError, Global};
 
-// The numbers of the classes' names.
-fn names(alloc: Global, classes: &[Class<'_>]) -> Result<Vec<usize>, AllocError>
+/// The numbers of the classes' names.
+pub(crate) fn names(alloc: Global, classes: &[Class<'_>]) -> Result<Vec<usize>, AllocError>
     ensures { IfOk result (λ names. names.items ≡ map (λ c. c.name) classes.now) }
 {
     let mut names = Vec::with_capacity(alloc, classes.len())?;
@@ -38,26 +33,4 @@ pub(crate) fn known_depths(
         depths.push(by_name[classes[i].name()])?;
     }
     Ok(depths)
-}
-
-/// Puts the classes in order: by depth, and then by name.
-///
-/// Conditions: the classes are those of a numbering, no two have one name, and there are as many depths.
-///
-/// Source: "class_defs", a superclass and interfaces come before the class; by depth and then by name is this
-/// project's rule.
-pub(crate) fn put_in_order(
-    alloc: Global,
-    classes: &mut Vec<Class<'_>>,
-    depths: &[Option<usize>],
-) -> Result<(), AllocError>
-    requires numbering { (m : Mentions) × AreNamed m classes.old.items }
-    requires count { length depths.now ≡ length classes.old.items }
-    ensures order { OnOk result
-        (AreInClassOrder classes.old.items depths.now classes.new.items) }
-    ensures members { OnOk result (AreIn classes.new.items classes.old.items) }
-{
-    let names = names(alloc, classes)?;
-    let order = class_order(alloc, depths, &names)?;
-    arrange(alloc, classes, &order)
 }

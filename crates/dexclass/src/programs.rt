@@ -13,9 +13,10 @@ ghost use Rattle.dexclass.specs.Parents.{AreDepthsByName};
 ghost use Rattle.dexclass.specs.Uses.{IsKnownClass};
 ghost use Rattle.dexclass.specs.Programs.{AreMergeable, AreClassesOf, IsClassAt};
 
+use crate::arranging::arrange;
 use crate::classes::Class;
-use crate::ordering::{known_depths, put_in_order};
-use dexorder::Hierarchy;
+use crate::ordering::{known_depths, names};
+use dexorder::{Hierarchy, class_order};
 use dexpool::{Numbering, SymbolKind};
 use std::alloc::{AllocError, Global};
 use std::marker::Model;
@@ -202,7 +203,7 @@ impl<'a> Program<'a> {
         Program::arranged(alloc, numbering, classes, &depths, total)
     }
 
-    // The program of classes of these depths that weigh `total` together.
+    // The program of classes of these depths that weigh `total` together. It puts them in order.
     fn arranged(
         alloc: Global,
         numbering: Numbering<'a>,
@@ -217,7 +218,9 @@ impl<'a> Program<'a> {
             (IsCollectionOf (map (definition_of numbering.entry) classes.entry.items)) }
     {
         numbering.is_numbering();
-        put_in_order(alloc, &mut classes, depths)?;
+        let names = names(alloc, &classes)?;
+        let order = class_order(alloc, depths, &names)?;
+        arrange(alloc, &mut classes, &order)?;
         Ok(Program {
             numbering,
             classes,

@@ -1,5 +1,5 @@
 -- Class definitions with numbers instead of symbols.
-use Rattle.std.specs.Prelude.{ℕ, ◌==◌, if◌then◌else◌, List, [], map, Option, Some, None, slice_index_or, ◌≡◌}
+use Rattle.std.specs.Prelude.{ℕ, ◌==◌, if◌then◌else◌, List, [], map, Option, Some, None, slice_index_or}
 use Rattle.std.specs.Option.{option_map}
 use Rattle.dexspec.specs.Texts.{Text}
 use Rattle.dexspec.specs.Classes.{Definition, class_idx, access_flags, superclass_idx, interfaces_off, source_file_idx, no_index}
@@ -59,7 +59,3 @@ class_of_row b r x weight = record {
   members = x;
   weight = weight;
 }
-
--- the class is that of row r
-abbrev pub IsOfRow : List ℕ → ℕ → NumberedMembers → ℕ → NumberedClass → Type 0
-IsOfRow b r x weight c = c ≡ class_of_row b r x weight

@@ -3,13 +3,10 @@ use Rattle.std.specs.Prelude.{◌≡◌, ℕ, ◌+◌, ◌*◌, ◌<◌, ◌≤�
 use Rattle.dexspec.specs.Bytes.{ushort_at}
 use Rattle.dexspec.specs.Classes.{class_idx}
 use Rattle.dexspec.specs.Accepted.{IsDefinedBefore}
-use Rattle.dexspec.specs.Mentions.{Mentions}
 use Rattle.dexpool.specs.declared.faults.ItemFault.{ItemFault}
 use Rattle.dexpool.specs.declared.faults.ItemFault.TheVariants as items
 use Rattle.dexpool.specs.declared.faults.ReadFault.{ReadFault}
 use Rattle.dexpool.specs.declared.faults.ReadFault.TheVariants.{Refused, Memory}
-use Rattle.dexmembers.specs.Checking.{AreChecks}
-use Rattle.dexclass.specs.Checking.{HaveBodiesOf}
 use Rattle.dexclass.specs.declared.checked_lists.CheckedLists.{CheckedLists}
 use Rattle.dexclass.specs.declared.class_checks.KnownFile.{KnownFile}
 use Rattle.dexclass.specs.internal.Rows.{AreDefinedMarks, IsInterfaceIndex, superclass_indices}

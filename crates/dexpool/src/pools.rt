@@ -22,7 +22,7 @@ use crate::symbols::{Symbol, SymbolKind};
 use crate::types::TypeReader;
 use dexhead::Frame;
 use dexrows::{FieldRow, MethodRow, ProtoRow};
-use dexstr::{Name, Text};
+use dexstr::{Name, Text, TextReader};
 use std::alloc::{AllocError, Global};
 use std::marker::Model;
 
@@ -56,7 +56,7 @@ impl<'a> Pools<'a> {
         ensures refused { IfErr result (IsFault frame.now) }
     {
         checked(frame);
-        let strings = read_table(alloc, frame, &mut ())?;
+        let strings = read_table(alloc, frame, &mut TextReader::new(alloc, frame.bytes()))?;
         let reader = TypeReader {
             frame,
             strings: &strings,

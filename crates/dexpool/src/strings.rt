@@ -1,13 +1,13 @@
 //! The pool of texts.
 
-ghost use Rattle.std.specs.Prelude.{◌<◌, MatchOption};
+ghost use Rattle.std.specs.Prelude.{◌≡◌, ◌<◌, MatchOption, IfOk};
 ghost use Rattle.dexspec.specs.Header.{StringIds, table_size};
 ghost use Rattle.dexspec.specs.Texts.{text_cmp};
 ghost use Rattle.dexspec.specs.Rows.{StringRow, HasString};
 
 use crate::reading::TableReader;
 use dexhead::{Condition, Frame, Table, u32_at};
-use dexstr::Text;
+use dexstr::{Text, TextReader};
 use std::alloc::AllocError;
 use std::cmp::Ordering;
 
@@ -20,7 +20,7 @@ impl<'a> TableReader for Frame<'a> {
 
     type Row = Text<'a>;
 
-    type Memory = ();
+    type Memory = TextReader<'a>;
 
     ghost condition = { conditions.Strings };
 
@@ -28,7 +28,7 @@ impl<'a> TableReader for Frame<'a> {
 
     ghost can_read = { λ frame. Unit {0} };
 
-    ghost remembers = { λ frame memory. Unit {0} };
+    ghost remembers = { λ frame texts. texts ≡ frame };
 
     ghost is_row = { λ frame. StringRow };
 
@@ -38,8 +38,8 @@ impl<'a> TableReader for Frame<'a> {
         (Condition::Strings, self.size(Table::StringIds))
     }
 
-    fn row_at(&self, _memory: &mut (), i: u32) -> Result<Option<Text<'a>>, AllocError> {
-        Ok(string_at(self, i))
+    fn row_at(&self, texts: &mut TextReader<'a>, i: u32) -> Result<Option<Text<'a>>, AllocError> {
+        string_at(self, texts, i)
     }
 
     fn compare(&self, left: &Text<'a>, right: &Text<'a>) -> Ordering {
@@ -51,20 +51,23 @@ impl<'a> TableReader for Frame<'a> {
 
 // The text of a row, if it is one.
 #[tactic(auto, using(crate::proofs::Bytes::uint_at_row, crate::proofs::Bytes::no_text_after))]
-fn string_at<'a>(frame: &Frame<'a>, i: u32) -> Option<Text<'a>>
-    requires { i < table_size frame.now StringIds }
-    ensures { MatchOption result (HasString frame.now i → ⊥) (StringRow frame.now i) }
+fn string_at<'a>(
+    frame: &Frame<'a>,
+    texts: &mut TextReader<'a>,
+    i: u32,
+) -> Result<Option<Text<'a>>, AllocError>
+    requires texts { texts.old ≡ frame.now }
+    requires row { i < table_size frame.now StringIds }
+    ensures texts { texts.new ≡ frame.now }
+    ensures row { IfOk result (λ found.
+        MatchOption found (HasString frame.now i → ⊥) (StringRow frame.now i)) }
 {
     let at = u32_at(frame.row(Table::StringIds, i), 0);
-    let bytes = frame.bytes();
     if at < frame.data_off() {
-        return None;
+        return Ok(None);
     }
-    if bytes.len() < at as usize {
-        return None;
+    if frame.bytes().len() < at as usize {
+        return Ok(None);
     }
-    match Text::read(bytes, at as usize) {
-        Ok((text, _)) => Some(text),
-        Err(_) => None,
-    }
+    texts.read(at as usize)
 }

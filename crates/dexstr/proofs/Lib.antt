@@ -7,3 +7,4 @@ pub mod ClassNames
 pub mod Descriptions
 pub mod Outcomes
 pub mod Keys
+pub mod UnitRuns

@@ -236,7 +236,7 @@ one_fault Count Short bytes one other = absurd (short_ends (λ count units. unit
 one_fault Count Bad bytes one other = absurd (bad_ends (λ count units. units ≢ count) bytes other one)
 one_fault _ _ bytes one other = refl
 
-no_fault : (e : TextFault) (bytes s : List ℕ) (n : ℕ) → BeginsWith IsStringData bytes s n → IsFault e bytes → ⊥
+pub no_fault : (e : TextFault) (bytes s : List ℕ) (n : ℕ) → BeginsWith IsStringData bytes s n → IsFault e bytes → ⊥
 no_fault Short bytes s n item fault = short_ends (λ count units. units ≡ count) bytes fault (item_body bytes s n item)
 no_fault Bad bytes s n item fault = bad_ends (λ count units. units ≡ count) bytes fault (item_body bytes s n item)
 no_fault Count bytes s n item fault = (body_once (λ count units rest. StartsWithZero rest × (units ≢ count)) (λ count units rest. StartsWithZero rest × (units ≡ count)) bytes fault (item_body bytes s n item)).1 (item_body bytes s n item).is.1

@@ -9,3 +9,4 @@ unfoldable pub use Faults.*
 unfoldable pub use Kinds.*
 unfoldable pub use internal.Order.*
 unfoldable pub use internal.Keys.*
+unfoldable pub use internal.Runs.*

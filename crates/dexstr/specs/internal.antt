@@ -1,3 +1,4 @@
 -- Words of the contracts of private functions: no public contract reaches them.
 pub mod Order
 pub mod Keys
+pub mod Runs

@@ -1,7 +1,8 @@
 ghost use Rattle.std.specs.Prelude.{◌≡◌, ◌↔◌, ◌≤◌, ℕ, List, length, drop, IfOk, IfErr, OnErr, IsTrue};
-ghost use Rattle.dexspec.specs.Numbers.{BeginsWith};
+ghost use Rattle.dexspec.specs.Numbers.{BeginsWith, IsUleb128};
 ghost use Rattle.dexspec.specs.Texts.{IsStringData, StringDataAt};
 ghost use Rattle.dexstr.specs.Faults.{IsFault, LooksCutOff};
+ghost use Rattle.dexstr.specs.Units.{AfterUnits};
 
 use crate::texts::Text;
 use crate::units::skip_units;
@@ -45,13 +46,36 @@ fn read_first(bytes: &[u8]) -> Result<(Text<'_>, usize), TextFault>
     ensures found { IfOk result (λ x. BeginsWith IsStringData bytes.now x.0 x.1) }
     ensures fault { IfErr result (λ e. IsFault e bytes.now) }
 {
-    let (count, len) = match read_u(bytes, 0) {
-        Ok(read) => read,
-        Err(LebFault::Short) => return Err(TextFault::Short),
-        Err(LebFault::Range) => return Err(TextFault::Bad),
-    };
+    let (count, len) = first_count(bytes)?;
+    let (units, rest) = skip_units(&bytes[len..]);
+    first_text(bytes, count, len, units, rest)
+}
+
+/// The number of units that comes first, and how many bytes it takes.
+pub(crate) fn first_count(bytes: &[u8]) -> Result<(u32, usize), TextFault>
+    ensures found { IfOk result (λ x. BeginsWith IsUleb128 bytes.now x.0 x.1) }
+    ensures fault { IfErr result (λ e. IsFault e bytes.now) }
+{
+    read_u(bytes, 0).map_err(|fault| match fault {
+        LebFault::Short => TextFault::Short,
+        LebFault::Range => TextFault::Bad,
+    })
+}
+
+/// The text of a string_data_item, and how many bytes that takes, from its count and the units that follow it.
+pub(crate) fn first_text<'a>(
+    bytes: &'a [u8],
+    count: u32,
+    len: usize,
+    units: usize,
+    rest: &[u8],
+) -> Result<(Text<'a>, usize), TextFault>
+    requires count { BeginsWith IsUleb128 bytes.now count len }
+    requires units { AfterUnits (drop len bytes.now) units rest.now }
+    ensures found { IfOk result (λ x. BeginsWith IsStringData bytes.now x.0 x.1) }
+    ensures fault { IfErr result (λ e. IsFault e bytes.now) }
+{
     let body = &bytes[len..];
-    let (units, rest) = skip_units(body);
     match rest {
         [0, ..] if units == count as usize => {
             let spelled = &body[..body.len() - rest.len()];

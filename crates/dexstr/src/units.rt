@@ -85,7 +85,7 @@ fn after_ascii(bytes: &[u8]) -> Option<&[u8]>
 
 /// The unit whose spelling comes first, and the bytes after it.
 #[inline]
-fn first_unit(bytes: &[u8]) -> Option<(u16, &[u8])>
+pub(crate) fn first_unit(bytes: &[u8]) -> Option<(u16, &[u8])>
     ensures found { IfSome result (λ x. BeginsWithUnit bytes.now x.0 x.1.now) }
     ensures none { IfNone result (BeginsWithNone bytes.now) }
 {

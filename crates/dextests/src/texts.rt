@@ -1,6 +1,6 @@
 //! The order and the equality of texts are those of their units.
 
-use dexstr::{KeyedText, Name, Text};
+use dexstr::{KeyedText, Name, Text, TextReader};
 use std::alloc::Global;
 
 /// Texts in ascending order by units, as items, which begin with the number of units: unit 0 is the least, and a
@@ -47,4 +47,35 @@ fn texts_are_ordered_by_units(rt: HostRuntime) {
             );
         }
     }
+}
+
+// How many texts `texts_within` has.
+const TEXTS_WITHIN: u8 = 127;
+
+// Returns texts of which each but the first begins at the second byte of the item before it.
+fn texts_within(alloc: Global) -> Option<Vec<u8>> {
+    let mut bytes = Vec::new(alloc);
+    for place in 0..TEXTS_WITHIN {
+        bytes.push(TEXTS_WITHIN - place).ok()?;
+    }
+    bytes.extend_from_slice(b"a\0").ok()?;
+    Some(bytes)
+}
+
+// Returns whether a reader reads each of these texts, and none at their end, as `Text::read` does.
+fn are_read_alike(alloc: Global) -> Option<bool> {
+    let bytes = texts_within(alloc)?;
+    let mut reader = TextReader::new(alloc, &bytes);
+    for at in 0..usize::from(TEXTS_WITHIN) {
+        let (text, _) = Text::read(&bytes, at).ok()?;
+        if text.len() != usize::from(TEXTS_WITHIN) - at || reader.read(at).ok()?? != text {
+            return Some(false);
+        }
+    }
+    Some(reader.read(bytes.len() - 2).ok()?.is_none() && reader.read(bytes.len()).ok()?.is_none())
+}
+
+#[test]
+fn texts_within_texts_are_read_by_one_reader(rt: HostRuntime) {
+    assert!(rt; are_read_alike(rt.alloc()) == Some(true));
 }

@@ -1,10 +1,10 @@
 //! The order of classes: by depth, then by name.
 
-ghost use Rattle.std.specs.Prelude.{◌≡◌, length, map, IfOk};
+ghost use Rattle.std.specs.Prelude.{◌≡◌, length, IfOk};
 ghost use Rattle.std.specs.List.{range_with_len};
 ghost use Rattle.std.specs.List.Sorted.{IsPermutation};
 ghost use Rattle.dexspec.specs.Lists.{AreDistinct};
-ghost use Rattle.dexorder.specs.Places.{places_of, AreInPlaceOrder};
+ghost use Rattle.dexorder.specs.Places.{AreInPlaceOrder};
 
 use std::alloc::{AllocError, Global};
 
@@ -14,33 +14,6 @@ struct Place {
     depth: usize,
     name: usize,
     class: usize,
-}
-
-/// The place of each class before sorting.
-fn places(
-    alloc: Global,
-    depths: &[Option<usize>],
-    names: &[usize],
-) -> Result<Vec<Place>, AllocError>
-    requires { length depths.now ≡ length names.now }
-    ensures { IfOk result (λ places. places.items ≡ places_of depths.now names.now) }
-{
-    let mut places = Vec::with_capacity(alloc, names.len())?;
-    for class in 0..names.len() {
-        places.push(Place {
-            depth: depths[class].unwrap_or(0),
-            name: names[class],
-            class,
-        })?;
-    }
-    Ok(places)
-}
-
-/// The classes of the places.
-fn classes(alloc: Global, places: &[Place]) -> Result<Vec<usize>, AllocError>
-    ensures { IfOk result (λ classes. classes.items ≡ map (λ place. place.class) places.now) }
-{
-    places.iter().map(|place| place.class).collect(alloc)
 }
 
 /// The classes in order: by depth, then by name. A class without a depth counts as one of depth 0.
@@ -60,7 +33,14 @@ pub fn class_order(
         IsPermutation (range_with_len 0 (length names.now)) order.items) }
     ensures rises { IfOk result (λ order. AreInPlaceOrder depths.now names.now order.items) }
 {
-    let mut places = places(alloc, depths, names)?;
+    let mut places = Vec::with_capacity(alloc, names.len())?;
+    for class in 0..names.len() {
+        places.push(Place {
+            depth: depths[class].unwrap_or(0),
+            name: names[class],
+            class,
+        })?;
+    }
     places.sort_unstable();
-    classes(alloc, &places)
+    places.iter().map(|place| place.class).collect(alloc)
 }

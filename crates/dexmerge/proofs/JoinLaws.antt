@@ -1,5 +1,5 @@
 -- A join of what parts mention is what their union mentions.
-use Rattle.dexmerge.proofs.Common.{◌≡◌, ℕ, ◌+◌, ◌<◌, ◌∙◌, Bor, List, [], ◌∷◌, ◌++◌, length, get_or, take, map, sym, ap, subst, arith, length-map, get_or-map, take_more, map-append, append_assoc, AllZip, flat_map, Definition, Collection, definitions, Mentions, mentions, AreRising, Maps, AllMapTo, union_of, MapsAll, MapsAllInto, map-map, flat_map-map, zip_length}
+use Rattle.dexmerge.proofs.Common.{◌≡◌, ◌∙◌, Bor, List, [], ◌∷◌, map, sym, ap, subst, AllZip, flat_map, Definition, Collection, definitions, Mentions, mentions, AreRising, Maps, AllMapTo, union_of, MapsAll, MapsAllInto, map-map, flat_map-map, zip_length}
 use Rattle.dexmerge.specs.internal.Unions.{IsJoined}
 
 abbrev own : Bor Collection → Mentions
@@ -26,10 +26,3 @@ joined_is parts ms m remaps given union rising law are_mapped whole =
       count = sym (zip_length (λ part r. MapsAllInto (mentions (definitions part)) m r) Ks remaps zip);
       are_mapped = zip;
     }
-
--- one borrowed part more
-pub push_part : (owned : List Collection) (files : List (Bor Collection)) (i : ℕ) (d : Bor Collection) (old new : List (Bor Collection)) → i < length files → d ≡ get_or files i d → new ≡ old ++ d ∷ [] → map now_of old ≡ owned ++ take i (map now_of files) → map now_of new ≡ owned ++ take (i + 1) (map now_of files)
-push_part owned files i d old new lt at pushed h =
-    let few : i < length (map now_of files) = omega (arith, lt, length-map files now_of) in
-    let more : take (i + 1) (map now_of files) ≡ take i (map now_of files) ++ d.now ∷ [] = take_more (map now_of files) i d.now few ∙ ap (λ (K : Collection). take i (map now_of files) ++ K ∷ []) (get_or-map now_of files i d d.now lt ∙ ap now_of (sym at)) in
-    ap (map now_of) pushed ∙ map-append now_of old (d ∷ []) ∙ ap (λ (l : List Collection). l ++ d.now ∷ []) h ∙ append_assoc owned (take i (map now_of files)) (d.now ∷ []) ∙ ap (λ (l : List Collection). owned ++ l) (sym more)

@@ -1,10 +1,9 @@
 -- Classes of several parts over the numbering of their union.
-use Rattle.std.specs.Prelude.{◌≡◌, ◌≢◌, ℕ, ◌-◌, ◌^◌, ◌<◌, min, List, map, length, All, Option, Some, None, slice_index_or}
+use Rattle.std.specs.Prelude.{◌≡◌, ◌≢◌, ℕ, ◌<◌, min, List, map, length, All, Option, Some, None, slice_index_or}
 use Rattle.dexspec.specs.Lists.{present}
 use Rattle.dexspec.specs.Classes.{Definition}
 use Rattle.dexspec.specs.Files.{AreSame}
 use Rattle.dexspec.specs.Mentions.{Mentions}
-use Rattle.dexspec.specs.Weight.{body_weight}
 use Rattle.dexspec.specs.WellFormed.{AreWellFormed}
 use Rattle.dexpool.specs.Numberings.{AreRising}
 use Rattle.dexclass.specs.Numbered.{NumberedClass, definition_of}
@@ -16,10 +15,6 @@ use Rattle.dexmerge.specs.declared.candidates.Candidate.{Candidate}
 -- the class with the numbers of the union
 abbrev pub class_of : Candidate → NumberedClass
 class_of c = renumbered c.remap.now c.class.now
-
--- the weight of a candidate over the numbering, or 2^64 - 1 where it is more
-abbrev pub weight_in : Mentions → Candidate → ℕ
-weight_in m c = min (2 ^ 64 - 1) (body_weight (definition_of m (class_of c)).1)
 
 -- the classes of the candidates
 abbrev pub classes_of : List Candidate → List NumberedClass

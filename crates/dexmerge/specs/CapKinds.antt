@@ -1,8 +1,8 @@
 -- The kinds of caps of the code are those of the definitions; their names. This project's rule.
 use Rattle.std.specs.Prelude.{ℕ, List, codes}
 use Rattle.dexspec.specs.Merging as merging
-use Rattle.dexmerge.specs.declared.cap_kind.CapKind.{CapKind}
-use Rattle.dexmerge.specs.declared.cap_kind.CapKind.TheVariants as code
+use Rattle.dexmerge.specs.declared.caps.CapKind.{CapKind}
+use Rattle.dexmerge.specs.declared.caps.CapKind.TheVariants as code
 
 -- the kind that is meant
 abbrev pub cap_meant : CapKind → merging.Cap

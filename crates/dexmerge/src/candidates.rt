@@ -1,11 +1,10 @@
 //! Classes of several parts, with the maps of their numbers into the numbering of the union.
 
-ghost use Rattle.std.specs.Prelude.{◌≡◌, ◌↔◌, ◌<◌, IfOk, OnOk, IsTrue, length};
-ghost use Rattle.dexspec.specs.Mentions.{Mentions};
+ghost use Rattle.std.specs.Prelude.{◌≡◌, ◌↔◌, ◌<◌, IfOk, IsTrue, length};
 ghost use Rattle.dexmembers.specs.Fitting.{members_short_strings};
 ghost use Rattle.dexclass.specs.Renumbering.{IsMappedClass, remapped};
-ghost use Rattle.dexmerge.specs.Candidates.{IsOfPart, class_of, weight_in};
-ghost use Rattle.dexmerge.specs.internal.CandidateLists.{AddsMembers, AddsPart, AreMembersOf, AreOfParts};
+ghost use Rattle.dexmerge.specs.Candidates.{class_of};
+ghost use Rattle.dexmerge.specs.internal.CandidateLists.{AreMembersOf, AreOfParts};
 ghost use Rattle.dexmerge.specs.Parts.{referents};
 ghost use Rattle.dexmerge.specs.Counting.{Decides};
 
@@ -17,7 +16,7 @@ use std::alloc::{AllocError, Global};
 /// A class of a part, and the map of the numbers of the part into the union.
 #[derive(Clone, Copy)]
 pub(crate) struct Candidate<'a, 'b> {
-    class: &'b Class<'a>,
+    pub(crate) class: &'b Class<'a>,
     remap: &'b Remap,
 }
 
@@ -34,13 +33,6 @@ impl<'a, 'b> Candidate<'a, 'b> {
         ensures { IsTrue result ↔ (class_of self.now ≡ class_of other.now) }
     {
         self.class.same_mapped(self.remap, other.class, other.remap)
-    }
-
-    /// What the class weighs without the symbols that it names, or 2^64 - 1 where that is more.
-    pub(crate) fn weight(&self) -> u64
-        ensures { (m : Mentions) → IsOfPart m self.now → result ≡ weight_in m self.now }
-    {
-        self.class.weight()
     }
 
     /// The greatest number in the union of a text that a `const-string` of the class names, or `None` without one; a
@@ -86,25 +78,6 @@ impl<'a, 'b> HasParents for Candidate<'a, 'b> {
     }
 }
 
-// Appends the classes of a part.
-fn push_classes<'a, 'b>(
-    part: &'b Program<'a>,
-    remap: &'b Remap,
-    candidates: &mut Vec<Candidate<'a, 'b>>,
-) -> Result<(), AllocError>
-    ensures members { OnOk result
-        (AddsMembers part.now remap.now candidates.old.items candidates.new.items) }
-    ensures parts { OnOk result
-        (AddsPart part.now remap.now candidates.old.items candidates.new.items) }
-{
-    renumbering_law();
-    part.is_good();
-    for class in part.classes() {
-        candidates.push(Candidate { class, remap })?;
-    }
-    Ok(())
-}
-
 /// The classes of all parts.
 ///
 /// Condition: a map for each part.
@@ -119,9 +92,15 @@ pub(crate) fn candidates<'a, 'b>(
     ensures parts { IfOk result (λ candidates.
         AreOfParts (referents parts.now) remaps.now candidates.items) }
 {
+    renumbering_law();
     let mut candidates = Vec::new(alloc);
     for i in 0..parts.len() {
-        push_classes(parts[i], &remaps[i], &mut candidates)?;
+        let part = parts[i];
+        part.is_good();
+        let remap = &remaps[i];
+        for class in part.classes() {
+            candidates.push(Candidate { class, remap })?;
+        }
     }
     Ok(candidates)
 }

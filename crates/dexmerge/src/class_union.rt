@@ -7,7 +7,7 @@ ghost use Rattle.dexpool.specs.Numberings.{Maps};
 ghost use Rattle.dexclass.specs.Numbered.{NumberedClass};
 ghost use Rattle.dexclass.specs.Renumbering.{ClassHasPlaces, remapped, renumbered};
 ghost use Rattle.dexmerge.specs.Parts.{referents};
-ghost use Rattle.dexmerge.specs.internal.Collecting.{IsPartOf, ArePartsOf, HasCollected, HasMarks, HasPushed, HasMarked, IsAdded};
+ghost use Rattle.dexmerge.specs.internal.Collecting.{IsPartOf, ArePartsOf, HasCollected, HasMarks, HasPushed, HasMarked};
 ghost use Rattle.dexmerge.specs.internal.Collecting.{HasPlaces, CollectsPart, CollectsParts, AreMergeable, HasOneOfEach};
 
 use dexclass::{Class, Program, renumbering_law};
@@ -72,34 +72,6 @@ impl<'a> Collected<'a> {
         Ok(())
     }
 
-    // Adds a class of a part, with its numbers remapped, unless there is one of its name.
-    fn take(&mut self, class: Class<'a>, remap: &Remap) -> Result<(), AllocError>
-        requires places { ClassHasPlaces remap.now class }
-        requires name { remapped remap.now.types class.name < length self.old.is_name.items }
-        ensures count { OnOk result (length self.new.is_name.items
-            ≡ length self.old.is_name.items) }
-        ensures added { OnOk result (IsAdded (renumbered remap.now class.entry) self.old self.new) }
-    {
-        if !self.has_name_of(&class, remap) {
-            self.push(class, remap)?;
-        }
-        Ok(())
-    }
-
-    // Adds a copy of a class of a part, with its numbers remapped, unless there is one of its name.
-    fn copy(&mut self, class: &Class<'a>, remap: &Remap) -> Result<(), AllocError>
-        requires places { ClassHasPlaces remap.now class.now }
-        requires name { remapped remap.now.types class.now.name < length self.old.is_name.items }
-        ensures count { OnOk result (length self.new.is_name.items
-            ≡ length self.old.is_name.items) }
-        ensures added { OnOk result (IsAdded (renumbered remap.now class.now) self.old self.new) }
-    {
-        if !self.has_name_of(class, remap) {
-            self.push(class.copy()?, remap)?;
-        }
-        Ok(())
-    }
-
     // Adds the classes of a part whose names are not there yet. They are moved.
     fn take_all(&mut self, part: Program<'a>, remap: &Remap) -> Result<(), AllocError>
         requires { (m : Mentions) × IsPartOf m part remap.now × HasMarks m self.old }
@@ -111,7 +83,9 @@ impl<'a> Collected<'a> {
         places_law();
         part.is_good();
         for class in part.into_classes() {
-            self.take(class, remap)?;
+            if !self.has_name_of(&class, remap) {
+                self.push(class, remap)?;
+            }
         }
         Ok(())
     }
@@ -127,7 +101,9 @@ impl<'a> Collected<'a> {
         places_law();
         part.is_good();
         for class in part.classes() {
-            self.copy(class, remap)?;
+            if !self.has_name_of(class, remap) {
+                self.push(class.copy()?, remap)?;
+            }
         }
         Ok(())
     }

@@ -9,8 +9,7 @@ ghost use Rattle.dexmerge.specs.internal.Amounts.{weight_over, short_numbers, ha
 ghost use Rattle.dexmerge.specs.Counting.{Decides, is_from};
 
 use crate::candidates::Candidate;
-use crate::cap_kind::CapKind;
-use crate::caps::Caps;
+use crate::caps::{CapKind, Caps};
 use dexpool::{Numbering, SymbolKind};
 
 /// What the classes weigh, with the symbols of the numbering, or 2^64 - 1 where that is more.
@@ -22,7 +21,7 @@ pub(crate) fn weight(numbering: &Numbering<'_>, classes: &[Candidate<'_, '_>]) -
 {
     let mut weight = numbering.weight().saturating_add(1024);
     for i in 0..classes.len() {
-        weight = weight.saturating_add(classes[i].weight());
+        weight = weight.saturating_add(classes[i].class.weight());
     }
     weight
 }
@@ -59,13 +58,6 @@ pub(crate) fn greatest_short_string(classes: &[Candidate<'_, '_>]) -> Option<usi
     greatest
 }
 
-// Whether a number, if there is one, is not below a cap.
-fn is_from(cap: usize, number: Option<usize>) -> bool
-    ensures { result ≡ is_from cap number }
-{
-    number.is_some_and(|number| number >= cap)
-}
-
 // Whether the number of a text that a `const-string` names is not below a cap. No code is read where there are no more
 // texts than the cap.
 fn has_text_from(numbering: &Numbering<'_>, classes: &[Candidate<'_, '_>], cap: u32) -> bool
@@ -76,7 +68,7 @@ fn has_text_from(numbering: &Numbering<'_>, classes: &[Candidate<'_, '_>], cap: 
     if !has_more(numbering, SymbolKind::Text, cap) {
         return false;
     }
-    is_from(cap as usize, greatest_short_string(classes))
+    greatest_short_string(classes).is_some_and(|number| number >= cap as usize)
 }
 
 // Whether the classes weigh more than a cap allows.

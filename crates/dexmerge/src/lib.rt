@@ -7,11 +7,8 @@
 #![tactic(auto)]
 
 mod candidates;
-mod cap_kind;
 mod caps;
 mod class_union;
-mod copies;
-mod cycles;
 mod faults;
 mod fitting;
 mod measuring;
@@ -20,8 +17,7 @@ mod plan;
 mod plan_union;
 mod union_checks;
 
-pub use cap_kind::CapKind;
-pub use caps::Caps;
+pub use caps::{CapKind, Caps};
 pub use faults::{MergeFault, PlanFault};
 pub use measuring::{Counts, measure};
 pub use merging::merge;

@@ -8,11 +8,10 @@ ghost use Rattle.dexmerge.specs.Faults.{ReportsUnderAnyCaps};
 ghost use Rattle.dexmerge.specs.Parts.{definitions_in};
 
 use crate::candidates::{Candidate, candidates};
-use crate::cycles::class_depths;
 use crate::faults::MergeFault;
 use crate::fitting::{greatest_short_string, weight};
 use crate::merging::joined;
-use crate::union_checks::one_of_each;
+use crate::union_checks::{class_depths, one_of_each};
 use dexclass::Program;
 use dexpool::{Numbering, SymbolKind};
 use std::alloc::Global;

@@ -31,9 +31,7 @@ fn all_parts<'a, 'b>(
     for program in owned {
         parts.push(program)?;
     }
-    for i in 0..files.len() {
-        parts.push(files[i])?;
-    }
+    parts.extend_from_slice(files)?;
     Ok(parts)
 }
 

@@ -1,8 +1,8 @@
 //! Plans: the order in which files are merged.
 
-ghost use Rattle.std.specs.Prelude.{◌≡◌, length, IfOk, MatchBool};
+ghost use Rattle.std.specs.Prelude.{◌≡◌, length, IfOk};
 ghost use Rattle.dexmerge.specs.Plans.{plan_of, ReportsPlanFor};
-ghost use Rattle.dexmerge.specs.internal.UnionChecks.{IsMarkedIfPlan, AreAllNamed, HasUnnamed};
+ghost use Rattle.dexmerge.specs.internal.UnionChecks.{IsMarkedIfPlan};
 
 use std::alloc::{AllocError, Global};
 
@@ -46,13 +46,6 @@ fn mark_files(plan: &Plan, depth: usize, is_named: &mut Vec<bool>) -> bool
     }
 }
 
-// Whether each mark is set.
-fn are_all_named(is_named: &[bool]) -> bool
-    ensures { MatchBool result (AreAllNamed is_named.now) (HasUnnamed is_named.now) }
-{
-    is_named.iter().all(|is_named| *is_named)
-}
-
 /// Whether the plan names each of `files` files and no other, and is at most 64 deep.
 pub fn is_plan_for(alloc: Global, plan: &Plan, files: usize) -> Result<bool, AllocError>
     ensures { IfOk result (ReportsPlanFor files (plan_of plan.now)) }
@@ -61,5 +54,5 @@ pub fn is_plan_for(alloc: Global, plan: &Plan, files: usize) -> Result<bool, All
     if !mark_files(plan, MOST_DEPTH, &mut is_named) {
         return Ok(false);
     }
-    Ok(are_all_named(&is_named))
+    Ok(is_named.iter().all(|is_named| *is_named))
 }

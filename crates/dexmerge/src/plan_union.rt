@@ -69,8 +69,7 @@ pub fn merge_plan<'a>(
     if !is_plan_for(alloc, plan, files.len())? {
         return Err(PlanFault::BadPlan);
     }
-    let program = merge_parts(alloc, files, plan, caps)?;
-    Ok(program)
+    Ok(merge_parts(alloc, files, plan, caps)?)
 }
 
 // Whether the plan is a file or a node of files.
@@ -102,6 +101,5 @@ pub fn merge_files<'a>(
     if !is_plan_for(alloc, plan, files.len())? {
         return Err(PlanFault::BadPlan);
     }
-    let program = merge_all(alloc, files, &[], caps)?;
-    Ok(program)
+    Ok(merge_all(alloc, files, &[], caps)?)
 }

@@ -1,23 +1,128 @@
 //! Whether the classes of parts can be merged: conflicts are checked first, then cycles, and then caps.
 
-ghost use Rattle.std.specs.Prelude.{List, IfOk, IfErr};
+ghost use Rattle.std.specs.Prelude.{◌≡◌, ◌↔◌, ◌<◌, IfOk, IsTrue, MatchOption, length, List, IfErr};
+ghost use Rattle.dexpool.specs.Numberings.{AreIn};
+ghost use Rattle.dexclass.specs.Parents.{ArePlaces};
+ghost use Rattle.dexmerge.specs.Candidates.{classes_of, IsEqualCopy, lesser_of};
+ghost use Rattle.dexmerge.specs.internal.CandidateLists.{AllEqual, IsLeastUnequal, kept_of};
 ghost use Rattle.dexspec.specs.Classes.{Definition};
+ghost use Rattle.dexspec.specs.Mentions.{Mentions};
+ghost use Rattle.dexmerge.specs.internal.Cycles.{AreKept, KeptHaveDepths, KeptAreByName};
+ghost use Rattle.dexmerge.specs.internal.Unions.{AreOnce, OnceReports, AreCopies, IsJoined, AreKeptOnce, CopiesReport, PartsAreGood};
 ghost use Rattle.dexspec.specs.Merging.{IsFirstCause};
 ghost use Rattle.dexmerge.specs.Faults.{Reports};
-ghost use Rattle.dexmerge.specs.internal.Unions.{AreCopies, IsJoined, AreKeptOnce, CopiesReport, PartsAreGood};
 ghost use Rattle.dexmerge.specs.Parts.{referents, definitions_in};
 
 use crate::candidates::{Candidate, candidates};
 use crate::caps::Caps;
-use crate::copies::{first_conflict, kept};
-use crate::cycles::{class_depths, depths_by_name};
 use crate::faults::MergeFault;
 use crate::fitting::first_exceeded;
 use dexclass::{Program, same_law};
-use dexorder::classes_by_type;
+use dexorder::{HasParents, Hierarchy, class_of_type, classes_by_type, first_without_depth};
 use dexpool::{Numbering, Remap, SymbolKind};
 use dexstr::Name;
-use std::alloc::Global;
+use std::alloc::{AllocError, Global};
+
+// Whether the candidate is the same class as the one that is kept of its name.
+fn is_equal_copy(candidates: &[Candidate<'_, '_>], places: &[Option<usize>], i: usize) -> bool
+    requires within { i < length candidates.now }
+    requires places { ArePlaces (classes_of candidates.now) places.now }
+    ensures { IsTrue result ↔ IsEqualCopy (classes_of candidates.now) places.now i }
+{
+    match class_of_type(places, candidates[i].name()) {
+        Some(kept) => kept == i || candidates[i].is_same(&candidates[kept]),
+        None => true,
+    }
+}
+
+// The lesser of the names.
+fn lesser(least: Option<usize>, name: usize) -> Option<usize>
+    ensures { result ≡ lesser_of least name }
+{
+    Some(least.map_or(name, |least| least.min(name)))
+}
+
+/// The least name of different candidates, if there is one.
+///
+/// Condition: the places are those of the candidates.
+fn first_conflict(candidates: &[Candidate<'_, '_>], places: &[Option<usize>]) -> Option<usize>
+    requires { ArePlaces (classes_of candidates.now) places.now }
+    ensures { MatchOption result (AllEqual candidates.now places.now)
+        (IsLeastUnequal candidates.now places.now) }
+{
+    let mut least = None;
+    for i in 0..candidates.len() {
+        if !is_equal_copy(candidates, places, i) {
+            least = lesser(least, candidates[i].name());
+        }
+    }
+    least
+}
+
+/// The candidates that are kept, by name.
+///
+/// Condition: the places are those of the candidates.
+fn kept<'a, 'b>(
+    alloc: Global,
+    candidates: &[Candidate<'a, 'b>],
+    places: &[Option<usize>],
+) -> Result<Vec<Candidate<'a, 'b>>, AllocError>
+    requires { ArePlaces (classes_of candidates.now) places.now }
+    ensures within { IfOk result (λ kept. AreIn kept.items candidates.now) }
+    ensures kept { IfOk result (λ kept. classes_of kept.items ≡ kept_of candidates.now places.now) }
+{
+    let mut kept = Vec::new(alloc);
+    for place in places {
+        if let Some(i) = place {
+            kept.push(candidates[*i])?;
+        }
+    }
+    Ok(kept)
+}
+
+/// The depths of the classes, which come by name, one of each.
+///
+/// Error: `Cycle` with the least name of a class that is above itself or below such a class; or `Memory` if an
+/// allocation failed.
+///
+/// Source: "class_defs", a superclass and interfaces come before the class.
+pub(crate) fn class_depths(
+    alloc: Global,
+    numbering: &Numbering<'_>,
+    classes: &[Candidate<'_, '_>],
+) -> Result<Vec<Option<usize>>, MergeFault>
+    requires { (D : List Definition) × AreOnce numbering.now D classes.now }
+    ensures depths { IfOk result (λ depths. KeptHaveDepths classes.now depths.items) }
+    ensures fault { IfErr result (OnceReports numbering.now classes.now) }
+{
+    let types = numbering.count(SymbolKind::Typ);
+    let depths = Hierarchy::of(alloc, classes, types)?.depths(alloc)?;
+    match first_without_depth(&depths) {
+        Some(i) => Err(MergeFault::Cycle(Name::of(alloc, numbering.typ(classes[i].name()))?)),
+        None => Ok(depths),
+    }
+}
+
+/// The depths at the numbers of the classes' names, with a place for each type.
+///
+/// Conditions: the classes are those of a numbering that has `types` types, their names rise, and there is a depth for
+/// each class.
+fn depths_by_name(
+    alloc: Global,
+    classes: &[Candidate<'_, '_>],
+    depths: &[Option<usize>],
+    types: usize,
+) -> Result<Vec<Option<usize>>, AllocError>
+    requires kept { (m : Mentions) × (length m.types ≡ types) × AreKept m (classes_of classes.now) }
+    requires count { length depths.now ≡ length classes.now }
+    ensures { IfOk result (λ by_name. KeptAreByName types classes.now depths.now by_name.items) }
+{
+    let mut by_name = vec![in alloc; None; types]?;
+    for i in 0..classes.len() {
+        by_name[classes[i].name()] = depths[i];
+    }
+    Ok(by_name)
+}
 
 /// One class of each name. Different classes of one name are a conflict.
 pub(crate) fn one_of_each<'a, 'b>(

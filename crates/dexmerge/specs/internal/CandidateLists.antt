@@ -1,7 +1,6 @@
 -- Lists of candidates: of the parts of a union, and one of each name.
-use Rattle.std.specs.Prelude.{◌≡◌, ℕ, ◌<◌, List, [], ◌∷◌, ◌++◌, length, All, Option}
+use Rattle.std.specs.Prelude.{ℕ, ◌<◌, List, length, All, Option}
 use Rattle.std.specs.List.{AllZip, flat_map}
-use Rattle.dexspec.specs.Classes.{Definition}
 use Rattle.dexspec.specs.Files.{Collection, definitions}
 use Rattle.dexspec.specs.Mentions.{Mentions, mentions}
 use Rattle.dexpool.specs.Numberings.{Maps}
@@ -9,15 +8,6 @@ use Rattle.dexclass.specs.Numbered.{NumberedClass}
 use Rattle.dexclass.specs.Renumbering.{MapsAllInto}
 use Rattle.dexmerge.specs.Candidates.{AreMembers, IsOfPart, classes_of, kept_classes, IsEqualCopy, IsFirstConflict}
 use Rattle.dexmerge.specs.declared.candidates.Candidate.{Candidate}
-
--- the classes of a part are added: before and after, the candidates denote just their definitions
-abbrev pub AddsMembers : Collection → Maps → List Candidate → List Candidate → Type 0
-AddsMembers part remap old new = (m : Mentions) (D : List Definition) → MapsAllInto (mentions (definitions part)) m remap
-    → AreMembers m D (classes_of old) → AreMembers m (D ++ definitions part) (classes_of new)
-
--- candidates of parts are added
-abbrev pub AddsPart : Collection → Maps → List Candidate → List Candidate → Type 0
-AddsPart part remap old new = (m : Mentions) → MapsAllInto (mentions (definitions part)) m remap → All (IsOfPart m) old → All (IsOfPart m) new
 
 -- each part is mapped into the whole
 abbrev pub AreMapped : Mentions → List Collection → List Maps → Type 0
@@ -42,7 +32,3 @@ IsLeastUnequal cs places = IsFirstConflict (classes_of cs) places
 -- the classes at the places
 abbrev pub kept_of : List Candidate → List (Option ℕ) → List NumberedClass
 kept_of cs places = kept_classes (classes_of cs) places
-
--- the class at the place, if there is one, is added to those that are kept
-abbrev pub AddsKept : List Candidate → Option ℕ → List Candidate → List Candidate → Type 0
-AddsKept cs place old new = classes_of new ≡ classes_of old ++ kept_of cs (place ∷ [])

@@ -1,5 +1,9 @@
-use Rattle.dexmerge.proofs.JoinLaws.{push_part}
+use Rattle.dexmerge.proofs.Common.{◌++◌, ◌∙◌, List, ap, arith, map-append, take_all, Bor, Collection}
+use Rattle.dexmerge.specs.{referents}
 use Rattle.dexmerge.proofs.merging.all_parts.Goals as goal
 
-pub loop-i-preserved : goal.loop-i-preserved
-loop-i-preserved c = push_part c.args.owned.now c.args.files.now c.loop-i.i c.index-files-i.result c.loop-i.parts.items c.push-in-loop-i.new.self.items c.loop-i-test.true c.index-files-i.is c.in_ok-push-2.ensures.items c.loop-i.invariant
+pub returns : goal.returns
+returns c =
+    let files = c.args.files.now in
+    ap (λ (l : List (Bor Collection)). referents l) c.in_ok-extend_from_slice.ensures.items ∙ map-append (λ (part : Bor Collection). part.now) c.loop-program.parts.items files
+    ∙ ap (λ (l : List Collection). l ++ referents files) (c.loop-program.invariant ∙ take_all c.loop-program.program-index c.args.owned.now (omega arith))

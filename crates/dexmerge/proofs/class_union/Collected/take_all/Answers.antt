@@ -1,7 +1,7 @@
-use Rattle.dexmerge.proofs.Common.{◌∙◌, ◌++◌, List, length, map, sym, subst, arith, Contains, map-id, YieldsList-from_vec, YieldsList-turn, YieldsList-end, definitions, mentions, NumberedClass, definition_of}
+use Rattle.dexmerge.proofs.Common.{◌∙◌, ap, Bool, true, length-set, ◌++◌, List, length, map, sym, subst, arith, Contains, map-id, YieldsList-from_vec, YieldsList-turn, YieldsList-end, definitions, mentions, NumberedClass, definition_of, renumbered}
 use Rattle.dexmerge.specs.internal.Collecting.{AreCollected}
 use Rattle.dexmerge.proofs.PartMembers.{class_known}
-use Rattle.dexmerge.proofs.Collected.{class_is_member, name_within, part_more, part_done}
+use Rattle.dexmerge.proofs.Collected.{added_new, added_same, class_is_member, name_within, part_more, part_done}
 use Rattle.dexmerge.proofs.class_union.Collected.take_all.Goals as goal
 use Rattle.dexmerge.proofs.class_union.Collected.take_all.Goals.{In-Some}
 
@@ -11,23 +11,34 @@ member c =
     let t = YieldsList-turn (YieldsList-from_vec {s = c.into_iter-class-iterator.result} c.into_classes-class-items.result.items c.into_iter-class-iterator.ensures.into_iter_gives.0 (omega (arith, c.into_iter-class-iterator.ensures.into_iter_gives.1))) c.loop-class.yielded c.loop-class.class-iterator c.loop-class.yielded_by c.next.result c.next.new.self c.in-Some.class c.in-Some.is c.next.ensures.steps in
     (length c.loop-class.yielded, t.0, sym t.1)
 
-pub take-requires-clause-places : goal.take-requires-clause-places
-take-requires-clause-places c =
-    let has = member (goal.at.take-requires-clause-places c).In-Some in
+pub push-requires-clause-places : goal.push-requires-clause-places
+push-requires-clause-places c =
+    let has = member (goal.at.push-requires-clause-places c).In-Some in
     c.places_law.ensures c.requires.0 c.args.part c.args.remap.now c.in-Some.class c.requires.1 (class_known _ _ _ c.into_classes-class-items.ensures has) (class_is_member _ _ _ c.into_classes-class-items.ensures has)
 
-pub take-requires-clause-name : goal.take-requires-clause-name
-take-requires-clause-name c =
+pub push-requires-clause-name : goal.push-requires-clause-name
+push-requires-clause-name c =
     name_within c.renumbering_law.ensures.same c.renumbering_law.ensures.all c.requires.0 c.args.part c.args.remap.now c.requires.1 c.is_good.ensures.formed c.in-Some.class c.loop-class.self.is_name.items
-    (class_known _ _ _ c.into_classes-class-items.ensures (member (goal.at.take-requires-clause-name c).In-Some)) (c.loop-class.invariant.count ∙ c.requires.2)
+    (class_known _ _ _ c.into_classes-class-items.ensures (member (goal.at.push-requires-clause-name c).In-Some)) (c.loop-class.invariant.count ∙ c.requires.2)
+
+pub loop-class-preserved-in-Continue-1 : goal.loop-class-preserved-in-Continue-1
+loop-class-preserved-in-Continue-1 c =
+    let has = member (goal.at.loop-class-preserved-in-Continue-1 c).In-Some in
+    let x = renumbered c.args.remap.now c.in-Some.class in
+    record {
+      count = ap (λ (l : List Bool). length l) c.in_ok-push.ensures.names ∙ length-set c.loop-class.self.is_name.items x.name true ∙ c.loop-class.invariant.count;
+      collected = λ m D part h. part_more c.renumbering_law.ensures.same c.renumbering_law.ensures.all m c.args.part c.args.remap.now part c.is_good.ensures.formed D c.loop-class.yielded c.in-Some.class c.loop-class.self c.push.new.self
+          (class_known _ _ _ c.into_classes-class-items.ensures has) (class_is_member _ _ _ c.into_classes-class-items.ensures has) (added_new x c.loop-class.self c.push.new.self (sym c.has_name_of.ensures ∙ c.if-not-has_name_of.true) c.in_ok-push.ensures.classes c.in_ok-push.ensures.names) (c.loop-class.invariant.collected m D part h);
+    }
 
 pub loop-class-preserved : goal.loop-class-preserved
 loop-class-preserved c =
     let has = member (goal.at.loop-class-preserved c).In-Some in
+    let x = renumbered c.args.remap.now c.in-Some.class in
     record {
-      count = c.in_ok-take.ensures.count ∙ c.loop-class.invariant.count;
-      collected = λ m D part h. part_more c.renumbering_law.ensures.same c.renumbering_law.ensures.all m c.args.part c.args.remap.now part c.is_good.ensures.formed D c.loop-class.yielded c.in-Some.class c.loop-class.self c.take.new.self
-          (class_known _ _ _ c.into_classes-class-items.ensures has) (class_is_member _ _ _ c.into_classes-class-items.ensures has) c.in_ok-take.ensures.added (c.loop-class.invariant.collected m D part h);
+      count = c.loop-class.invariant.count;
+      collected = λ m D part h. part_more c.renumbering_law.ensures.same c.renumbering_law.ensures.all m c.args.part c.args.remap.now part c.is_good.ensures.formed D c.loop-class.yielded c.in-Some.class c.loop-class.self c.loop-class.self
+          (class_known _ _ _ c.into_classes-class-items.ensures has) (class_is_member _ _ _ c.into_classes-class-items.ensures has) (added_same x c.loop-class.self (sym c.has_name_of.ensures ∙ c.if-not-has_name_of.false)) (c.loop-class.invariant.collected m D part h);
     }
 
 pub returns-clause-collected : goal.returns-clause-collected

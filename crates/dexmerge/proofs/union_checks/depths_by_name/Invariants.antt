@@ -1,6 +1,6 @@
 use Rattle.dexmerge.proofs.Common.{◌≡◌, ℕ, ◌<◌, length, None, slice_index_or, name_number}
 use Rattle.dexmerge.specs.{classes_of}
-use Rattle.dexmerge.proofs.cycles.depths_by_name.Given as goal
+use Rattle.dexmerge.proofs.union_checks.depths_by_name.Given as goal
 
 abbrev pub invariant-loop-i : goal.invariant-loop-i
 invariant-loop-i l = record {

@@ -4,8 +4,8 @@ use Rattle.dexmerge.specs.internal.Cycles.{HaveDepths, IsFirstCycle}
 use Rattle.dexmerge.proofs.CandidatePlaces.{hierarchy_of, names_below, count_classes, name_at_place}
 use Rattle.dexmerge.proofs.CycleLaws.{kept_below, numbered, first_is, depths_are}
 use Rattle.dexmerge.proofs.MergeLaws.{once_cycle}
-use Rattle.dexmerge.proofs.cycles.class_depths.Goals as goal
-use Rattle.dexmerge.proofs.cycles.class_depths.Goals.{In-Some}
+use Rattle.dexmerge.proofs.union_checks.class_depths.Goals as goal
+use Rattle.dexmerge.proofs.union_checks.class_depths.Goals.{In-Some}
 
 pub of-requires : goal.of-requires
 of-requires c =

@@ -2,7 +2,7 @@ use Rattle.dexmerge.proofs.Common.{◌∙◌, ◌<◌, length, None, get_or, ref
 use Rattle.dexmerge.specs.{classes_of}
 use Rattle.dexmerge.proofs.CandidatePlaces.{count_classes, name_at_place}
 use Rattle.dexmerge.proofs.CycleLaws.{by_name_more, by_name_is}
-use Rattle.dexmerge.proofs.cycles.depths_by_name.Goals as goal
+use Rattle.dexmerge.proofs.union_checks.depths_by_name.Goals as goal
 
 pub index_mut-requires : goal.index_mut-requires
 index_mut-requires c =

@@ -2,8 +2,8 @@ use Rattle.dexmerge.proofs.Common.{◌≡◌, ◌<◌, ℕ, ◌+◌, ◌∙◌, 
 use Rattle.dexmerge.specs.{classes_of, lesser_of}
 use Rattle.dexmerge.proofs.CandidatePlaces.{name_at_place, count_classes}
 use Rattle.dexmerge.proofs.ConflictLaws.{IsLeastTo, equivalent_next, conflict_next, least_is}
-use Rattle.dexmerge.proofs.copies.first_conflict.Goals.{then-not-is_equal_copy, else-not-is_equal_copy}
-use Rattle.dexmerge.proofs.copies.first_conflict.Goals as goal
+use Rattle.dexmerge.proofs.union_checks.first_conflict.Goals.{then-not-is_equal_copy, else-not-is_equal_copy}
+use Rattle.dexmerge.proofs.union_checks.first_conflict.Goals as goal
 
 pub loop-i-preserved : goal.loop-i-preserved
 loop-i-preserved c =

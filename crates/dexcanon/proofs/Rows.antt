@@ -152,11 +152,7 @@ module _ (m : Mentions) (cs : List NumberedClass) where
 pub next_item : (xs : List (List ℕ)) (i : ℕ) → i < length xs → concat (drop i xs) ≡ get_or xs i [] ++ concat (drop (i + 1) xs)
 next_item xs i lt = ap concat (drop_more xs i [] lt)
 
--- mapped items: as many
-pub count_mapped : {X : Type 0} (f : X → List ℕ) (xs : List X) → length (map f xs) ≡ length xs
-count_mapped f xs = length-map xs f
-
--- and one after the other
+-- mapped items, one after the other
 pub concat_map : {X : Type 0} (f : X → List ℕ) (xs : List X) → concat (map f xs) ≡ flat_map f xs
 concat_map f [] = refl
 concat_map f (x ∷ xs) = ap (λ z. f x ++ z) (concat_map f xs)

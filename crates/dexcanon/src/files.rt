@@ -8,23 +8,26 @@ ghost use Rattle.dexcanon.specs.internal.Ready.{CanBeMade};
 ghost use Rattle.dexcanon.specs.internal.Adding.{after_header_of, signed_of, tables_of, data_of};
 ghost use Rattle.dexcanon.specs.internal.Output.{Adds};
 
-use crate::class_defs::ClassDefs;
 use crate::contents::{Contents, ItemList};
 use crate::output::{Out, Target};
-use crate::tables::{FieldIds, MethodIds, ProtoIds, StringDataItems, StringIds, TypeIds};
+use crate::tables::{
+    ClassDefs, FieldIds, MethodIds, ProtoIds, StringDataItems, StringIds, TypeIds,
+};
 use dexhead::{Head, Output};
+use dexpool::SymbolKind;
 
 // Writes the rows of the tables.
 fn encode_tables<O: Output>(contents: &Contents<'_, '_, '_>, out: &mut O)
     requires { CanBeMade contents.now }
     ensures { O.gives (tables_of contents.now) out.old out.new }
 {
-    StringIds::encode(contents, out);
-    TypeIds::encode(contents, out);
-    ProtoIds::encode(contents, out);
-    FieldIds::encode(contents, out);
-    MethodIds::encode(contents, out);
-    ClassDefs::encode(contents, out);
+    let numbering = contents.numbering;
+    StringIds::encode(contents, contents.layout.strings().offsets().len(), out);
+    TypeIds::encode(contents, numbering.count(SymbolKind::Typ), out);
+    ProtoIds::encode(contents, numbering.count(SymbolKind::Proto), out);
+    FieldIds::encode(contents, numbering.count(SymbolKind::Field), out);
+    MethodIds::encode(contents, numbering.count(SymbolKind::Method), out);
+    ClassDefs::encode(contents, contents.classes.len(), out);
 }
 
 // Writes the sections of the data. All but the texts are encoded in the layout.
@@ -36,7 +39,7 @@ fn encode_data<O: Output>(contents: &Contents<'_, '_, '_>, out: &mut O)
     out.bytes(layout.type_lists().bytes());
     out.bytes(layout.annotations().bytes());
     out.bytes(layout.static_values().bytes());
-    StringDataItems::encode(contents, out);
+    StringDataItems::encode(contents, contents.numbering.count(SymbolKind::Text), out);
     out.bytes(layout.debugs().bytes());
     out.bytes(layout.codes().bytes());
     out.bytes(layout.class_data().bytes());
@@ -101,10 +104,6 @@ pub(crate) fn write_signed<T: Target>(
         target,
     };
     write_body(contents, &mut out);
-    let Out {
-        buffer,
-        failed: _,
-        target,
-    } = out;
+    let Out { buffer, target, .. } = out;
     (buffer, target)
 }

@@ -7,7 +7,6 @@
 #![tactic(auto)]
 
 mod adler_combine;
-mod class_defs;
 mod contents;
 mod digest;
 mod faults;

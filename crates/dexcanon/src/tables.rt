@@ -1,13 +1,19 @@
-//! The rows of the tables of symbols, and the data of the texts.
+//! The rows of the tables of symbols and of the classes, and the data of the texts.
 //!
-//! Source: the headings "string_id_item", "type_id_item", "proto_id_item", "field_id_item", "method_id_item" and
-//! "string_data_item" of the Android page "Dalvik Executable format".
+//! Source: the headings "string_id_item", "type_id_item", "proto_id_item", "field_id_item", "method_id_item",
+//! "class_def_item" and "string_data_item" of the Android page "Dalvik Executable format".
 
-ghost use Rattle.std.specs.Prelude.{◌^◌, ◌<◌, ◌++◌};
+ghost use Rattle.std.specs.Prelude.{◌^◌, ◌<◌, ◌++◌, ◌≡◌, length, slice_index_or, unwrap_or, IfSome};
 ghost use Rattle.dexspec.specs.Bytes.{ushort, uint};
-ghost use Rattle.dexcanon.specs.internal.Adding.{string_items, string_rows, type_rows, proto_rows, field_rows, method_rows};
+ghost use Rattle.dexcanon.specs.internal.Adding.{string_items, string_rows, type_rows, proto_rows, field_rows, method_rows, class_rows};
+ghost use Rattle.std.specs.List.{flat_map};
+ghost use Rattle.dexspec.specs.Classes.{no_index};
+ghost use Rattle.dexspec.specs.Canonical.{class_offsets};
+ghost use Rattle.dexcanon.specs.internal.ClassRows.{class_row, no_offsets};
+ghost use Rattle.dexcanon.specs.internal.Ready.{CanBeMade, ordered_in};
 
 use crate::contents::{Contents, ItemList};
+use dexclass::Class;
 use dexhead::{Encode, Output};
 use dexlayout::encode_numbers;
 use dexpool::SymbolKind;
@@ -17,10 +23,6 @@ pub(crate) struct StringIds;
 
 impl ItemList for StringIds {
     ghost items = { string_rows };
-
-    fn len(contents: &Contents<'_, '_, '_>) -> usize {
-        contents.layout.strings().offsets().len()
-    }
 
     fn encode_item<O: Output>(contents: &Contents<'_, '_, '_>, i: usize, out: &mut O) {
         let offsets = contents.layout.strings().offsets();
@@ -34,11 +36,6 @@ pub(crate) struct TypeIds;
 impl ItemList for TypeIds {
     ghost items = { type_rows };
 
-    #[tactic(auto, using(crate::proofs::Rows::count_mapped))]
-    fn len(contents: &Contents<'_, '_, '_>) -> usize {
-        contents.numbering.count(SymbolKind::Typ)
-    }
-
     fn encode_item<O: Output>(contents: &Contents<'_, '_, '_>, i: usize, out: &mut O) {
         let row = contents.numbering.descriptor(i) as u32;
         out.u32(row);
@@ -51,19 +48,12 @@ pub(crate) struct ProtoIds;
 impl ItemList for ProtoIds {
     ghost items = { proto_rows };
 
-    fn len(contents: &Contents<'_, '_, '_>) -> usize {
-        contents.numbering.count(SymbolKind::Proto)
-    }
-
     fn encode_item<O: Output>(contents: &Contents<'_, '_, '_>, i: usize, out: &mut O) {
         let proto = contents.numbering.proto(i);
         let list_offs = contents.layout.type_lists().places().offsets();
-        let row = [
-            proto.shorty() as u32,
-            proto.return_type() as u32,
-            list_offs[i],
-        ];
-        encode_numbers(&row, out);
+        out.u32(proto.shorty() as u32);
+        out.u32(proto.return_type() as u32);
+        out.u32(list_offs[i]);
     }
 }
 
@@ -85,11 +75,6 @@ pub(crate) struct FieldIds;
 impl ItemList for FieldIds {
     ghost items = { field_rows };
 
-    #[tactic(auto, using(crate::proofs::Rows::count_mapped))]
-    fn len(contents: &Contents<'_, '_, '_>) -> usize {
-        contents.numbering.count(SymbolKind::Field)
-    }
-
     fn encode_item<O: Output>(contents: &Contents<'_, '_, '_>, i: usize, out: &mut O) {
         let field = contents.numbering.field(i);
         encode_member(field.class, field.typ, field.name, out);
@@ -101,11 +86,6 @@ pub(crate) struct MethodIds;
 
 impl ItemList for MethodIds {
     ghost items = { method_rows };
-
-    #[tactic(auto, using(crate::proofs::Rows::count_mapped))]
-    fn len(contents: &Contents<'_, '_, '_>) -> usize {
-        contents.numbering.count(SymbolKind::Method)
-    }
 
     fn encode_item<O: Output>(contents: &Contents<'_, '_, '_>, i: usize, out: &mut O) {
         let method = contents.numbering.method(i);
@@ -119,12 +99,65 @@ pub(crate) struct StringDataItems;
 impl ItemList for StringDataItems {
     ghost items = { string_items };
 
-    #[tactic(auto, using(crate::proofs::Rows::count_mapped))]
-    fn len(contents: &Contents<'_, '_, '_>) -> usize {
-        contents.numbering.count(SymbolKind::Text)
-    }
-
     fn encode_item<O: Output>(contents: &Contents<'_, '_, '_>, i: usize, out: &mut O) {
         contents.numbering.string(i).encode(out);
+    }
+}
+
+// The offsets of what the class at a place contains, by the layout of the file, each 0 where it has none: interfaces,
+// annotations directory, class data and static values.
+fn offsets_of(contents: &Contents<'_, '_, '_>, i: usize) -> (u32, u32, u32, u32)
+    requires ready { CanBeMade contents.now }
+    requires within { i < length contents.now.classes.now }
+    ensures { result ≡ slice_index_or (class_offsets (ordered_in contents.now)) i no_offsets }
+{
+    let layout = contents.layout;
+    let lists = layout.type_lists().places().offsets();
+    let list = contents.numbering.count(SymbolKind::Proto) + i;
+    let directories = layout.directories().places().offsets();
+    let class_data = layout.class_data().places().offsets();
+    let static_values = layout.static_values().places().offsets();
+    (lists[list], directories[i], class_data[i], static_values[i])
+}
+
+// A number, or the index that names nothing.
+fn index(number: Option<usize>) -> u32
+    requires { IfSome number (λ n. n < 2 ^ 32) }
+    ensures { result ≡ unwrap_or number no_index }
+{
+    number.map_or(0xffff_ffff, |number| number as u32)
+}
+
+// The numbers of a class row.
+fn row_of(class: &Class<'_>, offsets: (u32, u32, u32, u32)) -> [u32; 8]
+    requires name { class.now.name < 2 ^ 32 }
+    requires superclass { IfSome class.now.superclass (λ n. n < 2 ^ 32) }
+    requires source { IfSome class.now.source (λ n. n < 2 ^ 32) }
+    ensures { flat_map uint result ≡ class_row class.now offsets }
+{
+    let (interfaces, annotations, class_data, static_values) = offsets;
+    [
+        class.name() as u32,
+        class.flags().bits(),
+        index(class.superclass()),
+        interfaces,
+        index(class.source()),
+        annotations,
+        class_data,
+        static_values,
+    ]
+}
+
+/// The rows of the classes.
+pub(crate) struct ClassDefs;
+
+impl ItemList for ClassDefs {
+    ghost items = { class_rows };
+
+    fn encode_item<O: Output>(contents: &Contents<'_, '_, '_>, i: usize, out: &mut O) {
+        let classes = contents.classes;
+        let class = &classes[i];
+        let row = row_of(class, offsets_of(contents, i));
+        encode_numbers(&row, out);
     }
 }

@@ -108,9 +108,8 @@ fn write_contents<W: Sink>(
     };
     let result = write_through(contents, &mut out);
     let Out {
-        buffer: _,
-        failed: _,
         target: Writer { sink: _sink },
+        ..
     } = out;
     result
 }

@@ -1,6 +1,9 @@
-use Rattle.dexcanon.proofs.Common.{ap, sym, subst, append-nil, ◌∙◌, EncodedItems, EncodedSharedItems, SetPlaces}
+use Rattle.dexcanon.proofs.Common.{ap, sym, subst, append-nil, ◌∙◌, length-map, string_data, EncodedItems, EncodedSharedItems, SetPlaces}
 use Rattle.dexcanon.proofs.Rows.{next_part, string_bytes}
 use Rattle.dexcanon.proofs.files.encode_data.Goals as goal
+
+pub encode-requires-clause-all : goal.encode-requires-clause-all
+encode-requires-clause-all g c = c.count.ensures ∙ sym (length-map _ string_data)
 
 pub returns : goal.returns
 returns g c =

@@ -1,7 +1,7 @@
 use Rattle.dexcanon.proofs.Common.{◌≡◌, ◌+◌, ℕ, List, length, get_or, ap, arith, sym, ◌∙◌, uses_offsets, type_list_section, directory_section, class_data_section, array_section, ItemPlaces, EncodedItems, EncodedSharedItems, ordered_of}
 use Rattle.dexcanon.proofs.Rows.{class_offsets_at, count_lists, count_directories, count_class_data, count_static_values}
-use Rattle.dexcanon.proofs.class_defs.offsets_of.Goals as goal
-use Rattle.dexcanon.proofs.class_defs.offsets_of.Goals.{After-offsets-static_values}
+use Rattle.dexcanon.proofs.tables.offsets_of.Goals as goal
+use Rattle.dexcanon.proofs.tables.offsets_of.Goals.{After-offsets-static_values}
 
 -- the offsets of each kind are those of the file
 lists_are : (c : After-offsets-static_values) → c.offsets-lists.result.now ≡ uses_offsets (type_list_section (ordered_of c.args.contents.now.numbering.now c.args.contents.now.classes.now))

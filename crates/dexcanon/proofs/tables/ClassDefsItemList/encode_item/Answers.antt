@@ -1,8 +1,8 @@
 use Rattle.dexcanon.proofs.Common.{◌<◌, length, sym, subst, ap, arith, rules, ◌∙◌, ranks_are_numbers, IsKnownClass, class_row}
 use Rattle.dexcanon.proofs.Rows.{count_class_rows, class_row_at, name_small, superclass_small, source_small}
 use Rattle.dexcanon.proofs.WholeFile.{texts_few}
-use Rattle.dexcanon.proofs.class_defs.ClassDefsItemList.encode_item.Goals as goal
-use Rattle.dexcanon.proofs.class_defs.ClassDefsItemList.encode_item.Goals.{After-index-classes-i}
+use Rattle.dexcanon.proofs.tables.ClassDefsItemList.encode_item.Goals as goal
+use Rattle.dexcanon.proofs.tables.ClassDefsItemList.encode_item.Goals.{After-index-classes-i}
 
 -- the class is one of the file
 within : (g : _) (c : After-index-classes-i g) → c.args.i < length c.args.contents.now.classes.now

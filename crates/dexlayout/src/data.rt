@@ -6,44 +6,30 @@ ghost use Rattle.dexspec.specs.Texts.{string_data};
 ghost use Rattle.dexspec.specs.Placing.{end, end_from};
 ghost use Rattle.dexspec.specs.Canonical.{data_start, string_section};
 ghost use Rattle.dexlayout.specs.Laid.{AreWritable, ordered_of};
-ghost use Rattle.dexlayout.specs.internal.Parts.{AreBack, AreBodies, AreData, AreFirstSections};
-ghost use Rattle.dexlayout.specs.internal.Placing.{AreStringsFrom, CanPlaceSets, PlacedFrom, PlacedSets, AreWrittenSets, AreKnownSets, AreSharedBy, IsDataFrom, AreEntriesOf};
+ghost use Rattle.dexlayout.specs.internal.Parts.{AreBack, AreData, AreFirstSections};
+ghost use Rattle.dexlayout.specs.internal.Placing.{AreStringsFrom, CanPlaceSets, PlacedSets, AreWrittenSets, AreKnownSets, AreSharedBy, IsDataFrom, AreEntriesOf};
 
-use crate::annotations::place_annotations;
-use crate::class_data::place_class_data;
-use crate::codes::place_codes;
-use crate::debugs::place_debugs;
-use crate::directories::place_directories;
+use crate::bodies::{Bodies, place_bodies};
+use crate::directories::{place_directories, place_ref_lists};
 use crate::input::Input;
 use crate::items::{Items, SharedItems};
 use crate::map_entries::count_placed;
 use crate::offsets::{Offsets, round_up};
-use crate::ref_lists::place_ref_lists;
 use crate::sets::{Sets, place_sets, share_sets};
-use crate::static_values::place_static_values;
 use crate::tables::entry;
 use crate::type_lists::place_type_lists;
+use crate::values::{place_annotations, place_static_values};
 use dexclass::Class;
 use dexhead::{MapEntry, Section};
 use dexpool::{Numbering, SymbolKind};
 use std::alloc::{AllocError, Global};
 
 /// The offsets of the items of each section of the data, in the order of the file.
+#[derive(Drop)]
 pub(crate) struct Data {
     pub(crate) first_sections: FirstSections,
     pub(crate) bodies: Bodies,
     pub(crate) back: Back,
-}
-
-// So that a value is dropped by one call.
-impl Drop for Data {
-    fn drop(self) {
-        let Data {
-            first_sections: _,
-            bodies: _,
-            back: _,
-        } = self;
-    }
 }
 
 /// The offsets of the items of the first sections.
@@ -53,14 +39,6 @@ pub(crate) struct FirstSections {
     pub(crate) annotations: Items,
     pub(crate) static_values: Items,
     pub(crate) strings: Offsets,
-}
-
-/// The offsets of code items, of their debug programs and of class data.
-#[derive(Drop)]
-pub(crate) struct Bodies {
-    pub(crate) debugs: SharedItems,
-    pub(crate) codes: Items,
-    pub(crate) class_data: Items,
 }
 
 /// The offsets of the items of the last sections: annotation sets, lists of sets, and annotations directories.
@@ -103,22 +81,6 @@ fn place_first_sections(input: &Input<'_, '_>, from: u32) -> Result<FirstSection
         annotations,
         static_values,
         strings,
-    })
-}
-
-// Lays out the sections from the debug programs to the class data, after the string data.
-fn place_bodies(input: &Input<'_, '_>, from: u32) -> Result<Bodies, AllocError>
-    requires { (m : Mentions) × AreWritable m input.now.classes.now
-        × (from ≡ end (string_section (ordered_of m input.now.classes.now))) }
-    ensures { IfOk result (PlacedFrom string_section AreBodies input.now.classes.now from) }
-{
-    let debugs = place_debugs(input, from)?;
-    let codes = place_codes(input, debugs.places())?;
-    let class_data = place_class_data(input, codes.places())?;
-    Ok(Bodies {
-        debugs,
-        codes,
-        class_data,
     })
 }
 

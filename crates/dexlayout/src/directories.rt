@@ -1,17 +1,53 @@
-//! Annotations directories.
+//! Annotations directories, and the lists of the sets of parameters that they name.
 
 ghost use Rattle.std.specs.Prelude.{◌≡◌, ◌^◌, ◌≤◌, IfOk, OnOk, length};
+ghost use Rattle.dexlayout.specs.internal.Encoding.{encode_use};
+ghost use Rattle.dexlayout.specs.internal.OffsetLists.{list_item};
+ghost use Rattle.dexlayout.specs.internal.Placing.{CanPlaceRefLists, PlacedRefLists, CanPlaceDirectories, PlacedDirectories};
 ghost use Rattle.dexmembers.specs.Numbered.{fields_of, methods_of};
 ghost use Rattle.dexlayout.specs.internal.Directories.{directory_with};
-ghost use Rattle.dexlayout.specs.internal.Encoding.{encode_use};
-ghost use Rattle.dexlayout.specs.internal.Placing.{CanPlaceDirectories, PlacedDirectories};
 
+use crate::input::{Input, method_at};
 use crate::items::Items;
 use crate::sets::Sets;
 use dexclass::Class;
 use dexmembers::{DirectoryOffsets, Members};
 use dexpool::number_law;
 use std::alloc::{AllocError, Global};
+
+// Encodes a list after the others, unless it is empty.
+fn put_list(list: &[u32], items: &mut Items) -> Result<(), AllocError>
+    requires { (encode_use 4 items.old (list_item list.now)).places.end ≤ 2 ^ 30 }
+    ensures { OnOk result (items.new ≡ encode_use 4 items.old (list_item list.now)) }
+{
+    if list.is_empty() {
+        return items.pass();
+    }
+    items.put_offsets(list)
+}
+
+/// The lists of the sets of the parameters of methods, encoded, and their offsets: one for each method. They are after
+/// the sets. Memory for the offsets of all methods is allocated at once.
+///
+/// Source: "annotation_set_ref_list".
+pub(crate) fn place_ref_lists(input: &Input<'_, '_>, sets: &Sets) -> Result<Items, AllocError>
+    requires { CanPlaceRefLists input.now.classes.now sets.now }
+    ensures { IfOk result (PlacedRefLists input.now.classes.now sets.now) }
+{
+    let from = sets.written().places().end();
+    let mut items = Items::starting_at(input.alloc, from, sets.methods().len())?;
+    let mut rest = sets.parameters();
+    for class in input.classes {
+        let members = class.members();
+        for i in 0..members.method_count() {
+            let parameters = method_at(members, i).parameter_annotations();
+            let (list, others) = rest.split_at(parameters.len());
+            put_list(list, &mut items)?;
+            rest = others;
+        }
+    }
+    Ok(items)
+}
 
 // The number of bytes of a directory without entries.
 const EMPTY_DIRECTORY: usize = 16;

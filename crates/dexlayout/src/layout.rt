@@ -80,16 +80,12 @@ fn build_layout<'p, 'a>(
     ensures { IfOk result (IsLaid numbering.now classes.now) }
 {
     let tables = Tables::of(numbering, classes);
-    let data = place_data(alloc, numbering, classes, tables.end)?;
-    let sections = data.entries(numbering, tables.end);
-    let data_end = data.back.directories.places().end();
+    let placed = place_data(alloc, numbering, classes, tables.end)?;
+    let sections = placed.entries(numbering, tables.end);
+    let data_end = placed.back.directories.places().end();
     let map = place_map(alloc, &tables.entries(), &sections, data_end)?;
     let head = head_of(&tables, &map);
-    Ok(Layout {
-        head,
-        placed: data,
-        map,
-    })
+    Ok(Layout { head, placed, map })
 }
 
 impl Layout {

@@ -6,25 +6,20 @@
 //! the items in each section, and that equal type lists, debug programs and annotation sets are written once.
 #![tactic(auto)]
 
-mod annotations;
-mod class_data;
-mod codes;
+mod bodies;
 mod data;
-mod debugs;
 mod directories;
 mod input;
 mod items;
 mod keys;
 mod layout;
 mod map_entries;
-mod methods;
 mod offsets;
-mod ref_lists;
 mod sets;
 mod sharing;
-mod static_values;
 mod tables;
 mod type_lists;
+mod values;
 
 pub use items::{Items, SharedItems, encode_numbers};
 pub use layout::Layout;

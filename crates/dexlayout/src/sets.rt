@@ -11,9 +11,8 @@ ghost use Rattle.dexlayout.specs.internal.Placing.{CanPlaceSets, AreSharedBy, Ha
 ghost use Rattle.dexlayout.specs.internal.SharedUses.{SharesSets, field_uses, members_uses, method_uses, methods_uses};
 ghost use Rattle.dexlayout.specs.internal.Adding.{AddsSet, AddsUses, AreKnownParameters, set_uses, AreKnownFields, AreKnownMethods};
 
-use crate::input::Input;
+use crate::input::{Input, method_at};
 use crate::items::Items;
-use crate::methods::method_at;
 use crate::sharing::{Shared, Sharing, place_shared};
 use dexclass::Class;
 use dexmembers::{Fields, Members, Method, Methods, ParameterSets};

@@ -1,8 +1,7 @@
 //! Items that equal uses share.
 
 ghost use Rattle.std.specs.Prelude.{◌≡◌, List, [], Option, Some, None, IfOk};
-ghost use Rattle.std.specs.Prelude.{◌<◌, All, IfSome, length, slice_index};
-ghost use Rattle.std.specs.Option.{option_map_or};
+ghost use Rattle.std.specs.Prelude.{◌<◌, All, IfSome, length};
 ghost use Rattle.dexlayout.specs.internal.Sharing.{HaveItems};
 ghost use Rattle.dexlayout.specs.internal.Adding.{HasUses, AddsUse, AreOfUses};
 ghost use Rattle.dexlayout.specs.internal.Placing.{shared_places};
@@ -44,10 +43,7 @@ impl<T: Eq + Hash + Drop> Sharing<T> {
         ensures { AddsUse T.eq result used self.old self.new }
     {
         let number = match used {
-            Some(item) => {
-                let (number, _) = self.items.insert_full(item)?;
-                Some(number)
-            }
+            Some(item) => Some(self.items.insert_full(item)?.0),
             None => None,
         };
         self.numbers.push(number)?;
@@ -65,14 +61,6 @@ impl<T: Eq + Hash + Drop> Sharing<T> {
     }
 }
 
-// The offset of a use's item, or 0 where it has none.
-fn use_offset(number: Option<usize>, offsets: &[u32]) -> u32
-    requires { IfSome number (λ i. i < length offsets.now) }
-    ensures { result ≡ option_map_or (slice_index offsets.now) number 0 }
-{
-    number.map_or(0, |number| offsets[number])
-}
-
 /// The offset of the item of each use, from the numbers of the uses and the offsets of the items that are written.
 pub(crate) fn place_shared(
     alloc: Global,
@@ -84,7 +72,7 @@ pub(crate) fn place_shared(
 {
     let mut offsets = Vec::with_capacity(alloc, numbers.len())?;
     for number in numbers {
-        offsets.push(use_offset(*number, &written.offsets))?;
+        offsets.push(number.map_or(0, |number| written.offsets[number]))?;
     }
     Ok(Offsets {
         offsets,

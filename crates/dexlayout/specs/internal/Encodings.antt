@@ -5,7 +5,7 @@ use Rattle.std.specs.Option.{option_map, option_map_or}
 use Rattle.dexdebug.specs.Debug.{NumberedDebug, numbered_debug_bytes}
 use Rattle.dexmembers.specs.Numbered.{NumberedMethod, methods_of}
 use Rattle.dexclass.specs.Numbered.{NumberedClass}
-use Rattle.dexlayout.specs.declared.debugs.Encodings.{Encodings}
+use Rattle.dexlayout.specs.declared.bodies.Encodings.{Encodings}
 use Rattle.dexlayout.specs.ItemKeys.{same_bytes}
 use Rattle.dexlayout.specs.internal.Adding.{HasUses}
 

@@ -9,7 +9,7 @@ use Rattle.dexhead.specs.Written.{rows_meant}
 use Rattle.dexspec.specs.Mentions.{Mentions}
 use Rattle.dexclass.specs.Numbered.{NumberedClass}
 use Rattle.dexlayout.specs.declared.data.Back.{Back}
-use Rattle.dexlayout.specs.declared.data.Bodies.{Bodies}
+use Rattle.dexlayout.specs.declared.bodies.Bodies.{Bodies}
 use Rattle.dexlayout.specs.declared.data.Data.{Data}
 use Rattle.dexlayout.specs.declared.data.FirstSections.{FirstSections}
 use Rattle.dexlayout.specs.declared.tables.Tables.{Tables}

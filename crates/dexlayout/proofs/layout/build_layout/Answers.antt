@@ -5,14 +5,14 @@ use Rattle.dexlayout.proofs.layout.build_layout.Goals as goal
 use Rattle.dexlayout.proofs.layout.build_layout.Goals.{After-entries, In_ok-map}
 
 pub entries-sections-requires : goal.entries-sections-requires
-entries-sections-requires c = (c.args.classes.now, c.requires, c.in_ok-data.ensures, c.of-tables.ensures.end_is)
+entries-sections-requires c = (c.args.classes.now, c.requires, c.in_ok-placed.ensures, c.of-tables.ensures.end_is)
 
 -- the map is laid out after the sections
 laid : (c : After-entries) → IsMap c.args.numbering.now c.args.classes.now (placed_map c.entries.result c.entries-sections.result c.end-data_end.result)
 laid c =
     map_laid c.args.numbering.now c.args.classes.now c.entries.result c.entries-sections.result c.end-data_end.result
-    (c.entries.ensures (ordered_of c.args.numbering.now c.args.classes.now) c.of-tables.ensures) (c.entries-sections.ensures c.args.classes.now c.requires c.in_ok-data.ensures c.of-tables.ensures.end_is)
-    (c.end-data_end.ensures ∙ ap (λ (q : ItemPlaces). q.end) c.places.ensures ∙ c.in_ok-data.ensures.back_are.directories_are.places_are.end_is)
+    (c.entries.ensures (ordered_of c.args.numbering.now c.args.classes.now) c.of-tables.ensures) (c.entries-sections.ensures c.args.classes.now c.requires c.in_ok-placed.ensures c.of-tables.ensures.end_is)
+    (c.end-data_end.ensures ∙ ap (λ (q : ItemPlaces). q.end) c.places.ensures ∙ c.in_ok-placed.ensures.back_are.directories_are.places_are.end_is)
 
 pub place_map-requires-clause-fits : goal.place_map-requires-clause-fits
 place_map-requires-clause-fits c = omega (arith, (laid ((goal.at.place_map-requires-clause-fits c).After-entries)).places_are.end_is, (end_in_file (ordered_of c.args.numbering.now c.args.classes.now) c.requires.fits).file)
@@ -31,7 +31,7 @@ head_of-head-requires-clause-following c =
 pub returns : goal.returns
 returns c =
     let is = built (goal.at.returns c).In_ok-map (laid (goal.at.returns c).After-entries) in
-    let d = c.in_ok-data.ensures in
+    let d = c.in_ok-placed.ensures in
     record {
       head_states = c.head_of-head.ensures.reports (ordered_of c.args.numbering.now c.args.classes.now) c.of-tables.ensures is.places_are;
       signature_length = c.head_of-head.ensures.signature;

@@ -92,10 +92,7 @@ pub(crate) fn number_at(bytes: &[u8], at: usize) -> Option<(u32, usize)>
     ensures some { IfSome result (λ x. Uleb128At bytes.now at x.0 x.1) }
     ensures within { IfSome result (λ x. at + x.1 ≤ length bytes.now) }
 {
-    match read_u(bytes, at) {
-        Ok(read) => Some(read),
-        Err(_) => None,
-    }
+    read_u(bytes, at).ok()
 }
 
 // Reads the index of a member, after one with the index `last`, if there is one, and its access flags. Returns them

@@ -1,9 +1,7 @@
 //! The weight of members of classes.
 
-ghost use Rattle.std.specs.Prelude.{◌≡◌, ◌+◌, ◌-◌, ◌^◌, min, map, sum_by};
-ghost use Rattle.dexval.specs.Code.{value_of};
-ghost use Rattle.dexval.specs.Numbered.{values_of_list};
-ghost use Rattle.dexval.specs.Spelled.{numbered_set_weight, numbered_statics_weight};
+ghost use Rattle.std.specs.Prelude.{◌≡◌, ◌+◌, ◌-◌, ◌^◌, min, sum_by};
+ghost use Rattle.dexval.specs.Spelled.{numbered_set_weight};
 ghost use Rattle.dexmembers.specs.Weight.{ForKnown, weight_in};
 ghost use Rattle.dexmembers.specs.Contents.{contents_in, AreHeld};
 ghost use Rattle.dexmembers.specs.Weighing.{numbered_field_weight, numbered_members_weight, method_code_weight, own_method_weight, own_members_weight};
@@ -11,9 +9,9 @@ ghost use Rattle.dexmembers.specs.Borrowed.{ForSet};
 ghost use Rattle.dexmembers.specs.Laws.{MembersWeightIsDenoted};
 
 use crate::members::Contents;
-use crate::{Field, Fields, Members, Method, Methods};
+use crate::{Fields, Members, Method, Methods};
 use dexcode::{code_meaning_law, code_weight_law, debug_meaning_law, debug_unindexed_law};
-use dexval::{AnnotationSet, Value, statics_weight};
+use dexval::{AnnotationSet, statics_weight};
 
 // Returns the weight of a set, if there is one, or 2^64 - 1 where that is more.
 fn optional_weight(set: Option<&AnnotationSet>) -> u64
@@ -26,21 +24,14 @@ fn optional_weight(set: Option<&AnnotationSet>) -> u64
     }
 }
 
-// Returns the weight of the initial values of static fields.
-fn values_weight(values: &[Value]) -> u64
-    ensures { result
-        ≡ min (2 ^ 64 - 1) (numbered_statics_weight (values_of_list (map value_of values.now))) }
-{
-    statics_weight(values)
-}
-
 // Returns the weight of fields.
 fn fields_weight(fields: &Fields<'_>) -> u64
     ensures { result ≡ min (2 ^ 64 - 1) (sum_by numbered_field_weight fields.now) }
 {
     let mut weight: u64 = 0;
     for i in 0..fields.len() {
-        weight = weight.saturating_add(fields.get(i).weight());
+        let annotations = optional_weight(fields.get(i).annotations());
+        weight = weight.saturating_add(18).saturating_add(annotations);
     }
     weight
 }
@@ -65,15 +56,6 @@ fn codes_weight(methods: &Methods<'_, '_>) -> u64
         weight = weight.saturating_add(methods.get(i).code_weight());
     }
     weight
-}
-
-impl Field<'_> {
-    // Returns the weight of the field.
-    fn weight(&self) -> u64
-        ensures { result ≡ min (2 ^ 64 - 1) (numbered_field_weight self.now) }
-    {
-        18u64.saturating_add(optional_weight(self.annotations()))
-    }
 }
 
 impl Method<'_, '_> {
@@ -144,6 +126,6 @@ impl Contents<'_> {
             .saturating_add(fields_weight(&Fields::of(&self.table, &self.instance_fields)))
             .saturating_add(methods_weight(&Methods::of(&self.table, &self.direct_methods)))
             .saturating_add(methods_weight(&Methods::of(&self.table, &self.virtual_methods)))
-            .saturating_add(values_weight(&self.static_values))
+            .saturating_add(statics_weight(&self.static_values))
     }
 }

@@ -1,9 +1,9 @@
 //! Whether the classes of parts can be merged: conflicts are checked first, then cycles, and then caps.
 
-ghost use Rattle.std.specs.Prelude.{◌≡◌, ◌↔◌, ◌<◌, IfOk, IsTrue, MatchOption, length, List, IfErr};
+ghost use Rattle.std.specs.Prelude.{◌≡◌, IfOk, MatchOption, length, List, IfErr};
 ghost use Rattle.dexpool.specs.Numberings.{AreIn};
 ghost use Rattle.dexclass.specs.Parents.{ArePlaces};
-ghost use Rattle.dexmerge.specs.Candidates.{classes_of, IsEqualCopy, lesser_of};
+ghost use Rattle.dexmerge.specs.Candidates.{classes_of, lesser_of};
 ghost use Rattle.dexmerge.specs.internal.CandidateLists.{AllEqual, IsLeastUnequal, kept_of};
 ghost use Rattle.dexspec.specs.Classes.{Definition};
 ghost use Rattle.dexspec.specs.Mentions.{Mentions};
@@ -23,18 +23,6 @@ use dexpool::{Numbering, Remap, SymbolKind};
 use dexstr::Name;
 use std::alloc::{AllocError, Global};
 
-// Whether the candidate is the same class as the one that is kept of its name.
-fn is_equal_copy(candidates: &[Candidate<'_, '_>], places: &[Option<usize>], i: usize) -> bool
-    requires within { i < length candidates.now }
-    requires places { ArePlaces (classes_of candidates.now) places.now }
-    ensures { IsTrue result ↔ IsEqualCopy (classes_of candidates.now) places.now i }
-{
-    match class_of_type(places, candidates[i].name()) {
-        Some(kept) => kept == i || candidates[i].is_same(&candidates[kept]),
-        None => true,
-    }
-}
-
 // The lesser of the names.
 fn lesser(least: Option<usize>, name: usize) -> Option<usize>
     ensures { result ≡ lesser_of least name }
@@ -52,8 +40,11 @@ fn first_conflict(candidates: &[Candidate<'_, '_>], places: &[Option<usize>]) ->
 {
     let mut least = None;
     for i in 0..candidates.len() {
-        if !is_equal_copy(candidates, places, i) {
-            least = lesser(least, candidates[i].name());
+        let name = candidates[i].name();
+        if let Some(kept) = class_of_type(places, name) {
+            if kept != i && !candidates[i].is_same(&candidates[kept]) {
+                least = lesser(least, name);
+            }
         }
     }
     least

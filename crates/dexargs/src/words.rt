@@ -35,11 +35,8 @@ pub enum Job {
 }
 
 fn owned(alloc: Global, texts: &[&str]) -> Result<Vec<String>, AllocError> {
-    let mut all = Vec::new(alloc);
-    for text in texts {
-        all.push(String::from_str(alloc, text)?)?;
-    }
-    Ok(all)
+    let copies = texts.iter().map(|text| String::from_str(alloc, text));
+    copies.try_collect(alloc)
 }
 
 fn one<'a>(alloc: Global, id: &'a str, name: &'a str, help: &'a str) -> Arg<'a> {
@@ -202,10 +199,7 @@ fn files_of(alloc: Global, matches: &ArgMatches<'_>) -> Result<Option<Vec<String
     ensures { IfOk result (λ files. IfSome files (λ files. 0 < vec_len files)) }
 {
     let files = owned(alloc, matches.get_strs("files").unwrap_or(&[]))?;
-    if files.is_empty() {
-        return Ok(None);
-    }
-    Ok(Some(files))
+    Ok((!files.is_empty()).then_some(files))
 }
 
 // Returns the caps of a merge: the values of the options, and the greatest caps otherwise.

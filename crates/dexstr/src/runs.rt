@@ -6,7 +6,7 @@ ghost use Rattle.dexstr.specs.internal.Runs.{IsRun, AreBlocks};
 use crate::units::first_unit;
 use std::alloc::{AllocError, Global};
 
-// How many places a block stands for.
+// The number of places in a block.
 const BLOCK_LEN: usize = 64;
 
 /// The runs that begin at the last three places of a block, from the first one on. A unit has at most three bytes, so a
@@ -54,7 +54,7 @@ pub(crate) fn blocks_of(alloc: Global, bytes: &[u8]) -> Result<Vec<Block>, Alloc
     Ok(kept)
 }
 
-// The run that begins where so many bytes are left, if a block has it.
+// The run that begins where `left` bytes are left, if a block has it.
 fn run_at(blocks: &[Block], left: usize) -> Option<Run>
     ensures { IfSome result (λ run. (bytes : List ℕ) → AreBlocks bytes blocks.now → IsRun bytes left run) }
 {
@@ -62,7 +62,7 @@ fn run_at(blocks: &[Block], left: usize) -> Option<Run>
     (number < blocks.len() && place < 3).then(|| blocks[number][2 - place])
 }
 
-/// The run that begins where so many bytes are left.
+/// The run that begins where `left` bytes are left.
 pub(crate) fn run_from(bytes: &[u8], blocks: &[Block], left: usize) -> Run
     requires blocks { AreBlocks bytes.now blocks.now }
     requires left { left ≤ length bytes.now }

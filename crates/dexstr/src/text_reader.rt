@@ -83,7 +83,7 @@ impl<'a> TextReader<'a> {
         first_text(bytes, count, len, units, rest)
     }
 
-    // How many units come first in so many last bytes, and the bytes after them.
+    // How many units come first in the last `left` bytes, and the bytes after them.
     fn units_after(&self, left: usize) -> (usize, &'a [u8])
         requires { left ≤ length self.now }
         ensures { AfterUnits (last_bytes left self.now) result.0 result.1.now }

@@ -63,7 +63,7 @@ fn texts_within(alloc: Global) -> Option<Vec<u8>> {
 }
 
 // Returns whether a reader reads each of these texts, and none at their end, as `Text::read` does.
-fn are_read_alike(alloc: Global) -> Option<bool> {
+fn are_read_equally(alloc: Global) -> Option<bool> {
     let bytes = texts_within(alloc)?;
     let mut reader = TextReader::new(alloc, &bytes);
     for at in 0..usize::from(TEXTS_WITHIN) {
@@ -77,5 +77,5 @@ fn are_read_alike(alloc: Global) -> Option<bool> {
 
 #[test]
 fn texts_within_texts_are_read_by_one_reader(rt: HostRuntime) {
-    assert!(rt; are_read_alike(rt.alloc()) == Some(true));
+    assert!(rt; are_read_equally(rt.alloc()) == Some(true));
 }

@@ -46,7 +46,7 @@ pub fn set_equality_law()
     ensures hashed { DependsOnSet ⟦<AnnotationSet as Hash>⟧.hash_input }
 {}
 
-// Feeds a value: its head, and then what it holds. Its numbers are not remapped.
+// Feeds a value: its head, and then its contents. Its numbers are not remapped.
 #[cycle(hashing)]
 fn hash_value<H: Hasher>(value: &Value, nowhere: &Remap, state: &mut H)
     requires { nowhere.now ≡ no_images }

@@ -62,17 +62,23 @@ fn texts_within(alloc: Global) -> Option<Vec<u8>> {
     Some(bytes)
 }
 
-// Returns whether a reader reads each of these texts, and none at their end, as `Text::read` does.
+// Returns whether a reader reads each of these texts, and none after them, as `Text::read` does.
 fn are_read_equally(alloc: Global) -> Option<bool> {
     let bytes = texts_within(alloc)?;
     let mut reader = TextReader::new(alloc, &bytes);
-    for at in 0..usize::from(TEXTS_WITHIN) {
-        let (text, _) = Text::read(&bytes, at).ok()?;
-        if text.len() != usize::from(TEXTS_WITHIN) - at || reader.read(at).ok()?? != text {
+    'places: for at in 0..bytes.len() {
+        let read = Text::read(&bytes, at);
+        let found = reader.read(at).ok()?;
+        let is_same = match (&read, &found) {
+            (Ok((text, _)), Some(other)) => text == other,
+            (Err(_), None) => true,
+            _ => false,
+        };
+        if !is_same || read.is_ok() != (at < usize::from(TEXTS_WITHIN)) {
             return Some(false);
         }
     }
-    Some(reader.read(bytes.len() - 2).ok()?.is_none() && reader.read(bytes.len()).ok()?.is_none())
+    Some(true)
 }
 
 #[test]

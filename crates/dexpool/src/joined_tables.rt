@@ -116,14 +116,17 @@ fn join_strings<'a>(alloc: Global, parts: &[&Numbering<'a>]) -> Result<Joined<Te
 }
 
 // The texts with their keys.
-fn keyed_texts<'a>(alloc: Global, texts: &[Text<'a>]) -> Result<Vec<KeyedText<'a>>, AllocError>
+fn keyed_texts<'t, 'a>(
+    alloc: Global,
+    texts: &'t [Text<'a>],
+) -> Result<Vec<KeyedText<'t, 'a>>, AllocError>
     ensures { IfOk result (λ keyed. keyed.items ≡ texts.now) }
 {
     texts.iter().map(|text| KeyedText::of(text)).collect(alloc)
 }
 
 // The texts without their keys.
-fn plain_texts<'a>(alloc: Global, keyed: &[KeyedText<'a>]) -> Result<Vec<Text<'a>>, AllocError>
+fn plain_texts<'a>(alloc: Global, keyed: &[KeyedText<'_, 'a>]) -> Result<Vec<Text<'a>>, AllocError>
     ensures { IfOk result (λ texts. texts.items ≡ keyed.now) }
 {
     keyed.iter().map(|text| text.text()).collect(alloc)

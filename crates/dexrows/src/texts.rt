@@ -47,7 +47,7 @@ impl<'a> Row for Text<'a> {
 /// A text with its key is ordered by its units too.
 ///
 /// Source: the heading "string_id_item" of the Android page "Dalvik Executable format".
-impl<'a> Row for KeyedText<'a> {
+impl<'t, 'a> Row for KeyedText<'t, 'a> {
     type Key = Text<'a>;
 
     type List = ();

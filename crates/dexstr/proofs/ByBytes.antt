@@ -1,6 +1,9 @@
 -- Texts come in the order of their bytes, with 0xc0 first.
-use Rattle.dexstr.proofs.Common.{◌≡◌, ◌≢◌, ℕ, zero, suc, ◌+◌, ◌/◌, ◌%◌, ◌^◌, ◌<◌, List, [], ◌∷◌, ◌++◌, ◌⊎◌, inl, inr, refl, sym, ◌∙◌, length, nat_eq, take, drop, min, true, arith, cases_lt, cases_order, lt-ltb, le-ltb, eq-eqb, ne_eqb, nat_tests, append-nil, take-append-drop, slice_cmp, pointwise, same_text, form, spelling, AreUnits, text_cmp, Shape, One, Two, Three, shape_of, units_of, IsSpelling, place_of, byte_cmp}
+use Rattle.dexstr.proofs.Common.{◌≡◌, ◌≢◌, ℕ, zero, suc, ◌+◌, ◌/◌, ◌%◌, ◌^◌, ◌<◌, List, [], ◌∷◌, ◌++◌, ◌⊎◌, inl, inr, refl, sym, ap, ◌∙◌, length, take, drop, min, arith, cases_lt, cases_order, lt-ltb, le-ltb, eq-eqb, ne_eqb, nat_tests, append-nil, take-append-drop, slice_cmp, form, spelling, AreUnits, text_cmp, Shape, One, Two, Three, shape_of, units_of, IsSpelling, place_of, byte_cmp}
+use Rattle.std.proofs.lemmas.List.{length-take-le}
+use Rattle.std.specs.Int.{from_le_bytes, w64}
 use Rattle.std.specs.Ordering.{nat_cmp}
+use Rattle.std.specs.Prelude.{slice_index}
 use Rattle.std.specs.declared.cmp.Ordering.TheVariants.{Less, Equal, Greater}
 
 -- ---- numbers
@@ -105,12 +108,34 @@ text_cmp-spelling (u ∷ s) (v ∷ t) a b = elim (cases_order u v) [
 
 -- ---- the loops
 
+-- eight bytes of one number are the same bytes
+same_eight : (xs ys : List ℕ) → length xs ≡ 8 → length ys ≡ 8 → ((i : ℕ) → slice_index xs i < 256) → ((i : ℕ) → slice_index ys i < 256) → from_le_bytes w64 xs ≡ from_le_bytes w64 ys → xs ≡ ys
+same_eight (a ∷ b ∷ c ∷ d ∷ e ∷ f ∷ g ∷ h ∷ []) (s ∷ t ∷ u ∷ v ∷ w ∷ x ∷ y ∷ z ∷ []) _ _ small small' same =
+    let eighth : h ≡ z = omega (arith, same, small 0, small 1, small 2, small 3, small 4, small 5, small 6, small 7, small' 0, small' 1, small' 2, small' 3, small' 4, small' 5, small' 6, small' 7) in
+    let seventh : g ≡ y = omega (arith, same, eighth, small 0, small 1, small 2, small 3, small 4, small 5, small 6, small' 0, small' 1, small' 2, small' 3, small' 4, small' 5, small' 6) in
+    let sixth : f ≡ x = omega (arith, same, eighth, seventh, small 0, small 1, small 2, small 3, small 4, small 5, small' 0, small' 1, small' 2, small' 3, small' 4, small' 5) in
+    let fifth : e ≡ w = omega (arith, same, eighth, seventh, sixth, small 0, small 1, small 2, small 3, small 4, small' 0, small' 1, small' 2, small' 3, small' 4) in
+    let fourth : d ≡ v = omega (arith, same, eighth, seventh, sixth, fifth, small 0, small 1, small 2, small 3, small' 0, small' 1, small' 2, small' 3) in
+    let third : c ≡ u = omega (arith, same, eighth, seventh, sixth, fifth, fourth, small 0, small 1, small 2, small' 0, small' 1, small' 2) in
+    let second : b ≡ t = omega (arith, same, eighth, seventh, sixth, fifth, fourth, third, small 0, small 1, small' 0, small' 1) in
+    let first : a ≡ s = omega (arith, same, eighth, seventh, sixth, fifth, fourth, third, second) in
+    rw (first, second, third, fourth, fifth, sixth, seventh, eighth) refl
+same_eight _ _ count count' _ _ _ = absurd (omega (arith, count, count'))
+
+taken_small : (n : ℕ) (a : List ℕ) → ((i : ℕ) → slice_index a i < 256) → (i : ℕ) → slice_index (take n a) i < 256
+taken_small zero a small i = omega arith
+taken_small (suc n) [] small i = omega arith
+taken_small (suc n) (x ∷ a) small zero = small 0
+taken_small (suc n) (x ∷ a) small (suc i) = taken_small n a (λ k. small (suc k)) i
+
 -- texts that begin with the same bytes compare as what is after these
-pub after_group : (a b group x other y : List ℕ) → group ≡ take 8 a → x ≡ drop 8 a → other ≡ take 8 b → y ≡ drop 8 b → true ≡ pointwise nat_eq group other → slice_cmp byte_cmp x y ≡ slice_cmp byte_cmp a b
-after_group a b group x other y group_is x_is other_is y_is same =
-    let left : group ++ x ≡ a = (λ i. group_is i ++ x_is i) ∙ take-append-drop 8 a in
-    let right : group ++ y ≡ b = (λ i. (same_text group other same ∙ other_is) i ++ y_is i) ∙ take-append-drop 8 b in
-    sym (cmp_same_prefix group x y) ∙ (λ i. slice_cmp byte_cmp (left i) (right i))
+pub after_group : (a b group x other y : List ℕ) → ((group ≡ take 8 a) × (x ≡ drop 8 a) × (length x + 8 ≡ length a)) → ((other ≡ take 8 b) × (y ≡ drop 8 b) × (length y + 8 ≡ length b)) → ((i : ℕ) → slice_index a i < 256) → ((i : ℕ) → slice_index b i < 256) → from_le_bytes w64 group ≡ from_le_bytes w64 other → slice_cmp byte_cmp x y ≡ slice_cmp byte_cmp a b
+after_group a b group x other y (group_is, x_is, long) (other_is, y_is, long') small small' same =
+    let numbers = ap (from_le_bytes w64) (sym group_is) ∙ same ∙ ap (from_le_bytes w64) other_is in
+    let firsts : take 8 a ≡ take 8 b = same_eight (take 8 a) (take 8 b) (length-take-le 8 a (omega (arith, long))) (length-take-le 8 b (omega (arith, long'))) (taken_small 8 a small) (taken_small 8 b small') numbers in
+    let left : take 8 b ++ x ≡ a = (λ i. sym firsts i ++ x_is i) ∙ take-append-drop 8 a in
+    let right : take 8 b ++ y ≡ b = (λ i. take 8 b ++ y_is i) ∙ take-append-drop 8 b in
+    sym (cmp_same_prefix (take 8 b) x y) ∙ (λ i. slice_cmp byte_cmp (left i) (right i))
 
 -- bytes of which none is left on one side compare as the lengths do
 pub ended : (a b : List ℕ) (i : ℕ) → i ≡ min (length a) (length b) → nat_cmp (length a) (length b) ≡ slice_cmp byte_cmp (drop i a) (drop i b)

@@ -9,29 +9,29 @@ use std::marker::Model;
 /// A text with a key of its first eight bytes. Texts whose keys differ come in the order of these, so that most texts
 /// compare without a look at their bytes.
 #[derive(Drop)]
-pub struct KeyedText<'a> {
-    text: Text<'a>,
+pub struct KeyedText<'t, 'a> {
+    text: &'t Text<'a>,
     key: u64,
 }
 
-impl<'a> Model for KeyedText<'a> {
+impl<'t, 'a> Model for KeyedText<'t, 'a> {
     ghost use Rattle.std.specs.Prelude.{ℕ, List};
     ghost use Rattle.dexstr.specs.internal.Keys.{IsKeyed};
 
     ghost Value = { List ℕ };
 
-    ghost view = { λ keyed. keyed.text };
+    ghost view = { λ keyed. keyed.text.now };
 
-    ghost invariant = { λ keyed. IsKeyed keyed.key keyed.text };
+    ghost invariant = { λ keyed. IsKeyed keyed.key keyed.text.now };
 }
 
-impl<'a> KeyedText<'a> {
+impl<'t, 'a> KeyedText<'t, 'a> {
     /// The text with its key.
-    pub fn of(text: &Text<'a>) -> KeyedText<'a>
+    pub fn of(text: &'t Text<'a>) -> KeyedText<'t, 'a>
         ensures { result ≡ text.now }
     {
         KeyedText {
-            text: text.clone(),
+            text,
             key: prefix_key(text.bytes()),
         }
     }
@@ -44,22 +44,22 @@ impl<'a> KeyedText<'a> {
     }
 
     /// The same text with its key.
-    pub fn clone(&self) -> KeyedText<'a>
+    pub fn clone(&self) -> KeyedText<'t, 'a>
         ensures { result ≡ self.now }
     {
         KeyedText {
-            text: self.text.clone(),
+            text: self.text,
             key: self.key,
         }
     }
 
     /// How the two texts compare.
     #[inline]
-    pub fn compare(&self, other: &KeyedText<'_>) -> Ordering
+    pub fn compare(&self, other: &KeyedText<'_, '_>) -> Ordering
         ensures { result ≡ text_cmp self.now other.now }
     {
         if self.key == other.key {
-            self.text.cmp(&other.text)
+            self.text.cmp(other.text)
         } else {
             self.key.cmp(&other.key)
         }

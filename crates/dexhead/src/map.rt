@@ -81,6 +81,7 @@ impl<'a> Map<'a> {
         Some(Map { bytes, from, count })
     }
 
+    #[inline(always)]
     fn entry(&self, i: usize) -> Entry
         requires { i < self.now.count }
         ensures { read result ≡ entry_of (entries self.now) i }

@@ -43,9 +43,7 @@ pub fn u32_at(bytes: &[u8], at: usize) -> u32
 pub fn put_u16(value: u16, out: &mut Vec<u8>) -> Result<(), AllocError>
     ensures { Puts (ushort value) out.old out.new result }
 {
-    let mut bytes = [0; 2];
-    LittleEndian::write_u16(&mut bytes, value);
-    out.extend_from_slice(&bytes)
+    out.extend_from_slice(&value.to_le_bytes())
 }
 
 /// Appends a number as four bytes (a `uint`).
@@ -56,7 +54,5 @@ pub fn put_u16(value: u16, out: &mut Vec<u8>) -> Result<(), AllocError>
 pub fn put_u32(value: u32, out: &mut Vec<u8>) -> Result<(), AllocError>
     ensures { Puts (uint value) out.old out.new result }
 {
-    let mut bytes = [0; 4];
-    LittleEndian::write_u32(&mut bytes, value);
-    out.extend_from_slice(&bytes)
+    out.extend_from_slice(&value.to_le_bytes())
 }

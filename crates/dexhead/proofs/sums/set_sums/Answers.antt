@@ -1,5 +1,12 @@
-use Rattle.dexhead.proofs.Overwritten.{sums_set}
+use Rattle.dexhead.proofs.Common.{◌∙◌}
+use Rattle.dexhead.proofs.Overwritten.{sums_set, checksum_set, signature_set}
 use Rattle.dexhead.proofs.sums.set_sums.Goals as goal
+use borrow.Rule.Slice.PartMut.{put_mid}
 
 pub returns : goal.returns
-returns c = sums_set c.args.file.now c.set_signature.new.file c.set_checksum.new.file c.requires c.set_signature.ensures c.set_checksum.ensures
+returns c =
+    let signature = c.copy_from_slice.new.self in
+    let checksum = c.copy_from_slice-2.new.self in
+    let g = put_mid 12 20 c.args.file.now signature in
+    sums_set c.args.file.now g (put_mid 8 4 g checksum) c.requires (signature_set c.args.file.now signature (c.copy_from_slice.ensures.after ∙ c.digest-signature.ensures))
+    (checksum_set g checksum c.adler-checksum.result (c.copy_from_slice-2.ensures.after ∙ c.to_le_bytes.ensures) c.adler-checksum.ensures)

@@ -1,7 +1,6 @@
 -- Texts come in the order of their bytes, with 0xc0 first.
-use Rattle.dexstr.proofs.Common.{◌≡◌, ◌≢◌, ℕ, zero, suc, ◌+◌, ◌/◌, ◌%◌, ◌^◌, ◌<◌, List, [], ◌∷◌, ◌++◌, ◌⊎◌, inl, inr, refl, sym, ap, ◌∙◌, length, take, drop, min, arith, cases_lt, cases_order, lt-ltb, le-ltb, eq-eqb, ne_eqb, nat_tests, append-nil, take-append-drop, slice_cmp, form, spelling, AreUnits, text_cmp, Shape, One, Two, Three, shape_of, units_of, IsSpelling, place_of, byte_cmp}
-use Rattle.std.proofs.lemmas.List.{length-take-le}
-use Rattle.std.specs.Int.{from_le_bytes, w64}
+use Rattle.dexstr.proofs.Common.{◌≡◌, ◌≢◌, ℕ, zero, suc, ◌+◌, ◌/◌, ◌%◌, ◌^◌, ◌<◌, List, [], ◌∷◌, ◌++◌, ◌⊎◌, inl, inr, refl, sym, ◌∙◌, length, nat_eq, take, drop, min, true, false, Bool, Option, Some, None, subst, arith, cases_lt, cases_order, lt-ltb, le-ltb, eq-eqb, ne_eqb, nat_tests, append-nil, take-append-drop, slice_cmp, pointwise, same_text, form, spelling, AreUnits, text_cmp, Shape, One, Two, Three, shape_of, units_of, IsSpelling, place_of, byte_cmp}
+use Rattle.std.specs.Bool.{then_some}
 use Rattle.std.specs.Ordering.{nat_cmp}
 use Rattle.std.specs.Prelude.{slice_index}
 use Rattle.std.specs.declared.cmp.Ordering.TheVariants.{Less, Equal, Greater}
@@ -151,3 +150,8 @@ text_order a b s t of_a of_b is_s is_t =
     let left : spelling s ≡ a = rw (← is_s) of_a.parts in
     let right : spelling t ≡ b = rw (← is_t) of_b.parts in
     rw (← left, ← right) (text_cmp-spelling s t (rw is_s at of_a.units) (rw is_t at of_b.units))
+
+-- what holds of a value that a test lets through, and of none
+pub by_test : {X : Type 0} (P : Option X → Type 0) (x : X) (test : Bool) (r : Option X) → r ≡ then_some test x → (test ≡ true → P (Some x)) → (test ≡ false → P None) → P r
+by_test P x true r e right wrong = subst P (sym e) (right refl)
+by_test P x false r e right wrong = subst P (sym e) (wrong refl)

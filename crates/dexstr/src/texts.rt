@@ -83,11 +83,7 @@ impl<'a> Text<'a> {
         ensures units { IfSome result (λ bytes. bytes.now ≡ self.now) }
         ensures other { IfNone result (¬ All IsAscii self.now) }
     {
-        if self.len() == self.bytes.len() {
-            Some(self.bytes)
-        } else {
-            None
-        }
+        (self.len() == self.bytes.len()).then_some(self.bytes)
     }
 
     /// The units, one after the other, each of 16 bits.

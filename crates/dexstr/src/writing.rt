@@ -3,7 +3,7 @@ ghost use Rattle.dexspec.specs.Texts.{IsStringData, string_data};
 ghost use Rattle.dexspec.specs.internal.Writing.{Puts};
 
 use crate::texts::Text;
-use dexhead::{Encode, Output};
+use dexhead::{Encode, Output, put_with_len};
 use dexleb::len_u;
 use std::alloc::AllocError;
 
@@ -48,7 +48,5 @@ pub fn put_text(text: &Text, out: &mut Vec<u8>) -> Result<(), AllocError>
     ensures room_for_all { vec_len out.old + (6 + 3 * length text.now) ≤ vec_capacity out.old
         → IsOk result }
 {
-    out.reserve(text.item_len())?;
-    text.encode(out);
-    Ok(())
+    put_with_len(text, text.item_len(), out)
 }

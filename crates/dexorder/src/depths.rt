@@ -64,40 +64,16 @@ impl<'a> Search<'a> {
             self.depths[visit.class] = Some(visit.depth);
             return Ok(());
         };
-        match self.depths[*parent] {
-            Some(depth) => {
-                self.path.push(Visit {
-                    left,
-                    depth: visit.depth.max(depth + 1),
-                    ..visit
-                })?;
-            }
-            None => {
-                let was_seen = self.is_seen[*parent];
-                if !was_seen {
-                    self.path.push(visit)?;
-                    self.begin(classes, *parent)?;
-                }
-            }
-        }
-        Ok(())
-    }
-
-    /// Visits a class that was not seen, and those above it that were not.
-    fn explore(&mut self, classes: &'a Hierarchy, class: usize) -> Result<(), AllocError>
-        requires parents { AreWithin classes.now }
-        requires search { IsSearch classes.now self.old [] }
-        requires path { self.old.path.items ≡ [] }
-        requires within { class < length classes.now }
-        requires fresh { slice_index_or self.old.is_seen.items class false ≡ false }
-        ensures search { OnOk result (IsSearch classes.now self.new []) }
-        ensures path { OnOk result (self.new.path.items ≡ []) }
-        ensures seen { OnOk result (AreStillSeen self.old self.new) }
-        ensures begun { OnOk result (slice_index_or self.new.is_seen.items class false ≡ true) }
-    {
-        self.begin(classes, class)?;
-        while let Some(visit) = self.path.pop() {
-            self.step(classes, visit)?;
+        if let Some(depth) = self.depths[*parent] {
+            let depth = visit.depth.max(depth + 1);
+            self.path.push(Visit {
+                left,
+                depth,
+                ..visit
+            })?;
+        } else if !self.is_seen[*parent] {
+            self.path.push(visit)?;
+            self.begin(classes, *parent)?;
         }
         Ok(())
     }
@@ -120,7 +96,10 @@ impl Hierarchy {
         };
         for class in 0..count {
             if !search.is_seen[class] {
-                search.explore(self, class)?;
+                search.begin(self, class)?;
+                while let Some(visit) = search.path.pop() {
+                    search.step(self, visit)?;
+                }
             }
         }
         Ok(search.depths)

@@ -83,7 +83,6 @@ impl Hierarchy {
         let start = self.parents.len();
         self.parents.extend_from_slice(parents)?;
         let end = self.parents.len();
-        self.spans.push(Span { start, end })?;
-        Ok(())
+        Ok(self.spans.push(Span { start, end })?)
     }
 }

@@ -63,21 +63,6 @@ pub fn class_of_type(by_type: &[Option<usize>], typ: usize) -> Option<usize>
     *by_type.get(typ)?
 }
 
-// Appends the class of a type, if it has one.
-fn push_class(
-    by_type: &[Option<usize>],
-    typ: usize,
-    classes: &mut Vec<usize>,
-) -> Result<(), AllocError>
-    ensures { OnOk result (classes.new.items
-        ≡ classes.old.items ++ classes_of_types by_type.now (typ ∷ [])) }
-{
-    if let Some(class) = class_of_type(by_type, typ) {
-        classes.push(class)?;
-    }
-    Ok(())
-}
-
 // Replaces the list by the classes that are parents of a class.
 fn collect_parents<C: HasParents>(
     by_type: &[Option<usize>],
@@ -89,10 +74,10 @@ fn collect_parents<C: HasParents>(
 {
     parents.clear();
     if let Some(superclass) = class.superclass() {
-        push_class(by_type, superclass, parents)?;
+        parents.extend(class_of_type(by_type, superclass))?;
     }
     for k in 0..class.interface_count() {
-        push_class(by_type, class.interface(k), parents)?;
+        parents.extend(class_of_type(by_type, class.interface(k)))?;
     }
     Ok(())
 }

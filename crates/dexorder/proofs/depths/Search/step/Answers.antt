@@ -15,25 +15,24 @@ overflow_add-depth c =
     let l = depth_less c.args.classes.now c.requires.within c.in-Some.parent.now c.in-Some-index.depth w (c.requires.search.known c.in-Some.parent.now c.in-Some-index.depth (sym (get_or_read c.args.self.now.depths.items _ _ (omega (arith, w, c.requires.search.depth_count)) c.index.ensures None) ∙ c.in-Some-index.is)) in
     omega (arith, l, c.requires.search.depth_count)
 
-pub index-was_seen-requires : goal.index-was_seen-requires
-index-was_seen-requires c = let w = next_within c.args.classes.now c.args.self.now c.args.self.now.path.items c.args.visit c.requires.search c.in-Some.parent.now c.in-Some.left.now c.in-Some.ensures.cases.0 c.requires.within in omega (arith, w, c.requires.search.seen_count)
+pub index-requires-in_default-index : goal.index-requires-in_default-index
+index-requires-in_default-index c = let w = next_within c.args.classes.now c.args.self.now c.args.self.now.path.items c.args.visit c.requires.search c.in-Some.parent.now c.in-Some.left.now c.in-Some.ensures.cases.0 c.requires.within in omega (arith, w, c.requires.search.seen_count)
 
 pub begin-requires-clause-within : goal.begin-requires-clause-within
 begin-requires-clause-within c = next_within c.args.classes.now c.args.self.now c.args.self.now.path.items c.args.visit c.requires.search c.in-Some.parent.now c.in-Some.left.now c.in-Some.ensures.cases.0 c.requires.within
 
 pub begin-requires-clause-waits : goal.begin-requires-clause-waits
-begin-requires-clause-waits c = rw c.in_ok-push-in-None.ensures.items (all_wait_next c.args.classes.now c.args.self.now c.args.self.now.path.items c.args.visit c.requires.search c.in-Some.parent.now c.in-Some.left.now c.in-Some.ensures.cases.0)
+begin-requires-clause-waits c = rw c.in_ok-push-2.ensures.items (all_wait_next c.args.classes.now c.args.self.now c.args.self.now.path.items c.args.visit c.requires.search c.in-Some.parent.now c.in-Some.left.now c.in-Some.ensures.cases.0)
 
-pub returns-in_ok-push-in-Some-index-clause-search :
-    goal.returns-in_ok-push-in-Some-index-clause-search
-returns-in_ok-push-in-Some-index-clause-search c =
+pub returns-in_ok-push-clause-search : goal.returns-in_ok-push-clause-search
+returns-in_ok-push-clause-search c =
     let w = next_within c.args.classes.now c.args.self.now c.args.self.now.path.items c.args.visit c.requires.search c.in-Some.parent.now c.in-Some.left.now c.in-Some.ensures.cases.0 c.requires.within in
     let k = sym (get_or_read c.args.self.now.depths.items _ _ (omega (arith, w, c.requires.search.depth_count)) c.index.ensures None) ∙ c.in-Some-index.is in
-    search_deeper c.args.classes.now c.args.self.now c.args.self.now.path.items c.args.visit c.requires.search c.in-Some.parent.now c.in-Some.left.now c.in-Some.ensures.cases.0 c.in-Some-index.depth _ _ c.push.new.self.items k refl refl (omega (arith, c.max.ensures)) refl refl c.in_ok-push-in-Some-index.ensures.items
+    search_deeper c.args.classes.now c.args.self.now c.args.self.now.path.items c.args.visit c.requires.search c.in-Some.parent.now c.in-Some.left.now c.in-Some.ensures.cases.0 c.in-Some-index.depth _ _ c.push.new.self.items k refl refl (omega (arith, c.max-depth.ensures)) refl refl c.in_ok-push.ensures.items
 
-pub returns-else-not-was_seen-clause-search : goal.returns-else-not-was_seen-clause-search
-returns-else-not-was_seen-clause-search c =
+pub returns-else-not-index-clause-search : goal.returns-else-not-index-clause-search
+returns-else-not-index-clause-search c =
     let w = next_within c.args.classes.now c.args.self.now c.args.self.now.path.items c.args.visit c.requires.search c.in-Some.parent.now c.in-Some.left.now c.in-Some.ensures.cases.0 c.requires.within in
-    let k = sym (get_or_read c.args.self.now.depths.items _ _ (omega (arith, w, c.requires.search.depth_count)) c.index.ensures None) ∙ c.in-None.is in
-    let b = sym (get_or_read c.args.self.now.is_seen.items _ _ (omega (arith, w, c.requires.search.seen_count)) c.index-was_seen.ensures false) in
-    search_cut c.args.classes.now c.args.self.now c.args.self.now.path.items c.args.visit c.requires.search c.in-Some.parent.now c.in-Some.left.now c.in-Some.ensures.cases.0 (b ∙ c.if-not-was_seen.false) k
+    let k = sym (get_or_read c.args.self.now.depths.items _ _ (omega (arith, w, c.requires.search.depth_count)) c.index.ensures None) ∙ c.in_default-index.is in
+    let b = sym (get_or_read c.args.self.now.is_seen.items _ _ (omega (arith, w, c.requires.search.seen_count)) c.index-in_default-index.ensures false) in
+    search_cut c.args.classes.now c.args.self.now c.args.self.now.path.items c.args.visit c.requires.search c.in-Some.parent.now c.in-Some.left.now c.in-Some.ensures.cases.0 (b ∙ c.if-not-index.false) k

@@ -21,7 +21,14 @@ pub(crate) fn closed(tables: &Tables<'_>, marks: &Marks) -> Result<Marks, AllocE
     requires marks { AreMarksOf (symbols_in tables.now) marks.now }
     ensures { IfOk result (AreClosure tables.now marks.now) }
 {
-    let mut closed = copied(marks)?;
+    let alloc = *marks.strings.allocator();
+    let mut closed = Marks {
+        strings: Vec::from_slice(alloc, &marks.strings)?,
+        types: Vec::from_slice(alloc, &marks.types)?,
+        protos: Vec::from_slice(alloc, &marks.protos)?,
+        fields: Vec::from_slice(alloc, &marks.fields)?,
+        methods: Vec::from_slice(alloc, &marks.methods)?,
+    };
     let Marks {
         strings,
         types,
@@ -34,24 +41,6 @@ pub(crate) fn closed(tables: &Tables<'_>, marks: &Marks) -> Result<Marks, AllocE
     mark_by_protos(&tables.protos, &tables.parameters, protos, strings, types);
     mark_by_types(&tables.types, types, strings);
     Ok(closed)
-}
-
-// Returns a copy of the marks, in vectors of their own.
-fn copied(marks: &Marks) -> Result<Marks, AllocError>
-    ensures strings { IfOk result (λ copy. copy.strings.items ≡ marks.now.strings.items) }
-    ensures types { IfOk result (λ copy. copy.types.items ≡ marks.now.types.items) }
-    ensures protos { IfOk result (λ copy. copy.protos.items ≡ marks.now.protos.items) }
-    ensures fields { IfOk result (λ copy. copy.fields.items ≡ marks.now.fields.items) }
-    ensures methods { IfOk result (λ copy. copy.methods.items ≡ marks.now.methods.items) }
-{
-    let alloc = *marks.strings.allocator();
-    Ok(Marks {
-        strings: Vec::from_slice(alloc, &marks.strings)?,
-        types: Vec::from_slice(alloc, &marks.types)?,
-        protos: Vec::from_slice(alloc, &marks.protos)?,
-        fields: Vec::from_slice(alloc, &marks.fields)?,
-        methods: Vec::from_slice(alloc, &marks.methods)?,
-    })
 }
 
 // Marks the classes, names and protos of marked methods.

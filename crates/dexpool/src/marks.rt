@@ -43,11 +43,11 @@ impl Marks {
         ensures none { IfOk result (λ marks. marked numbering.now marks ≡ []) }
     {
         Ok(Marks {
-            strings: unmarked(alloc, numbering.count(SymbolKind::Text))?,
-            types: unmarked(alloc, numbering.count(SymbolKind::Typ))?,
-            protos: unmarked(alloc, numbering.count(SymbolKind::Proto))?,
-            fields: unmarked(alloc, numbering.count(SymbolKind::Field))?,
-            methods: unmarked(alloc, numbering.count(SymbolKind::Method))?,
+            strings: vec![in alloc; false; numbering.count(SymbolKind::Text)]?,
+            types: vec![in alloc; false; numbering.count(SymbolKind::Typ)]?,
+            protos: vec![in alloc; false; numbering.count(SymbolKind::Proto)]?,
+            fields: vec![in alloc; false; numbering.count(SymbolKind::Field)]?,
+            methods: vec![in alloc; false; numbering.count(SymbolKind::Method)]?,
         })
     }
 
@@ -84,11 +84,4 @@ fn are_set(marks: &[bool]) -> bool
     ensures { IsTrue result ↔ All IsTrue marks.now }
 {
     marks.iter().all(|&is_marked| is_marked)
-}
-
-// Returns `count` marks, of which none is set.
-fn unmarked(alloc: Global, count: usize) -> Result<Vec<bool>, AllocError>
-    ensures { IfOk result (λ marks. marks.items ≡ replicate count false) }
-{
-    Ok(vec![in alloc; false; count]?)
 }

@@ -109,7 +109,11 @@ impl<'a> Numbering<'a> {
         let alloc = *tables.strings.allocator();
         Ok(Numbering {
             tables: Tables {
-                strings: copied(alloc, &tables.strings)?,
+                strings: tables
+                    .strings
+                    .iter()
+                    .map(|text| text.clone())
+                    .collect(alloc)?,
                 types: Vec::from_slice(alloc, &tables.types)?,
                 protos: Vec::from_slice(alloc, &tables.protos)?,
                 parameters: tables.parameters.copy()?,
@@ -213,40 +217,15 @@ impl<'a> Numbering<'a> {
         let types = 4u64.saturating_mul(tables.types.len() as u64);
         let fields = 8u64.saturating_mul(tables.fields.len() as u64);
         let methods = 8u64.saturating_mul(tables.methods.len() as u64);
-        texts_weight(&tables.strings)
-            .saturating_add(types)
-            .saturating_add(protos_weight(&tables.protos))
-            .saturating_add(fields)
-            .saturating_add(methods)
+        let mut weight = types.saturating_add(fields).saturating_add(methods);
+        // Each text has a string_id and a string_data_item, and each proto a proto_id and a type_list.
+        for text in &tables.strings {
+            weight = weight.saturating_add(10 + 3 * text.len() as u64);
+        }
+        for proto in &tables.protos {
+            let parameters = (proto.parameters.len() as u64).saturating_mul(2);
+            weight = weight.saturating_add(20).saturating_add(parameters);
+        }
+        weight
     }
-}
-
-// Returns the weight of texts: each a string_id and a string_data_item.
-fn texts_weight(texts: &[Text<'_>]) -> u64
-    ensures { result ≡ min (2 ^ 64 - 1) (sum_by text_weight texts.now) }
-{
-    let mut weight: u64 = 0;
-    for text in texts {
-        weight = weight.saturating_add(10 + 3 * text.len() as u64);
-    }
-    weight
-}
-
-// Returns the weight of protos: each a proto_id and a type_list.
-fn protos_weight(protos: &[ProtoEntry]) -> u64
-    ensures { result ≡ min (2 ^ 64 - 1) (sum_by entry_weight protos.now) }
-{
-    let mut weight: u64 = 0;
-    for proto in protos {
-        let parameters = (proto.parameters.len() as u64).saturating_mul(2);
-        weight = weight.saturating_add(20).saturating_add(parameters);
-    }
-    weight
-}
-
-// Returns a copy of the texts, in a table of their own.
-fn copied<'a>(alloc: Global, texts: &[Text<'a>]) -> Result<Vec<Text<'a>>, AllocError>
-    ensures { IfOk result (λ copy. copy.items ≡ texts.now) }
-{
-    texts.iter().map(|text| text.clone()).collect(alloc)
 }

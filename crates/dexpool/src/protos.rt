@@ -184,17 +184,14 @@ impl TableReader for ProtoReader<'_, '_, '_> {
     fn row_at(&self, lists: &mut CheckedLists, i: u32) -> Result<Option<ProtoEntry>, AllocError> {
         let names = self.names;
         let (shorty, return_type, off) = indices_at(names.frame, i);
-        let text = match names.text(shorty) {
-            Some(text) => text,
-            None => return Ok(None),
+        let Some(text) = names.text(shorty) else {
+            return Ok(None);
         };
-        let typ = match names.typ(return_type) {
-            Some(typ) => typ,
-            None => return Ok(None),
+        let Some(typ) = names.typ(return_type) else {
+            return Ok(None);
         };
-        let span = match place_at(names.frame, off) {
-            Some(span) => span,
-            None => return Ok(None),
+        let Some(span) = place_at(names.frame, off) else {
+            return Ok(None);
         };
         let list = CheckedList {
             span,

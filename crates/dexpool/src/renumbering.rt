@@ -48,13 +48,6 @@ pub(crate) fn descriptors(alloc: Global, rows: &[TypeRow]) -> Result<Vec<usize>,
     rows.iter().map(|row| row.descriptor).collect(alloc)
 }
 
-// The image of a number, and 0 where it has none.
-fn image_in(images: &[u32], number: usize) -> usize
-    ensures { result ≡ slice_index images.now number }
-{
-    images.get(number).copied().unwrap_or(0) as usize
-}
-
 // Appends the images of numbers, and 0 for those that have none.
 fn push_images(
     numbers: &TypeNumbers<'_>,
@@ -65,7 +58,8 @@ fn push_images(
         ++ map (slice_index images.now) numbers.now) }
 {
     for i in 0..numbers.len() {
-        to.push(image_in(images, numbers.at(i)))?;
+        let image = images.get(numbers.at(i)).copied().unwrap_or(0);
+        to.push(image as usize)?;
     }
     Ok(())
 }

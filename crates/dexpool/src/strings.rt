@@ -39,7 +39,14 @@ impl<'a> TableReader for Frame<'a> {
     }
 
     fn row_at(&self, texts: &mut TextReader<'a>, i: u32) -> Result<Option<Text<'a>>, AllocError> {
-        string_at(self, texts, i)
+        let at = u32_at(self.row(Table::StringIds, i), 0);
+        if at < self.data_off() {
+            return Ok(None);
+        }
+        if self.bytes().len() < at as usize {
+            return Ok(None);
+        }
+        texts.read(at as usize)
     }
 
     fn compare(&self, left: &Text<'a>, right: &Text<'a>) -> Ordering {
@@ -47,27 +54,4 @@ impl<'a> TableReader for Frame<'a> {
     }
 
     fn law(&self) {}
-}
-
-// The text of a row, if it is one.
-#[tactic(auto, using(crate::proofs::Bytes::uint_at_row, crate::proofs::Bytes::no_text_after))]
-fn string_at<'a>(
-    frame: &Frame<'a>,
-    texts: &mut TextReader<'a>,
-    i: u32,
-) -> Result<Option<Text<'a>>, AllocError>
-    requires texts { texts.old ≡ frame.now }
-    requires row { i < table_size frame.now StringIds }
-    ensures texts { texts.new ≡ frame.now }
-    ensures row { IfOk result (λ found.
-        MatchOption found (HasString frame.now i → ⊥) (StringRow frame.now i)) }
-{
-    let at = u32_at(frame.row(Table::StringIds, i), 0);
-    if at < frame.data_off() {
-        return Ok(None);
-    }
-    if frame.bytes().len() < at as usize {
-        return Ok(None);
-    }
-    texts.read(at as usize)
 }

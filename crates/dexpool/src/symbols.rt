@@ -162,17 +162,6 @@ impl Tables<'_> {
     }
 }
 
-// Returns a copy of the names, in a vector of their own.
-fn copied(alloc: Global, names: &[Name]) -> Result<Vec<Name>, AllocError>
-    ensures { IfOk result (λ copy. copy.items ≡ names.now) }
-{
-    let mut copy = Vec::with_capacity(alloc, names.len())?;
-    for name in names {
-        copy.push(name.copy()?)?;
-    }
-    Ok(copy)
-}
-
 impl Symbol {
     ghost use Rattle.dexpool.specs.Owned.{symbol_of};
 
@@ -195,9 +184,14 @@ impl ProtoSymbol {
     pub fn copy(&self) -> Result<Self, AllocError>
         ensures { IfOk result (λ copy. copy ≡ self.now) }
     {
+        let alloc = *self.parameters.allocator();
+        let mut parameters = Vec::with_capacity(alloc, self.parameters.len())?;
+        for name in &self.parameters {
+            parameters.push(name.copy()?)?;
+        }
         Ok(ProtoSymbol {
             return_type: self.return_type.copy()?,
-            parameters: copied(*self.parameters.allocator(), &self.parameters)?,
+            parameters,
         })
     }
 }

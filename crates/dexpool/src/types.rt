@@ -65,13 +65,8 @@ fn type_at(frame: &Frame<'_>, strings: &[Text<'_>], i: u32) -> Option<usize>
     ensures { MatchOption result (HasType frame.now i → ⊥) (TypeRowAt strings.now frame.now i) }
 {
     let index = type_index(frame, i);
-    if strings.len() <= index {
-        return None;
-    }
-    match descriptor_kind(&strings[index]) {
-        Some(_) => Some(index),
-        None => None,
-    }
+    descriptor_kind(strings.get(index)?)?;
+    Some(index)
 }
 
 // The index in a row.

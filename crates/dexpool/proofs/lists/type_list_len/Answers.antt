@@ -1,4 +1,4 @@
-use Rattle.dexpool.proofs.Common.{◌≡◌, ℕ, ◌+◌, ◌*◌, List, drop, refl, sym, ◌∙◌, subst, arith, false≢true, uint_at}
+use Rattle.dexpool.proofs.Common.{◌≡◌, ℕ, ◌+◌, ◌*◌, List, drop, sym, ◌∙◌, subst, arith, false≢true, uint_at}
 use Rattle.dexspec.specs.Sections.{IsInData}
 use Rattle.std.specs.Prelude.{MatchOption}
 use Rattle.dexpool.specs.Reading.{HasRoom}

@@ -4,17 +4,17 @@ use Rattle.dexpool.proofs.marks.Marks.none.Goals as goal
 
 pub returns-clause-marks : goal.returns-clause-marks
 returns-clause-marks c = record {
-  strings_count = ap (λ (l : List Bool). length l) c.in_ok-unmarked.ensures ∙ length-replicate c.count.result false ∙ c.count.ensures;
-  types_count = ap (λ (l : List Bool). length l) c.in_ok-unmarked-2.ensures ∙ length-replicate c.count-2.result false ∙ c.count-2.ensures;
-  protos_count = ap (λ (l : List Bool). length l) c.in_ok-unmarked-3.ensures ∙ length-replicate c.count-3.result false ∙ c.count-3.ensures;
-  fields_count = ap (λ (l : List Bool). length l) c.in_ok-unmarked-4.ensures ∙ length-replicate c.count-4.result false ∙ c.count-4.ensures;
-  methods_count = ap (λ (l : List Bool). length l) c.in_ok-unmarked-5.ensures ∙ length-replicate c.count-5.result false ∙ c.count-5.ensures;
+  strings_count = ap (λ (l : List Bool). length l) (c.in_ok-vec.ensures.items_if_clones_equal (λ y e. e)) ∙ length-replicate c.count.result false ∙ c.count.ensures;
+  types_count = ap (λ (l : List Bool). length l) (c.in_ok-vec-2.ensures.items_if_clones_equal (λ y e. e)) ∙ length-replicate c.count-2.result false ∙ c.count-2.ensures;
+  protos_count = ap (λ (l : List Bool). length l) (c.in_ok-vec-3.ensures.items_if_clones_equal (λ y e. e)) ∙ length-replicate c.count-3.result false ∙ c.count-3.ensures;
+  fields_count = ap (λ (l : List Bool). length l) (c.in_ok-vec-4.ensures.items_if_clones_equal (λ y e. e)) ∙ length-replicate c.count-4.result false ∙ c.count-4.ensures;
+  methods_count = ap (λ (l : List Bool). length l) (c.in_ok-vec-5.ensures.items_if_clones_equal (λ y e. e)) ∙ length-replicate c.count-5.result false ∙ c.count-5.ensures;
 }
 
 pub returns-clause-none : goal.returns-clause-none
 returns-clause-none c =
     let m = c.args.numbering.now in
-    let protos = kept_none _ c.in_ok-unmarked-3.field-0.items m.protos c.in_ok-unmarked-3.ensures in
-    let fields = kept_none _ c.in_ok-unmarked-4.field-0.items m.fields c.in_ok-unmarked-4.ensures in
-    let methods = kept_none _ c.in_ok-unmarked-5.field-0.items m.methods c.in_ok-unmarked-5.ensures in
-    λ i. map TextSymbol ((kept_none _ c.in_ok-unmarked.field-0.items m.texts c.in_ok-unmarked.ensures) i) ++ (map TypeSymbol ((kept_none _ c.in_ok-unmarked-2.field-0.items m.types c.in_ok-unmarked-2.ensures) i) ++ (map ProtoSymbol (protos i) ++ (map FieldSymbol (fields i) ++ map MethodSymbol (methods i))))
+    let protos = kept_none _ c.in_ok-vec-3.field-0.items m.protos (c.in_ok-vec-3.ensures.items_if_clones_equal (λ y e. e)) in
+    let fields = kept_none _ c.in_ok-vec-4.field-0.items m.fields (c.in_ok-vec-4.ensures.items_if_clones_equal (λ y e. e)) in
+    let methods = kept_none _ c.in_ok-vec-5.field-0.items m.methods (c.in_ok-vec-5.ensures.items_if_clones_equal (λ y e. e)) in
+    λ i. map TextSymbol ((kept_none _ c.in_ok-vec.field-0.items m.texts (c.in_ok-vec.ensures.items_if_clones_equal (λ y e. e))) i) ++ (map TypeSymbol ((kept_none _ c.in_ok-vec-2.field-0.items m.types (c.in_ok-vec-2.ensures.items_if_clones_equal (λ y e. e))) i) ++ (map ProtoSymbol (protos i) ++ (map FieldSymbol (fields i) ++ map MethodSymbol (methods i))))

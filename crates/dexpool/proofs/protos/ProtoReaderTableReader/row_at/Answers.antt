@@ -3,14 +3,14 @@ use Rattle.dexpool.proofs.FirstUnits.{letter_ascii}
 use Rattle.dexpool.proofs.ReadTables.{shorty_same, is_at_there}
 use Rattle.dexpool.proofs.protos.ProtoReaderTableReader.row_at.Goals as goal
 
-pub returns-in-None-clause-row : goal.returns-in-None-clause-row
-returns-in-None-clause-row c = λ holds. let p = holds.item in let h = holds.is in c.in-None.ensures _ (subst (λ n. StringRow c.args.self.now.names.now.frame.now n (shorty p.return_type p.parameters)) c.indices_at-shorty.ensures.shorty_is h.shorty)
+pub returns-in_default-clause-row : goal.returns-in_default-clause-row
+returns-in_default-clause-row c = λ holds. let p = holds.item in let h = holds.is in c.in_default.ensures _ (subst (λ n. StringRow c.args.self.now.names.now.frame.now n (shorty p.return_type p.parameters)) c.indices_at-shorty.ensures.shorty_is h.shorty)
 
-pub returns-in-None-typ-clause-row : goal.returns-in-None-typ-clause-row
-returns-in-None-typ-clause-row c = λ holds. let p = holds.item in let h = holds.is in c.in-None-typ.ensures _ (subst (λ n. TypeRow c.args.self.now.names.now.frame.now n p.return_type) c.indices_at-shorty.ensures.return_is h.return_type)
+pub returns-in_default-typ-clause-row : goal.returns-in_default-typ-clause-row
+returns-in_default-typ-clause-row c = λ holds. let p = holds.item in let h = holds.is in c.in_default-typ.ensures _ (subst (λ n. TypeRow c.args.self.now.names.now.frame.now n p.return_type) c.indices_at-shorty.ensures.return_is h.return_type)
 
-pub returns-in-None-place_at-clause-row : goal.returns-in-None-place_at-clause-row
-returns-in-None-place_at-clause-row c = λ holds. let p = holds.item in let h = holds.is in c.in-None-place_at.ensures p.parameters (subst (λ o. OrNone TypeListAt [] c.args.self.now.names.now.frame.now o p.parameters) c.indices_at-shorty.ensures.off_is h.parameters)
+pub returns-in_default-place_at-clause-row : goal.returns-in_default-place_at-clause-row
+returns-in_default-place_at-clause-row c = λ holds. let p = holds.item in let h = holds.is in c.in_default-place_at.ensures p.parameters (subst (λ o. OrNone TypeListAt [] c.args.self.now.names.now.frame.now o p.parameters) c.indices_at-shorty.ensures.off_is h.parameters)
 
 pub returns-then-not-has_shorty-clause-row : goal.returns-then-not-has_shorty-clause-row
 returns-then-not-has_shorty-clause-row c = λ holds.

@@ -1,7 +1,7 @@
 //! Classes that name their parents by types, and the parents that are classes among them.
 
-ghost use Rattle.std.specs.Prelude.{◌≡◌, ◌<◌, ◌++◌, ◌∷◌, [], ℕ, List, Option, None, All, IfOk, OnOk, length, map, slice_index, slice_index_or};
-ghost use Rattle.dexorder.specs.Parents.{AreByType, AreParentsOf, IsHierarchyOfClasses, classes_of_types};
+ghost use Rattle.std.specs.Prelude.{◌≡◌, ◌<◌, ℕ, List, Option, None, All, IfOk, OnOk, length, map, slice_index, slice_index_or};
+ghost use Rattle.dexorder.specs.Parents.{AreByType, AreParentsOf, IsHierarchyOfClasses};
 
 use crate::hierarchy::Hierarchy;
 use std::alloc::{AllocError, Global};

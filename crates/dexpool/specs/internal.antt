@@ -9,4 +9,3 @@ pub mod CheckedLists
 pub mod FileRows
 pub mod ReadRows
 pub mod SharedLists
-pub mod Weights

@@ -5,8 +5,7 @@ ghost use Rattle.std.specs.Prelude.{◌≡◌, ℕ, ◌+◌, ◌<◌, length, ma
 ghost use Rattle.dexrows.specs.Join.{AreSorted};
 ghost use Rattle.dexpool.specs.Numberings.{IsNumbering, union_of, PartsMapTo};
 ghost use Rattle.dexpool.specs.Orderly.{KeepOrder};
-ghost use Rattle.dexpool.specs.internal.Renumbering.{numbers_in, HasSpans};
-ghost use Rattle.dexpool.specs.internal.Joining.{proto_key, JoinsRows, AreTextsOf, AreTypesOf, AreProtosOf, AreFieldsOf, AreMethodsOf, AreTablesOf, MovesTextsOf, MovesTypesOf, total_maps, HaveSameParts, HavePart, SameFrom, AreRemapsOf};
+ghost use Rattle.dexpool.specs.internal.Joining.{JoinsRows, AreTextsOf, AreTypesOf, AreProtosOf, AreFieldsOf, AreMethodsOf, MovesTextsOf, MovesTypesOf, total_maps, HaveSameParts, HavePart, SameFrom, AreRemapsOf};
 ghost use Rattle.std.specs.List.{AllZip};
 ghost use Rattle.dexpool.specs.Laws.{MapsAll};
 
@@ -180,7 +179,13 @@ impl LowerJoined<'_, '_, '_> {
         ensures { IfOk result
             (AreProtosOf self.now.parts.now self.now.strings.now self.now.types.now) }
     {
-        let tables = self.renumbered_tables()?;
+        sorted_law::<ProtoRow<'_>>();
+        let mut tables = Vec::with_capacity(self.alloc, self.parts.len())?;
+        for (i, part) in self.parts.iter().enumerate() {
+            let part = part.tables();
+            let protos = Vec::from_slice(self.alloc, &part.protos)?;
+            tables.push(renumbered_protos(protos, &part.parameters, self.places(i, &[]))?)?;
+        }
         let mut rows = Vec::with_capacity(self.alloc, tables.len())?;
         for table in &tables {
             rows.push(proto_rows(self.alloc, table)?)?;
@@ -190,27 +195,6 @@ impl LowerJoined<'_, '_, '_> {
             table: stored(self.alloc, &joined.rows)?,
             images: joined.images,
         })
-    }
-
-    // The protos of each part, by the joined texts and types.
-    fn renumbered_tables(&self) -> Result<Vec<Protos>, AllocError>
-        requires numberings { All IsNumbering (map (λ part. part.now) self.now.parts.now) }
-        requires strings { AreTextsOf self.now.parts.now self.now.strings.now }
-        requires types { AreTypesOf self.now.parts.now self.now.strings.now self.now.types.now }
-        ensures spans { IfOk result (λ tables. All HasSpans tables.items) }
-        ensures sorted { IfOk result (λ tables.
-            All (λ table. AreSorted proto_key (numbers_in table)) tables.items) }
-        ensures rows { IfOk result (λ tables.
-            AreTablesOf self.now.parts.now self.now.strings.now self.now.types.now tables.items) }
-    {
-        sorted_law::<ProtoRow<'_>>();
-        let mut tables = Vec::with_capacity(self.alloc, self.parts.len())?;
-        for (i, part) in self.parts.iter().enumerate() {
-            let part = part.tables();
-            let rows = Vec::from_slice(self.alloc, &part.protos)?;
-            tables.push(renumbered_protos(rows, &part.parameters, self.places(i, &[]))?)?;
-        }
-        Ok(tables)
     }
 
     // The fields of all parts, by the joined texts and types.

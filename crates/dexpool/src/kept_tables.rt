@@ -6,7 +6,7 @@ ghost use Rattle.dexpool.specs.declared.numbering.Tables.{Tables};
 ghost use Rattle.dexpool.specs.Cut.{kept};
 ghost use Rattle.dexpool.specs.Numberings.{AreMarksOf, marked, AllMapTo};
 ghost use Rattle.dexpool.specs.Stored.{symbols_in, AreTables};
-ghost use Rattle.dexpool.specs.internal.Closing.{AreClosed, AreMarkedRows, AreKept, kept_places};
+ghost use Rattle.dexpool.specs.internal.Closing.{AreClosed, AreMarkedRows, AreKept};
 ghost use Rattle.dexspec.specs.Mentions.{closed};
 ghost use Rattle.dexpool.specs.Orderly.{MapsDown};
 ghost use Rattle.dexpool.specs.Uses.{MapsMarked};
@@ -127,7 +127,13 @@ pub(crate) fn renumbered<'a>(
     sorted_law::<ProtoRow<'_>>();
     sorted_law::<FieldRow>();
     sorted_law::<MethodRow>();
-    let remap = kept_remap(alloc, marks)?;
+    let remap = Remap {
+        strings: Images::places(alloc, &marks.strings)?,
+        types: Images::places(alloc, &marks.types)?,
+        protos: Images::places(alloc, &marks.protos)?,
+        fields: Images::places(alloc, &marks.fields)?,
+        methods: Images::places(alloc, &marks.methods)?,
+    };
     let lower = LowerPlaces {
         strings: remap.strings.numbers(),
         types: remap.types.numbers(),
@@ -143,19 +149,6 @@ pub(crate) fn renumbered<'a>(
         methods: renumbered_rows(rows.methods, lower),
     };
     Ok((kept, remap))
-}
-
-// Where each number leads.
-fn kept_remap(alloc: Global, marks: Marks) -> Result<Remap, AllocError>
-    ensures { IfOk result (λ remap. remap ≡ kept_places marks) }
-{
-    Ok(Remap {
-        strings: Images::places(alloc, &marks.strings)?,
-        types: Images::places(alloc, &marks.types)?,
-        protos: Images::places(alloc, &marks.protos)?,
-        fields: Images::places(alloc, &marks.fields)?,
-        methods: Images::places(alloc, &marks.methods)?,
-    })
 }
 
 // The rows that are marked, moved to the places before the others of their table.

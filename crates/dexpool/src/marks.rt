@@ -1,6 +1,6 @@
 //! Marks on the symbols of a numbering.
 
-ghost use Rattle.std.specs.Prelude.{◌≡◌, ◌↔◌, ◌∷◌, All, IfOk, IsTrue, [], false, replicate};
+ghost use Rattle.std.specs.Prelude.{◌≡◌, ◌↔◌, ◌∷◌, All, IfOk, IsTrue, []};
 ghost use Rattle.dexpool.specs.Numberings.{AreMarksOf, marked};
 ghost use Rattle.dexpool.specs.Uses.{HasMark, AreMarkedToo};
 ghost use Rattle.dexpool.specs.internal.Marking.{HaveAllMarks};

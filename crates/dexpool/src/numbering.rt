@@ -1,9 +1,8 @@
 //! Numberings: symbols, each with the number of its place in the order of its kind. A numbering has five tables, each
 //! sorted, whose rows are numbers of rows below them.
 
-ghost use Rattle.std.specs.Prelude.{◌≡◌, ◌<◌, ◌^◌, ◌-◌, ℕ, List, length, slice_index_or, min, sum_by, IfOk, []};
-ghost use Rattle.dexspec.specs.Weight.{mentions_weight, text_weight};
-ghost use Rattle.dexpool.specs.internal.Weights.{entry_weight};
+ghost use Rattle.std.specs.Prelude.{◌≡◌, ◌<◌, ◌^◌, ◌-◌, ℕ, List, length, slice_index_or, min, IfOk, []};
+ghost use Rattle.dexspec.specs.Weight.{mentions_weight};
 ghost use Rattle.dexspec.specs.Symbols.{Proto, Field, Method};
 ghost use Rattle.dexpool.specs.Pools.{count_of};
 ghost use Rattle.dexpool.specs.Numberings.{IsAt, IsNumbering, DenotesProto, DenotesField, DenotesMethod};

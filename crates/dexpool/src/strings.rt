@@ -1,9 +1,9 @@
 //! The pool of texts.
 
-ghost use Rattle.std.specs.Prelude.{◌≡◌, ◌<◌, MatchOption, IfOk};
-ghost use Rattle.dexspec.specs.Header.{StringIds, table_size};
+ghost use Rattle.std.specs.Prelude.{◌≡◌};
+ghost use Rattle.dexspec.specs.Header.{StringIds};
 ghost use Rattle.dexspec.specs.Texts.{text_cmp};
-ghost use Rattle.dexspec.specs.Rows.{StringRow, HasString};
+ghost use Rattle.dexspec.specs.Rows.{StringRow};
 
 use crate::reading::TableReader;
 use dexhead::{Condition, Frame, Table, u32_at};

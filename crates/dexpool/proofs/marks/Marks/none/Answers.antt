@@ -4,11 +4,11 @@ use Rattle.dexpool.proofs.marks.Marks.none.Goals as goal
 
 pub returns-clause-marks : goal.returns-clause-marks
 returns-clause-marks c = record {
-  strings_count = ap (λ (l : List Bool). length l) (c.in_ok-vec.ensures.items_if_clones_equal (λ y e. e)) ∙ length-replicate c.count.result false ∙ c.count.ensures;
-  types_count = ap (λ (l : List Bool). length l) (c.in_ok-vec-2.ensures.items_if_clones_equal (λ y e. e)) ∙ length-replicate c.count-2.result false ∙ c.count-2.ensures;
-  protos_count = ap (λ (l : List Bool). length l) (c.in_ok-vec-3.ensures.items_if_clones_equal (λ y e. e)) ∙ length-replicate c.count-3.result false ∙ c.count-3.ensures;
-  fields_count = ap (λ (l : List Bool). length l) (c.in_ok-vec-4.ensures.items_if_clones_equal (λ y e. e)) ∙ length-replicate c.count-4.result false ∙ c.count-4.ensures;
-  methods_count = ap (λ (l : List Bool). length l) (c.in_ok-vec-5.ensures.items_if_clones_equal (λ y e. e)) ∙ length-replicate c.count-5.result false ∙ c.count-5.ensures;
+  strings_count = ap (λ (l : List Bool). length l) (c.in_ok-vec.ensures.items_if_clones_equal (λ y e. e)) ∙ length-replicate c.count.result _ ∙ c.count.ensures;
+  types_count = ap (λ (l : List Bool). length l) (c.in_ok-vec-2.ensures.items_if_clones_equal (λ y e. e)) ∙ length-replicate c.count-2.result _ ∙ c.count-2.ensures;
+  protos_count = ap (λ (l : List Bool). length l) (c.in_ok-vec-3.ensures.items_if_clones_equal (λ y e. e)) ∙ length-replicate c.count-3.result _ ∙ c.count-3.ensures;
+  fields_count = ap (λ (l : List Bool). length l) (c.in_ok-vec-4.ensures.items_if_clones_equal (λ y e. e)) ∙ length-replicate c.count-4.result _ ∙ c.count-4.ensures;
+  methods_count = ap (λ (l : List Bool). length l) (c.in_ok-vec-5.ensures.items_if_clones_equal (λ y e. e)) ∙ length-replicate c.count-5.result _ ∙ c.count-5.ensures;
 }
 
 pub returns-clause-none : goal.returns-clause-none

@@ -1,8 +1,5 @@
 -- Numbers and operations that are read.
-use Rattle.dexdebug.proofs.Common.{◌≡◌, ℕ, ◌≤◌, List, Option, Some, refl, ap, sym, subst, ◌∙◌, ℤ, pos, Result, Ok, le-ltb, Uleb128At, Operation, AdvancePc, AdvanceLine, StartLocal, StartLocalExtended, EndLocal, RestartLocal, SetPrologueEnd, SetEpilogueBegin, SetFile, Special, Counts, name_of, type_of, signature_of, IndexAt, LocalAt, ExtendedAt, OperandsAt, operation_of}
-
-pub some_of : {A E : Type 0} (x y : A) → ◌≡◌ {A = Result A E} (Ok x) (Ok y) → Some x ≡ Some y
-some_of {A} {E} x y e = let same : x ≡ y = cc in ap Some same
+use Rattle.dexdebug.proofs.Common.{◌≡◌, ℕ, ◌≤◌, List, Option, Some, refl, ap, sym, subst, ◌∙◌, ℤ, pos, le-ltb, Uleb128At, Operation, AdvancePc, AdvanceLine, StartLocal, StartLocalExtended, EndLocal, RestartLocal, SetPrologueEnd, SetEpilogueBegin, SetFile, Special, Counts, name_of, type_of, signature_of, IndexAt, LocalAt, ExtendedAt, OperandsAt, operation_of}
 
 pub some_parts : {A B : Type 0} (x y : A × B) → Some x ≡ Some y → (x.0 ≡ y.0) × (x.1 ≡ y.1)
 some_parts x y e = let same : x ≡ y = cc in (ap (λ p. p.0) same, ap (λ p. p.1) same)

@@ -25,10 +25,7 @@ module _ (P : Use → Type 0) (op : Operation) (h : All P (operation_uses op)) w
 -- ---- other numbers
 
 -- the image of a number is small
-pub place_fits : (r : Maps) (kind : SymbolKind) (i : Option ℕ) (n j : ℕ) → All (HasPlace r) (number_uses kind i) → i ≡ Some n → image_of r kind n ≡ Some j → j + 1 < 2 ^ 32
-place_fits r kind i n j all e image = let place = use_of (HasPlace r) kind i n all e in let same : place.0 ≡ j = cc (place.1, image) in omega (arith, place.2, same)
-
-image_fits : (r : Maps) (kind : SymbolKind) (i : Option ℕ) → All (HasPlace r) (number_uses kind i) → FitsIndex (image_or_none r kind i)
+pub image_fits : (r : Maps) (kind : SymbolKind) (i : Option ℕ) → All (HasPlace r) (number_uses kind i) → FitsIndex (image_or_none r kind i)
 image_fits r kind None all = omega arith
 image_fits r kind (Some n) all = let place = use_of (HasPlace r) kind (Some n) n all refl in subst FitsIndex (sym place.1) place.2
 

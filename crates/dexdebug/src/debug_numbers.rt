@@ -1,34 +1,18 @@
 //! Numbers of symbols in debug programs, and what becomes of them.
 
-ghost use Rattle.std.specs.Prelude.{◌≡◌, ◌<◌, ◌≤◌, ◌*◌, ◌^◌, All, length, sum_by};
+ghost use Rattle.std.specs.Prelude.{◌≡◌, All};
 ghost use Rattle.dexspec.specs.Weight.{debug_weight};
 ghost use Rattle.dexpool.specs.Uses.{HasMark, AreMarkedToo};
-ghost use Rattle.dexdebug.specs.Debug.{unindexed, number_uses, debug_uses, HasPlace, FitsIndex, IsFormedDebug, image_or_none, operation_weight, renumbered_debug};
+ghost use Rattle.dexdebug.specs.Debug.{unindexed, debug_uses, HasPlace, IsFormedDebug, image_or_none, renumbered_debug};
 
 use crate::debug::Debug;
-use crate::operations::OperationIter;
 use dexpool::{Marks, Remap, SymbolKind, Symbols, Visitor, mark, renumber_all, visit_all};
 
-// Returns the image of a number, if there is a number.
-pub(crate) fn renumbered(remap: &Remap, kind: SymbolKind, number: Option<u32>) -> Option<u32>
-    requires { All (HasPlace remap.now) (number_uses kind number) }
-    ensures image { result ≡ image_or_none remap.now kind number }
-    ensures fits { FitsIndex result }
+// Returns the image of a number, if it has one.
+pub(crate) fn image(remap: &Remap, kind: SymbolKind, number: Option<u32>) -> Option<usize>
+    ensures { result ≡ image_or_none remap.now kind number }
 {
-    let number = number?;
-    let image = remap.image(kind, number as usize)?;
-    Some(image as u32)
-}
-
-// Returns what operations weigh.
-fn operations_weight(operations: OperationIter<'_>) -> u64
-    requires { length operations < 2 ^ 30 }
-    ensures sum { result ≡ sum_by operation_weight operations.entry }
-    ensures bound { result ≤ 21 * length operations.entry }
-{
-    operations
-        .map(|operation| 1 + 5 * operation.operands())
-        .sum()
+    remap.image(kind, number? as usize)
 }
 
 impl Symbols for Debug<'_> {
@@ -44,7 +28,12 @@ impl<'a> Debug<'a> {
     pub fn weight(&self) -> u64
         ensures { result ≡ debug_weight (unindexed self.now) }
     {
-        11 + 5 * u64::from(self.names) + operations_weight(self.operations())
+        let names = u64::from(self.names);
+        let operations: u64 = self
+            .operations()
+            .map(|operation| 1 + 5 * operation.operands())
+            .sum();
+        11 + 5 * names + operations
     }
 
     /// Each number is below 2^32 - 1, and there are less than 2^32 names and less than 2^30 operations. The call does

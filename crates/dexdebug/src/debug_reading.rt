@@ -104,10 +104,8 @@ impl<'b> DebugReader<'b> {
         ensures within { IfSome result (λ read. at + read.1 ≤ length self.now.bytes.now) }
         ensures only { (i : Option ℕ) (n : ℕ) → IndexAt count self.now.bytes.now at i n → result ≡ Some (i, n) }
     {
-        match read_p1(self.bytes, at) {
-            Ok((number, len)) => is_below(number, count).then_some((number, len)),
-            Err(_) => None,
-        }
+        let (number, len) = read_p1(self.bytes, at).ok()?;
+        is_below(number, count).then_some((number, len))
     }
 
     // The description of a local variable at an offset: its register, the numbers of its name and its type, and how many

@@ -7,16 +7,10 @@ ghost use Rattle.dexdebug.specs.internal.Same.{SameRemapped, image_key};
 
 use crate::debug::Debug;
 use crate::debug_laws::operation_equality_law;
+use crate::debug_numbers::image;
 use crate::debug_operation::Operation;
 use crate::operations::{NameIter, OperationIter};
 use dexpool::{Remap, SymbolKind};
-
-// Returns the image of a number, if it has one.
-fn image(remap: &Remap, kind: SymbolKind, number: Option<u32>) -> Option<usize>
-    ensures { result ≡ image_or_none remap.now kind number }
-{
-    remap.image(kind, number? as usize)
-}
 
 // An operation without the numbers of symbols, and their images.
 type ImageKey = (Operation, Option<usize>, Option<usize>, Option<usize>);

@@ -4,7 +4,7 @@ ghost use Rattle.std.specs.Prelude.{◌≡◌, All};
 ghost use Rattle.dexdebug.specs.Debug.{FitsIndex, HasPlace, number_uses};
 ghost use Rattle.dexdebug.specs.Operations.{renumbered_index};
 
-use crate::debug_numbers::renumbered;
+use crate::debug_numbers::image;
 use dexpool::{Remap, Renumber, SymbolKind, Symbols, Visitor};
 use std::marker::Model;
 
@@ -84,6 +84,8 @@ impl Renumber for Index {
     ghost remapped = { renumbered_index };
 
     fn renumber(&mut self, remap: &Remap) {
-        self.number = OptionalNumber::new(renumbered(remap, self.kind, self.number.get()));
+        if let Some(image) = image(remap, self.kind, self.number.get()) {
+            self.number = OptionalNumber::new(Some(image as u32));
+        }
     }
 }

@@ -4,7 +4,7 @@ ghost use Rattle.std.specs.Prelude.{◌≡◌, ◌↔◌, ◌≤◌, ◌*◌, Is
 ghost use Rattle.std.specs.List.{AllZip};
 ghost use Rattle.dexinsn.specs.Units.{units_in};
 ghost use Rattle.dexinsn.specs.Numbered.{renumbered, renumbered_piece};
-ghost use Rattle.dexinsn.specs.Stored.{AreStored, IsIndexed, Follow, parts_in, pieces_with};
+ghost use Rattle.dexinsn.specs.Stored.{IsIndexed, Follow};
 ghost use Rattle.dexinsn.specs.internal.Same.{Agree, AgreeBeside, AreEqualMapped};
 
 use crate::code_units::{Units, unit_bytes};
@@ -41,66 +41,55 @@ fn agree_beside(bytes: &[u8], others: &[u8], indices: &[Index]) -> bool
     agree(bytes, others, from, units.len())
 }
 
-// The units and the indices of pieces, with the map by which the numbers of the indices are remapped.
-#[derive(Clone, Copy)]
-struct RemappedPieces<'s> {
-    bytes: &'s [u8],
-    indices: &'s [Index],
-    remap: &'s Remap,
+// Returns whether both indices are at one unit and have one image, or neither has one.
+fn eq_index(units: &Units<'_>, index: Index, mine: &Remap, other: Index, theirs: &Remap) -> bool
+    requires { IsIndexed units.now index }
+    ensures { IsTrue result ↔ AreEqualMapped mine.now theirs.now units.now index other }
+{
+    let kind = index_kind_at(units, index.unit as usize);
+    index.unit == other.unit
+        && mine.image(kind, index.number as usize) == theirs.image(kind, other.number as usize)
 }
 
-impl RemappedPieces<'_> {
-    // Returns whether both indices are at one unit and have one image, or neither has one.
-    fn eq_index(&self, units: &Units<'_>, index: Index, other: Index, theirs: &Remap) -> bool
-        requires { IsIndexed units.now index }
-        ensures { IsTrue result
-            ↔ AreEqualMapped self.now.remap.now theirs.now units.now index other }
-    {
-        let kind = index_kind_at(units, index.unit as usize);
-        index.unit == other.unit
-            && self.remap.image(kind, index.number as usize)
-                == theirs.image(kind, other.number as usize)
+// Returns whether the indices are at the same units, which these are, and have the same images.
+fn eq_indices(
+    units: &Units<'_>,
+    indices: &[Index],
+    mine: &Remap,
+    others: &[Index],
+    theirs: &Remap,
+) -> bool
+    requires { All (IsIndexed units.now) indices.now }
+    ensures { IsTrue result
+        ↔ AllZip (AreEqualMapped mine.now theirs.now units.now) indices.now others.now }
+{
+    if indices.len() != others.len() {
+        return false;
     }
-
-    // Returns whether the indices are at the same units, which these are, and have the same images.
-    fn eq_indices(&self, units: &Units<'_>, other: &RemappedPieces<'_>) -> bool
-        requires { All (IsIndexed units.now) self.now.indices.now }
-        ensures { IsTrue result
-            ↔ AllZip (AreEqualMapped self.now.remap.now other.now.remap.now units.now)
-            self.now.indices.now other.now.indices.now }
-    {
-        if self.indices.len() != other.indices.len() {
+    for (i, index) in indices.iter().enumerate() {
+        if !eq_index(units, *index, mine, others[i], theirs) {
             return false;
         }
-        for (i, index) in self.indices.iter().enumerate() {
-            if !self.eq_index(units, *index, other.indices[i], other.remap) {
-                return false;
-            }
-        }
-        true
     }
+    true
+}
 
+impl<'a> Pieces<'a> {
     // Returns whether the pieces are the same once remapped.
-    fn eq_pieces(&self, other: &RemappedPieces<'_>) -> bool
-        requires stored { AreStored (units_in self.now.bytes.now) self.now.indices.now }
-        requires others { AreStored (units_in other.now.bytes.now) other.now.indices.now }
-        ensures { IsTrue result ↔ (map (renumbered_piece self.now.remap.now) (pieces_with
-            (parts_in (units_in self.now.bytes.now)) self.now.indices.now)
-            ≡ map (renumbered_piece other.now.remap.now)
-            (pieces_with (parts_in (units_in other.now.bytes.now)) other.now.indices.now)) }
+    fn eq_pieces(&self, mine: &Remap, other: &Pieces<'_>, theirs: &Remap) -> bool
+        ensures { IsTrue result ↔ (map (renumbered_piece mine.now) self.now.pieces
+            ≡ map (renumbered_piece theirs.now) other.now.pieces) }
     {
         let units = Units::of_bytes(self.bytes);
         if units.len() != Units::of_bytes(other.bytes).len() {
             return false;
         }
-        if !agree_beside(self.bytes, other.bytes, self.indices) {
+        if !agree_beside(self.bytes, other.bytes, &self.indices) {
             return false;
         }
-        self.eq_indices(&units, other)
+        eq_indices(&units, &self.indices, mine, &other.indices, theirs)
     }
-}
 
-impl<'a> Pieces<'a> {
     /// Returns whether these and other pieces are the same, and the three numbers of registers too, after each is
     /// mapped by its own map. Numbers without images count as the same.
     ///
@@ -108,19 +97,9 @@ impl<'a> Pieces<'a> {
     pub fn same_mapped(&self, mine: &Remap, other: &Pieces<'_>, theirs: &Remap) -> bool
         ensures { IsTrue result ↔ (renumbered mine.now self.now ≡ renumbered theirs.now other.now) }
     {
-        let own = RemappedPieces {
-            bytes: self.bytes,
-            indices: &self.indices,
-            remap: mine,
-        };
-        let others = RemappedPieces {
-            bytes: other.bytes,
-            indices: &other.indices,
-            remap: theirs,
-        };
         self.registers == other.registers
             && self.ins == other.ins
             && self.outs == other.outs
-            && own.eq_pieces(&others)
+            && self.eq_pieces(mine, other, theirs)
     }
 }

@@ -18,7 +18,7 @@ pub(crate) struct Index {
 /// stored beside them. Contracts see three numbers, and pieces with a number for each symbol.
 ///
 /// Source: "code_item"; the Android page "Dalvik bytecode".
-#[derive(Drop)]
+#[derive(Clone, Drop)]
 pub struct Pieces<'a> {
     pub(crate) registers: u16,
     pub(crate) ins: u16,

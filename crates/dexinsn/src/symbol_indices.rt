@@ -13,18 +13,6 @@ use crate::pieces::{Index, Pieces};
 use dexpool::{Marks, Remap, SymbolKind, Symbols, Visitor, mark};
 use std::alloc::AllocError;
 
-// The index with the number that its number maps to.
-fn renumbered_index(units: &Units<'_>, index: Index, remap: &Remap) -> Index
-    requires indexed { IsIndexed units.now index }
-    requires place { HasPlaceAt remap.now units.now index }
-    ensures { result ≡ renumbered_index remap.now units.now index }
-{
-    let kind = index_kind_at(units, index.unit as usize);
-    let image = remap.image(kind, index.number as usize);
-    let number = image.unwrap_or(0) as u32;
-    Index { number, ..index }
-}
-
 // Replaces each number by the one that it maps to.
 fn renumber_indices(units: &Units<'_>, indices: &mut Vec<Index>, remap: &Remap)
     requires indexed { All (IsIndexed units.now) indices.old.items }
@@ -32,7 +20,11 @@ fn renumber_indices(units: &Units<'_>, indices: &mut Vec<Index>, remap: &Remap)
     ensures { indices.new.items ≡ map (renumbered_index remap.now units.now) indices.old.items }
 {
     for i in 0..indices.len() {
-        indices[i] = renumbered_index(units, indices[i], remap);
+        let index = indices[i];
+        let kind = index_kind_at(units, index.unit as usize);
+        let image = remap.image(kind, index.number as usize);
+        let number = image.unwrap_or(0) as u32;
+        indices[i] = Index { number, ..index };
     }
 }
 
@@ -172,8 +164,7 @@ impl<'a> Pieces<'a> {
     pub fn copy(&self) -> Result<Pieces<'a>, AllocError>
         ensures { IfOk result (λ copy. copy ≡ self.now) }
     {
-        let indices = Vec::from_slice(*self.indices.allocator(), &self.indices)?;
-        Ok(Pieces { indices, ..*self })
+        self.clone()
     }
 
     /// How many symbols occur, each as often as it does.

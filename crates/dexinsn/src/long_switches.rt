@@ -83,9 +83,6 @@ impl LongSwitches {
             return Ok(());
         }
         let sorted = targets.sorted(alloc, units)?;
-        if sorted.is_empty() {
-            return Ok(());
-        }
         let grouped = group_targets(alloc, &sorted)?;
         self.groups.insert(unit, grouped)?;
         Ok(())

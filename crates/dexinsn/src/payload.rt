@@ -13,9 +13,9 @@ use crate::code_units::{Units, int_at};
 /// "fill-array-data-payload format" of the Android page "Dalvik bytecode".
 #[derive(Clone, Copy, Debug, PartialEq, Eq)]
 pub enum PayloadKind {
-    PackedSwitch,
-    SparseSwitch,
-    ArrayData,
+    PackedSwitch = 0x0100,
+    SparseSwitch = 0x0200,
+    ArrayData = 0x0300,
 }
 
 impl PayloadKind {
@@ -35,11 +35,7 @@ impl PayloadKind {
     pub fn ident(self) -> u16
         ensures { result ≡ ident_of self }
     {
-        match self {
-            PayloadKind::PackedSwitch => 0x0100,
-            PayloadKind::SparseSwitch => 0x0200,
-            PayloadKind::ArrayData => 0x0300,
-        }
+        self as u16
     }
 
     /// The kind of payload that an instruction of the format 31t refers to.

@@ -4,7 +4,7 @@ ghost use Rattle.std.specs.Prelude.{◌≡◌, ◌^◌, ◌<◌, ◌≤◌, [], 
 ghost use Rattle.dexspec.specs.Pieces.{piece_size};
 ghost use Rattle.dexspec.specs.Mentions.{Mentions};
 ghost use Rattle.dexinsn.specs.Opcode.{IsPlainRow, kind_of_index};
-ghost use Rattle.dexinsn.specs.Checking.{AreBitsOf, AreLimits, HasNoCode, HasNoStep, IsStep, begins_instruction, count_of_index, is_noted, limit_of, slot_of};
+ghost use Rattle.dexinsn.specs.Checking.{AreBitsOf, AreLimits, HasNoCode, HasNoStep, IsStep, begins_instruction, count_of_index, is_noted, limit_of};
 ghost use Rattle.dexinsn.specs.internal.Checking.{ArePassedWhole};
 
 use crate::checking::{index_count, is_noted};
@@ -47,15 +47,6 @@ pub(crate) struct Step {
 #[derive(Clone, Copy)]
 pub(crate) struct Limits([usize; 6]);
 
-// Returns the place of the limit of an index.
-#[inline(always)]
-fn slot_of(index: IndexKind) -> usize
-    ensures slot { result ≡ slot_of (kind_of_index index) }
-    ensures within { result < 6 }
-{
-    index as usize
-}
-
 // Returns the number of indices: one or none.
 #[inline(always)]
 fn count_of_index(index: IndexKind) -> usize
@@ -88,7 +79,7 @@ impl Limits {
         ensures { (m : Mentions) → AreLimits m self.now
             → result ≡ limit_of m (kind_of_index index) }
     {
-        self.0[slot_of(index)]
+        self.0[index as usize]
     }
 }
 

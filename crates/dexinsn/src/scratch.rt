@@ -76,6 +76,5 @@ pub(crate) fn wipe(words: &mut Vec<u64>, count: usize) -> Result<(), AllocError>
     ensures { OnOk result (words.new.items ≡ replicate count 0) }
 {
     words.clear();
-    words.resize(count, 0)?;
-    Ok(())
+    words.resize(count, 0)
 }

@@ -1,4 +1,5 @@
-use Rattle.dexinsn.proofs.Common.{◌≡◌, ℕ, Some, sym, subst, ◌∙◌, inl, inr, ne_eqb, nat_eq, Vec, Global, List, ℤ, cases_eq, ints_in, payload_targets, AreGrouped, TargetGroup}
+use Rattle.dexinsn.proofs.Common.{◌≡◌, ℕ, zero, suc, ◌+◌, length, refl, ap, arith, Some, sym, subst, ◌∙◌, inl, inr, ne_eqb, nat_eq, Vec, Global, List, ℤ, cases_eq, ints_in, payload_targets, AreGrouped, TargetGroup}
+use Rattle.std.proofs.lemmas.List.Sorted.{length_permutation}
 use Rattle.std.specs.HashMap.{get}
 use Rattle.dexinsn.proofs.IndexRoom.{size_is, piece_within}
 use Rattle.dexinsn.proofs.TargetGroups.{sorted_grouped}
@@ -9,6 +10,16 @@ one_value a b e = cc
 
 pub at-requires : goal.at-requires
 at-requires c = let size = size_is _ c.requires.piece in piece_within c.args.units.now c.args.unit size.0 size.1
+
+-- there are as many targets as are read
+as_many : (us : List ℕ) (first count : ℕ) → length (ints_in us first count) ≡ count
+as_many us first zero = refl
+as_many us first (suc count) = ap suc (as_many us (first + 2) count)
+
+pub group_targets-requires : goal.group_targets-requires
+group_targets-requires c =
+    let t = c.in-Some-targets_at.targets in
+    omega (arith, ap (λ (zs : List ℤ). length zs) c.deref.ensures.value, length_permutation (ints_in c.args.units.now t.first t.count) c.in_ok-sorted.sorted.items c.in_ok-sorted.ensures, as_many c.args.units.now t.first t.count, c.if-targets-le-FEW_TARGETS.false)
 
 pub returns : goal.returns
 returns c = λ k groups e.

@@ -1,5 +1,5 @@
 -- Tries and the list of the handlers that they name.
-use Rattle.dexcode.proofs.Common.{◌≡◌, ℕ, ◌+◌, ◌<◌, Bool, List, [], ◌∷◌, ◌++◌, length, map, get_or, All, Option, None, refl, ap, sym, ◌∙◌, subst, inl, inr, take, if◌then◌else◌, arith, unwrap_or, Contains, cases_eq, length-append, get_or_append_left, map-append, map_more, Contains-get_or, All-nil, All-head, All-tail, All-push, All-weaker, insert_key, distinct, insert_grows, distinct_more, Try, NumberedHandler, NumberedTry, IsFormedHandler, no_handler, named, all_named, handlers_of, same_handler, handler_decides, handler_equiv, HandlerAt, AreKnown, IsHandlerAt, IsPutAt}
+use Rattle.dexcode.proofs.Common.{◌≡◌, ℕ, ◌+◌, ◌<◌, arith, drop, drop-drop, drop-set-lt, get_or-drop, set, Bool, List, [], ◌∷◌, ◌++◌, length, map, get_or, All, Option, None, refl, ap, sym, ◌∙◌, subst, inl, inr, take, if◌then◌else◌, unwrap_or, Contains, cases_eq, length-append, get_or_append_left, map-append, map_more, Contains-get_or, All-nil, All-head, All-tail, All-push, All-weaker, insert_key, distinct, insert_grows, distinct_more, Try, NumberedHandler, NumberedTry, IsFormedHandler, no_handler, named, all_named, handlers_of, same_handler, handler_decides, handler_equiv, HandlerAt, AreKnown, IsHandlerAt, IsPutAt}
 use Rattle.std.proofs.lemmas.Map.Views.{list_any-from_Contains}
 use Rattle.dexcode.proofs.Listed.{no_number}
 use Rattle.dexcode.proofs.HandlersRead.{one_handler}
@@ -74,3 +74,13 @@ none_named starts types b list listed hs numbers numbered tries e n m t = record
   within = subst (All (λ x. x.handler < length hs)) (sym m) (All-nil (λ (x : Try). x.handler < length hs));
   formed = subst (All IsFormedHandler) (sym e) (All-nil IsFormedHandler);
 }
+
+-- a try that has not got its number yet is as it was
+pub next_try : (new old : List Try) (i : ℕ) (d : Try) → drop i new ≡ drop i old → get_or new i d ≡ get_or old i d
+next_try new old i d e =
+    let z : i + 0 ≡ i = omega arith in
+    ap (λ (k : ℕ). get_or new k d) (sym z) ∙ sym (get_or-drop i new 0 d) ∙ ap (λ ts. get_or ts 0 d) e ∙ get_or-drop i old 0 d ∙ ap (λ (k : ℕ). get_or old k d) z
+
+-- and so are those after it
+pub tries_after : (new old : List Try) (i : ℕ) (t : Try) → drop i new ≡ drop i old → drop (i + 1) (set new i t) ≡ drop (i + 1) old
+tries_after new old i t e = let more : i < i + 1 = omega arith in drop-set-lt (i + 1) new i t more ∙ sym (drop-drop 1 i new) ∙ ap (drop 1) e ∙ drop-drop 1 i old

@@ -1,17 +1,15 @@
 //! The lengths and the weights of code items.
 
-ghost use Rattle.std.specs.Prelude.{◌≡◌, ◌+◌, ◌*◌, ◌^◌, ◌<◌, ◌≤◌, ℕ, length};
-ghost use Rattle.dexspec.specs.Code.{most_handlers};
+ghost use Rattle.std.specs.Prelude.{◌≡◌, ◌+◌, ◌*◌, ◌^◌, ◌<◌, ℕ, length};
 ghost use Rattle.dexcode.specs.CodePut.{handler_count, numbered_code_bytes, unit_count, IsCodeLen, numbered_code_weight, numbered_tries_weight};
-ghost use Rattle.dexcode.specs.Numbered.{handlers_weight, ForDenoted};
+ghost use Rattle.dexcode.specs.Numbered.{ForDenoted};
 ghost use Rattle.dexcode.specs.internal.Writing.{IsPlacedLen};
-ghost use Rattle.dexspec.specs.Code as symbolic;
 ghost use Rattle.dexspec.specs.Weight.{code_weight};
 
 use crate::code::Code;
 use crate::code_laws::{code_bytes_law, code_weight_law};
 use crate::code_put::encode_list;
-use crate::handlers::Handler;
+use crate::handlers::{Handler, handlers_weight};
 use crate::tries::Tries;
 use dexhead::Count;
 use dexinsn::Pieces;
@@ -64,18 +62,6 @@ impl<'a> Code<'a> {
     }
 }
 
-// Returns the weight of the handlers.
-fn handlers_weight(handlers: &[Handler]) -> u64
-    requires { handlers_weight handlers.now ≤ symbolic.most_handlers }
-    ensures { result ≡ handlers_weight handlers.now }
-{
-    let mut weight = 5;
-    for handler in handlers {
-        weight += 10 + 8 * handler.catches().len() as u64;
-    }
-    weight
-}
-
 // Returns the weight of the tries.
 pub(crate) fn tries_weight(tries: &Tries<'_>) -> u64
     ensures weight { result ≡ numbered_tries_weight tries.now }
@@ -85,7 +71,7 @@ pub(crate) fn tries_weight(tries: &Tries<'_>) -> u64
     if items.is_empty() {
         return 0;
     }
-    8 * items.len() as u64 + handlers_weight(handlers)
+    8 * items.len() as u64 + handlers_weight(handlers).unwrap()
 }
 
 impl<'a> Code<'a> {

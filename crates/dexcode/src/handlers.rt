@@ -1,12 +1,17 @@
 //! Handlers: what is caught, and where.
 
-ghost use Rattle.std.specs.Prelude.{◌≡◌};
+ghost use Rattle.std.specs.Prelude.{◌≡◌, ◌<◌, ◌≤◌, MatchOption};
+ghost use Rattle.dexspec.specs.Code.{most_handlers};
+ghost use Rattle.dexcode.specs.Numbered.{handlers_weight};
 ghost use Rattle.std.specs.Cmp.Rules.{comparing, hashing};
 ghost use Rattle.std.specs.Hash as fed;
 ghost use Rattle.std.proofs.Common.{rules};
 
 use std::hash::{Hash, Hasher};
 use std::marker::Model;
+
+// The most that the handlers of a code_item may weigh.
+const MOST_HANDLERS: usize = 65_535;
 
 /// A type that is caught, and the address of the code for it.
 ///
@@ -119,4 +124,19 @@ impl Handler {
     {
         self.catch_all_addr
     }
+}
+
+// Returns the weight of the handlers, if they weigh no more than they may.
+pub(crate) fn handlers_weight(handlers: &[Handler]) -> Option<u64>
+    ensures { MatchOption result (most_handlers < handlers_weight handlers.now) (λ weight.
+        (weight ≡ handlers_weight handlers.now) × (weight ≤ most_handlers)) }
+{
+    let mut weight = 5;
+    for handler in handlers {
+        weight += 10 + 8 * handler.catches.len().min(MOST_HANDLERS);
+        if weight > MOST_HANDLERS {
+            return None;
+        }
+    }
+    Some(weight as u64)
 }

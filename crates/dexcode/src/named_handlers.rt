@@ -10,8 +10,9 @@ use indexmap::IndexSet;
 use std::alloc::AllocError;
 
 // The number at a place, if there is one.
-fn number_at(numbers: &Vec<Option<usize>>, place: u16) -> Option<usize>
-    ensures { result ≡ slice_index_or numbers.now.items place None }
+#[inline(always)]
+pub(crate) fn number_at(numbers: &[Option<usize>], place: u16) -> Option<usize>
+    ensures { result ≡ slice_index_or numbers.now place None }
 {
     *numbers.get(usize::from(place))?
 }

@@ -1,18 +1,18 @@
 //! The reader of tries and their handlers.
 
-ghost use Rattle.std.specs.Prelude.{◌≡◌, ◌↔◌, ◌^◌, ◌<◌, ◌≤◌, ◌+◌, ◌*◌, ℕ, List, [], Option, Some, None, length, slice_index, slice_index_or, unwrap_or, IsTrue, IfOk, IfErr, IfSome, IfNone};
-ghost use Rattle.dexspec.specs.Code.{most_handlers};
+ghost use Rattle.std.specs.Prelude.{◌≡◌, ◌^◌, ◌<◌, ◌≤◌, ◌+◌, ◌*◌, ℕ, List, [], Option, Some, None, length, slice_index, unwrap_or, IfOk, IfErr, IfSome, IfNone};
 ghost use Rattle.dexspec.specs.Bytes.{uint_at};
 ghost use Rattle.dexspec.specs.Lists.{Sequence};
 ghost use Rattle.dexspec.specs.Numbers.{Uleb128At};
-ghost use Rattle.dexcode.specs.Numbered.{NumberedHandler, handlers_weight};
+ghost use Rattle.dexcode.specs.Numbered.{NumberedHandler};
 ghost use Rattle.dexcode.specs.Reading.{TriesAt, IsStart, CatchAt, CatchAllAt, ListedTryAt, TryItemsAt, IsNumberPut, IsTriesFault};
 ghost use Rattle.dexcode.specs.declared.handlers.Catch.{Catch as Caught};
 ghost use Rattle.dexcode.specs.declared.tries.Try.{Try as Meant};
 ghost use Rattle.dexcode.specs.internal.NamedHandlers.{HasHandler, HasList, HaveCatches, HaveListed, IsHandlerAt};
 ghost use Rattle.dexcode.specs.internal.TriesReading.{HasNoTries, HaveLightHandlers, IsFoundNamed, AreHeavy, AreTriesRead, NoCatches, NoHandlerAt, NoList, NoTries, NoTryItems};
 
-use crate::handlers::{Catch, Handler};
+use crate::handlers::{Catch, Handler, handlers_weight};
+use crate::named_handlers::number_at;
 use crate::stored_tries::StoredTries;
 use crate::tries::Try;
 use dexhead::{Condition, u16_at, u32_at};
@@ -42,7 +42,7 @@ fn are_bytes(bytes: &[u8])
 
 // The try at a place, where the handlers of the list are numbered by its bytes.
 #[inline(always)]
-fn read_try(bytes: &[u8], at: usize, units: u32, numbers: &[Option<u32>]) -> Option<Try>
+fn read_try(bytes: &[u8], at: usize, units: u32, numbers: &[Option<usize>]) -> Option<Try>
     requires { at + 8 ≤ length bytes.now }
     ensures some { IfSome result (λ t. ListedTryAt units numbers.now bytes.now at t 8) }
     ensures none { IfNone result ((t : Meant) (n : ℕ)
@@ -54,29 +54,12 @@ fn read_try(bytes: &[u8], at: usize, units: u32, numbers: &[Option<u32>]) -> Opt
     if insn_count == 0 || u64::from(units) < end {
         return None;
     }
-    let handler = handler_at(numbers, u16_at(bytes, at + 6))?;
+    let handler = number_at(numbers, u16_at(bytes, at + 6))?;
     Some(Try {
         start_addr,
         insn_count,
         handler,
     })
-}
-
-// The most that the handlers of a code_item may weigh.
-const MOST_HANDLERS: usize = 65_535;
-
-// Whether the handlers weigh no more than they may.
-fn are_light(handlers: &[Handler]) -> bool
-    ensures { IsTrue result ↔ (handlers_weight handlers.now ≤ most_handlers) }
-{
-    let mut weight = 5;
-    for handler in handlers {
-        weight += 10 + 8 * handler.catches.len().min(MOST_HANDLERS);
-        if weight > MOST_HANDLERS {
-            return false;
-        }
-    }
-    true
 }
 
 // The handlers of a set, in its order.
@@ -87,7 +70,7 @@ fn listed_in(alloc: Global, handlers: IndexSet<Handler>) -> Result<Vec<Handler>,
 }
 
 // Sets the number of a handler at its offset from the start of its list.
-fn put_number(numbers: &mut Vec<Option<u32>>, place: usize, number: u32) -> Result<(), AllocError>
+fn put_number(numbers: &mut Vec<Option<usize>>, place: usize, number: u32) -> Result<(), AllocError>
     requires { length numbers.old.items ≤ place }
     ensures { IfOk result (λ _. IsNumberPut place number numbers.old.items numbers.new.items) }
 {
@@ -95,16 +78,8 @@ fn put_number(numbers: &mut Vec<Option<u32>>, place: usize, number: u32) -> Resu
         return Ok(());
     }
     numbers.resize(place, None)?;
-    numbers.push(Some(number))?;
+    numbers.push(Some(number as usize))?;
     Ok(())
-}
-
-// Returns the number of the handler that begins `off` bytes after the start of its list.
-#[inline(always)]
-fn handler_at(numbers: &[Option<u32>], off: u16) -> Option<usize>
-    ensures { result ≡ slice_index_or numbers.now off None }
-{
-    numbers.get(usize::from(off))?.map(|number| number as usize)
 }
 
 impl TriesReader<'_, '_> {
@@ -148,35 +123,43 @@ impl TriesReader<'_, '_> {
         let list_at = at + size;
         let numbers = self.read_list(list_at)?;
         let items = self.read_try_items(at, count, units, &numbers)?;
-        self.named(at, list_at, &items)
+        self.named(at, list_at, items, numbers)
     }
 
     // Tries with the handlers that their try_items at a place name, or a refusal where these weigh more than they may. A
-    // handler that no try names is not kept.
-    fn named(&self, at: usize, list: usize, items: &[Try]) -> Result<StoredTries, ItemFault>
+    // handler that no try names is not kept. The tries have the numbers that the handlers have in their list, and are
+    // given those of the handlers that are kept. The memory of `numbers` is used again.
+    fn named(
+        &self,
+        at: usize,
+        list: usize,
+        mut tries: Vec<Try>,
+        mut numbers: Vec<Option<usize>>,
+    ) -> Result<StoredTries, ItemFault>
         requires listed { HaveListed self.now.starts.now self.now.types self.now.bytes.now at
-            list items.now }
-        requires room { at + 8 * length items.now ≤ length self.now.bytes.now }
-        requires few { length items.now < 2 ^ 16 }
+            list tries.items }
+        requires room { at + 8 * length tries.items ≤ length self.now.bytes.now }
+        requires few { length tries.items < 2 ^ 16 }
         ensures some { IsFoundNamed self.now.starts.now self.now.types self.now.bytes.now at
-            list items.now result }
+            list tries.items result }
         ensures light { IfOk result HaveLightHandlers }
         ensures heavy { IfErr result (IsTriesFault
-            (AreHeavy self.now.starts.now self.now.types self.now.bytes.now at list items.now)) }
+            (AreHeavy self.now.starts.now self.now.types self.now.bytes.now at list tries.items)) }
     {
-        let alloc = self.alloc;
-        let mut numbers = Vec::new(alloc);
-        let mut handlers = IndexSet::new(alloc);
-        let mut tries = Vec::with_capacity(alloc, items.len())?;
+        numbers.clear();
+        let mut handlers = IndexSet::new(self.alloc);
         let mut place = at;
-        for item in items {
+        for i in 0..tries.len() {
             let off = u16_at(self.bytes, place + 6);
             let handler = self.number_of(list, off, &mut handlers, &mut numbers)?;
-            tries.push(Try { handler, ..*item })?;
+            tries[i] = Try {
+                handler,
+                ..tries[i]
+            };
             place += 8;
         }
-        let handlers = listed_in(alloc, handlers)?;
-        if !are_light(&handlers) {
+        let handlers = listed_in(self.alloc, handlers)?;
+        if handlers_weight(&handlers).is_none() {
             return Err(ItemFault::Refused(Condition::Tries as u8));
         }
         Ok(StoredTries { tries, handlers })
@@ -188,7 +171,7 @@ impl TriesReader<'_, '_> {
         at: usize,
         count: u16,
         units: u32,
-        numbers: &[Option<u32>],
+        numbers: &[Option<usize>],
     ) -> Result<Vec<Try>, ItemFault>
         requires { at + 8 * count ≤ length self.now.bytes.now }
         ensures tries { IfOk result (λ tries.
@@ -215,7 +198,7 @@ impl TriesReader<'_, '_> {
 
     // Reads the list of handlers at `at`. Returns by the bytes of the list the number of the handler that begins
     // there. No handler is kept.
-    fn read_list(&self, at: usize) -> Result<Vec<Option<u32>>, ItemFault>
+    fn read_list(&self, at: usize) -> Result<Vec<Option<usize>>, ItemFault>
         requires { at ≤ length self.now.bytes.now }
         ensures list { IfOk result (λ numbers. HasList self.now.starts.now self.now.types
             self.now.bytes.now at numbers.items) }

@@ -1,11 +1,11 @@
-use Rattle.dexcode.proofs.Common.{◌≡◌, ◌+◌, ◌<◌, length, get_or, sym, ap, subst, ◌∙◌, arith, insert_key, insert_grows, same_handler, no_handler, handler_decides, IsHandlerAt}
+use Rattle.dexcode.proofs.Common.{ℕ, List, Option, None, ◌≡◌, ◌+◌, ◌<◌, length, get_or, sym, ap, subst, ◌∙◌, arith, insert_key, insert_grows, same_handler, no_handler, handler_decides, IsHandlerAt}
 use Rattle.std.proofs.lemmas.Option.{get_or_from_slice_get}
 use Rattle.dexcode.proofs.Named.{insert_there, known_more}
 use Rattle.dexcode.proofs.tries_reader.TriesReader.number_of.Goals as goal
 
 pub returns-in-Some : goal.returns-in-Some
 returns-in-Some c = λ h there known.
-    let at = known.each c.args.off c.in-Some.number (sym c.number_at.ensures ∙ c.in-Some.is) in
+    let at = known.each c.args.off c.in-Some.number (ap (λ (ns : List (Option ℕ)). get_or ns c.args.off None) (sym c.deref.ensures.value) ∙ sym c.number_at.ensures ∙ c.in-Some.is) in
     let is = at.1 h there in record { known = known; keys = sym (insert_there c.args.handlers.now.keys h no_handler c.in-Some.number at.0 is); number = at.0; is = is }
 
 pub build_handler-requires-clause-there : goal.build_handler-requires-clause-there

@@ -13,6 +13,7 @@ pub mod Images
 pub mod DirectoryCache
 pub mod Meant
 pub mod MethodLists
+pub mod MethodsRead
 pub mod MemberChains
 pub mod MembersUsed
 pub mod Named

@@ -3,7 +3,7 @@ use Rattle.dexmembers.proofs.Common.{◌≡◌, ℕ, ◌+◌, ◌-◌, ◌^◌, 
 use Rattle.dexmembers.specs.{NumberedMembers, members_in, AreKnownMembers, NumberedField, NumberedMethod, AreOrdered, members_weight, codes_weight, codes_of, MembersRow, AreReadWithin, IsMembersFault, IsMembersFaultWithin}
 use Rattle.dexmembers.specs.internal.ClassData.{IsDataOf, class_data_in}
 use Rattle.dexmembers.specs.internal.MethodCodes.{AreCodesAt}
-use Rattle.dexmembers.specs.internal.RowParts.{ArePartsOf, AreAttachable, IsPartFault, attached}
+use Rattle.dexmembers.specs.internal.RowParts.{ArePartsOf, HaveCodes, IsPartFault, attached}
 use Rattle.dexmembers.specs.internal.Weighed.{AreWithin, IsWeighedWithin}
 use Rattle.dexmembers.specs.declared.class_data.EncodedMethod.{EncodedMethod as MethodRead}
 use Rattle.dexmembers.specs.declared.class_data.ClassData.{ClassData as DataRead}
@@ -18,10 +18,9 @@ codes_many : (b : List ℕ) (m : Mentions) (xs : List MethodRead) (codes : List 
 codes_many b m xs codes symbolic at are_encoded = zip_length (BothOrNone (DenotesCode m)) codes symbolic are_encoded ∙ sym (zip_length _ xs symbolic at)
 
 module _ (b : List ℕ) (r : ℕ) (m : Mentions) (rising : AreRising m) (read : DataRead) (is : IsDataOf b r m read) (most : ℕ) (a : SharedDirectory) (direct virtual : List (Option NumberedItem)) (vs : NumberedValues) (parts : ArePartsOf b r m read most a direct virtual vs) where
-  -- the parts can be put together
-  pub parts_attachable : AreAttachable read a direct virtual
-  parts_attachable = record {
-    entered = parts.annotations.entered;
+  -- and so there is for each of a row
+  have_codes : HaveCodes read direct virtual
+  have_codes = record {
     direct_many = codes_many b m read.direct_methods.items direct parts.direct_codes.symbolic parts.direct_codes.at parts.direct_codes.are_encoded;
     virtual_many = codes_many b m read.virtual_methods.items virtual parts.virtual_codes.symbolic parts.virtual_codes.at parts.virtual_codes.are_encoded;
   }
@@ -103,7 +102,7 @@ module _ (b : List ℕ) (r : ℕ) (m : Mentions) (rising : AreRising m) (read : 
       -- by what their code weighs
       pub parts_returned : (codes : ℕ) → codes ≡ min (2 ^ 64 - 1) (codes_weight direct + codes_weight virtual) → (found : Result (NumberedMembers × ℕ) ItemFault) → IsWeighedWithin made codes most found → IfOk found (AreReadWithin b r m most) × IfErr found (IsPartFault b r most)
       parts_returned codes codes_are found weighed =
-          let apart = attached_codes read d direct virtual vs parts_attachable.direct_many parts_attachable.virtual_many in
+          let apart = attached_codes read d direct virtual vs have_codes.direct_many have_codes.virtual_many in
           let whole : codes ≡ min (2 ^ 64 - 1) (codes_weight (codes_of made)) = codes_are ∙ ap (λ (n : ℕ). min (2 ^ 64 - 1) n) (sym (ap (λ (x : NumberedMembers). codes_weight (codes_of x)) same ∙ apart)) in
           returned found (weighed m rising (subst (AreKnownMembers m) (sym same) parts_known) whole)
 

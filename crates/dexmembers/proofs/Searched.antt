@@ -107,20 +107,6 @@ entry_searched {X} es n (Err i) o e bound h =
 pub prefix_more : {T Z : Type 0} (f : T → Z) (xs : List T) (i : ℕ) (x : T) → i < length xs → ((d : T) → get_or xs i d ≡ x) → map f (take (i + 1) xs) ≡ map f (take i xs) ++ f x ∷ []
 prefix_more f xs i x lt is = ap (map f) (take_more xs i x lt ∙ ap (λ (y : _). take i xs ++ y ∷ []) (is x)) ∙ map-append f (take i xs) (x ∷ [])
 
-zip_next : {A B C : Type 0} (f : A → B → C) (xs : List A) (ys : List B) (i : ℕ) (x : A) (y : B) → i < length xs → i < length ys → ((d : A) → get_or xs i d ≡ x) → ((d : B) → get_or ys i d ≡ y)
-    → zip_with f (take (suc i) xs) (take (suc i) ys) ≡ zip_with f (take i xs) (take i ys) ++ f x y ∷ []
-zip_next f [] ys i x y lt lt' e g = absurd (omega arith)
-zip_next f (a ∷ xs) [] i x y lt lt' e g = absurd (omega arith)
-zip_next f (a ∷ xs) (b ∷ ys) zero x y lt lt' e g = λ k. f (e a k) (g b k) ∷ []
-zip_next f (a ∷ xs) (b ∷ ys) (suc i) x y lt lt' e g = ap (λ (l : List _). f a b ∷ l) (zip_next f xs ys i x y (omega arith) (omega arith) e g)
-
--- a list put together of two, by one more of each
-pub zip_more : {A B C : Type 0} (f : A → B → C) (xs : List A) (ys : List B) (i : ℕ) (x : A) (y : B) → i < length xs → i < length ys → ((d : A) → get_or xs i d ≡ x) → ((d : B) → get_or ys i d ≡ y)
-    → zip_with f (take (i + 1) xs) (take (i + 1) ys) ≡ zip_with f (take i xs) (take i ys) ++ f x y ∷ []
-zip_more f xs ys i x y lt lt' e g =
-    let more : i + 1 ≡ suc i = omega arith in
-    ap (λ (n : ℕ). zip_with f (take n xs) (take n ys)) more ∙ zip_next f xs ys i x y lt lt' e g
-
 -- whether a search by a key finds something
 pub index_searched : {T : Type 0} (key : T → ℕ) (xs : List T) (n : ℕ) (r : Result ℕ ℕ) → IsSearchInRange r (length xs) → IsBinarySearchResult (λ (x : T). nat_cmp (key x) n) xs r
     → (IsTrue (is_ok r) → Contains (map key xs) n) × (NumbersRise (map key xs) → Contains (map key xs) n → IsTrue (is_ok r))

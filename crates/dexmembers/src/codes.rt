@@ -1,19 +1,23 @@
-//! The code of methods, read or only checked.
+//! Methods with their code, read or only checked.
 
 ghost use Rattle.std.specs.Prelude.{◌≡◌, ◌+◌, ℕ, List, [], ◌∷◌, length, IfOk, IfErr, IfSome, OnOk};
 ghost use Rattle.dexmembers.specs.Checking.{AreCheckedCodes, HasCodeOrNoneOf, HaveCodesOf};
 ghost use Rattle.dexmembers.specs.Weighing.{codes_weight};
+ghost use Rattle.dexmembers.specs.internal.Attaching.{AreHeldMethods, HaveListsBelow, HaveSetsBelow, PlacesBelow, held_codes};
 ghost use Rattle.dexmembers.specs.internal.RowReaders.{IsFile};
-ghost use Rattle.dexmembers.specs.internal.MethodCodes.{IsCodeOrNone, IsCodeOrNoneFault, IsCodesFault, IsCodesFaultWithin, optional_code_weight, CodesWithin, ForDenotedOrNone, IsTaken};
+ghost use Rattle.dexmembers.specs.internal.MethodCodes.{IsCodeOrNone, IsCodeOrNoneFault, IsCodesFault, IsCodesFaultWithin, IsKept, optional_code_weight, CodesWithin, ForDenotedOrNone, IsTaken};
 
+use crate::attaching::place_for;
 use crate::class_data::EncodedMethod;
 use crate::encoded_lists::room;
-use crate::method_codes::MethodCodes;
+use crate::method_list::{DeclaredMethod, MethodList};
+use crate::places::Place;
 use crate::row_reader::{RowReader, too_heavy};
 use dexcode::{CheckedDebugs, Code, check_code_once, debug_unindexed_law, read_code_in};
+use dexflags::MethodFlags;
 use dexinsn::Scratch;
 use dexpool::ItemFault;
-use std::alloc::Global;
+use std::alloc::{AllocError, Global};
 use std::collections::HashMap;
 
 // Returns what is left of a weight after the code of a method that may have none, with its debug program, or `None` if
@@ -59,8 +63,19 @@ impl CheckedCodes {
     }
 }
 
-/// The code of methods, and its weight.
-pub(crate) type WeighedCodes<'a> = (MethodCodes<'a>, u64);
+// Puts the code, if there is some, at the end of the others, and returns its place.
+fn keep_code<'a>(code: Option<Code<'a>>, kept: &mut Vec<Code<'a>>) -> Result<Place, AllocError>
+    ensures { IfOk result (IsKept code.entry kept.old.items kept.new.items) }
+{
+    let Some(code) = code else {
+        return Place::of(None);
+    };
+    let Ok(place) = u32::try_from(kept.len()) else {
+        return Err(AllocError);
+    };
+    kept.push(code)?;
+    Place::of(Some(place))
+}
 
 impl<'f> RowReader<'_, 'f, '_> {
     // Reads the code at an offset, or none at 0.
@@ -77,38 +92,59 @@ impl<'f> RowReader<'_, 'f, '_> {
         Ok(Some(code))
     }
 
-    /// Reads the code of the methods, each with its debug program, and returns it with its weight; a method whose
-    /// offset is 0 has none. All code is read in the same `scratch`.
+    /// Reads the methods of a list of class data, with their code, each with its debug program, and with the places of
+    /// their sets and lists of sets in a directory. Returns them with the weight of their code; a method whose offset is
+    /// 0 has none. All code is read in the same `scratch`.
     ///
     /// Error: `Refused` with 18, 19 or 20, a condition that fails for the code of one of the methods; `Refused(23)` at
     /// the method by which the code weighs more than `most`, and what comes after it is not looked at; `Memory` where an
     /// allocation failed.
     ///
-    /// Source: "encoded_method format", the field `code_off`, and "code_item".
-    pub(crate) fn read_codes(
+    /// Source: "encoded_method format", "code_item", "method_annotation format", "parameter_annotation format".
+    pub(crate) fn read_methods(
         &self,
-        methods: &[EncodedMethod],
+        listed: &[EncodedMethod],
+        sets: &[(u32, u32)],
+        lists: &[(u32, u32)],
         scratch: &mut Scratch,
-    ) -> Result<WeighedCodes<'f>, ItemFault>
-        ensures read { IsFile self.now → IfOk result (CodesWithin self.now methods.now) }
-        ensures many { IfOk result (λ codes. length codes.0 ≡ length methods.now) }
-        ensures weight { IfOk result (λ codes. codes.1 ≡ codes_weight codes.0) }
+    ) -> Result<(MethodList<'f>, u64), ItemFault>
+        ensures read { IsFile self.now → IfOk result (CodesWithin self.now listed.now) }
+        ensures many { IfOk result (λ methods. length methods.0 ≡ length listed.now) }
+        ensures weight { IfOk result (λ methods.
+            methods.1 ≡ codes_weight (held_codes methods.0)) }
+        ensures methods { IfOk result (λ methods.
+            AreHeldMethods sets.now lists.now listed.now methods.0) }
+        ensures sets_held { (limit : ℕ) → PlacesBelow limit sets.now
+            → IfOk result (λ methods. HaveSetsBelow limit methods.0) }
+        ensures lists_held { (limit : ℕ) → PlacesBelow limit lists.now
+            → IfOk result (λ methods. HaveListsBelow limit methods.0) }
         ensures refused { IsFile self.now
-            → IfErr result (IsCodesFaultWithin self.now.frame.now methods.now self.now.most) }
+            → IfErr result (IsCodesFaultWithin self.now.frame.now listed.now self.now.most) }
     {
         self.pools.numbering().is_numbering();
-        let with_code = methods.iter().filter(|method| method.code_off != 0).count();
-        let mut codes = MethodCodes::with_room(self.alloc, room(methods.len()), room(with_code))?;
+        let with_code = listed.iter().filter(|method| method.code_off != 0).count();
+        let mut methods = Vec::with_capacity(self.alloc, listed.len())?;
+        let mut code_items = Vec::with_capacity(self.alloc, room(with_code))?;
         let mut left = self.most;
-        for method in methods {
+        for method in listed {
             let code = self.code_or_none(method.code_off, scratch)?;
             match left_after(left, &code) {
                 Some(rest) => left = rest,
                 None => return Err(too_heavy()),
             }
-            codes = codes.with(code)?;
+            methods.push(DeclaredMethod {
+                number: method.index,
+                flags: MethodFlags::from_bits_retain(method.flags),
+                code: keep_code(code, &mut code_items)?,
+                set: place_for(sets, method.index)?,
+                list: place_for(lists, method.index)?,
+            })?;
         }
-        Ok((codes, self.most - left))
+        let methods = MethodList {
+            methods,
+            code_items,
+        };
+        Ok((methods, self.most - left))
     }
 
     // Returns the weight of the code at an offset with its debug program; at 0 there is no code, and the weight is 0.

@@ -22,7 +22,6 @@ mod field_views;
 mod laws;
 mod marking;
 mod members;
-mod method_codes;
 mod method_list;
 mod method_views;
 mod naming;

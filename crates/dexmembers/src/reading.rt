@@ -3,36 +3,15 @@
 ghost use Rattle.std.specs.Prelude.{ℕ, IfOk, IfErr};
 ghost use Rattle.dexmembers.specs.ClassDefs.{IsClassDef};
 ghost use Rattle.dexmembers.specs.Reading.{AreReadWithin, IsMembersFaultWithin, InClass};
-ghost use Rattle.dexmembers.specs.Contents.{contents_in, AreHeld};
 ghost use Rattle.dexmembers.specs.internal.RowParts.{IsPartFault};
-ghost use Rattle.dexmembers.specs.internal.Weighed.{IsWeighedWithin};
 
-use crate::attaching::attach;
 use crate::class_data::read_class_data;
-use crate::members::Contents;
 use crate::row_reader::{RowReader, too_heavy};
 use crate::{Checks, ClassDef, Members, check_members, members_weight_law};
 use dexcode::code_meaning_law;
 use dexhead::{Condition, Frame};
-use dexinsn::Scratch;
 use dexpool::{ItemFault, Pools};
 use std::alloc::Global;
-
-// The members, whose code weighs `codes`, and what they weigh. Error: it is more than `most`.
-//
-// Condition: their places are their table's.
-fn within(contents: Contents<'_>, codes: u64, most: u32) -> Result<(Members<'_>, u32), ItemFault>
-    requires { AreHeld contents }
-    ensures { IsWeighedWithin (contents_in contents.entry) codes most result }
-{
-    members_weight_law();
-    let weight = contents.weight_with(codes);
-    if weight > u64::from(most) {
-        return Err(too_heavy());
-    }
-    let members = Members { contents };
-    Ok((members, weight as u32))
-}
 
 // Reads what a class row declares, and stops at the part by which it weighs more than `most`.
 fn read_row<'a>(
@@ -49,8 +28,8 @@ fn read_row<'a>(
 {
     pools.numbering().is_numbering();
     code_meaning_law();
+    members_weight_law();
     let declared = read_class_data(alloc, frame, pools, row)?;
-    let mut scratch = Scratch::new(alloc);
     let reader = RowReader {
         alloc,
         frame,
@@ -59,10 +38,13 @@ fn read_row<'a>(
         declared: &declared,
         most: u64::from(most),
     };
-    let parts = reader.read_parts(&mut scratch)?;
-    let codes = parts.codes_weight;
-    let unweighed = attach(alloc, &declared, parts)?;
-    within(unweighed, codes, most)
+    let (contents, codes) = reader.read_contents()?;
+    let weight = contents.weight_with(codes);
+    if weight > u64::from(most) {
+        return Err(too_heavy());
+    }
+    let members = Members { contents };
+    Ok((members, weight as u32))
 }
 
 /// Reads what a class row declares: its members with their code and annotations, its own annotations, and its static

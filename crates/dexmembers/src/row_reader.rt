@@ -4,14 +4,16 @@ ghost use Rattle.std.specs.Prelude.{◌≡◌, [], length, IfOk, OnOk};
 ghost use Rattle.dexpool.specs.declared.faults.ItemFault.TheVariants.{Refused};
 ghost use Rattle.dexval.specs.CheckedSets.{AreChecked};
 ghost use Rattle.dexval.specs.Shared.{shared_directory_of};
+ghost use Rattle.dexmembers.specs.Contents.{AreHeld};
 ghost use Rattle.dexmembers.specs.internal.RowReaders.{IsFile};
 ghost use Rattle.dexmembers.specs.Checking.{WeighsAnnotations, WeighsValues};
-ghost use Rattle.dexmembers.specs.internal.RowParts.{AreEntered, IsHeldDirectory, ReadsAnnotations, RefusesAnnotations, RefusesAnnotationsWithin, IsLight, HaveCodes, HasCodesWeight, ReadsParts, RefusesParts};
+ghost use Rattle.dexmembers.specs.internal.RowParts.{AreEntered, IsHeldDirectory, ReadsAnnotations, RefusesAnnotations, RefusesAnnotationsWithin, IsLight, ReadsContents, RefusesParts};
 ghost use Rattle.dexmembers.specs.internal.StaticValues.{ReadsValues, RefusesValues, RefusesValuesWithin};
 
+use crate::attaching::attach_fields;
 use crate::class_data::ClassData;
 use crate::class_def::ClassDef;
-use crate::method_codes::MethodCodes;
+use crate::members::Contents;
 use crate::naming::names_declared;
 use dexhead::{Condition, Frame};
 use dexinsn::Scratch;
@@ -39,18 +41,6 @@ pub(crate) struct RowReader<'s, 'f, 'p> {
     pub(crate) row: &'s ClassDef,
     pub(crate) declared: &'s ClassData,
     pub(crate) most: u64,
-}
-
-/// What is at a class row beside its class data: annotations, the code of direct and of virtual methods, and static
-/// values.
-#[derive(Drop)]
-pub(crate) struct Parts<'a> {
-    pub(crate) directory: SharedDirectory,
-    pub(crate) direct_codes: MethodCodes<'a>,
-    pub(crate) virtual_codes: MethodCodes<'a>,
-    /// What the code weighs together, or 2^64 - 1 where that is more.
-    pub(crate) codes_weight: u64,
-    pub(crate) static_values: Vec<Value>,
 }
 
 // The directory of a row that has none.
@@ -179,7 +169,8 @@ impl<'f> RowReader<'_, 'f, '_> {
         Ok(values)
     }
 
-    /// Reads what is at the class row beside its class data. All code is read in the same `scratch`.
+    /// Reads what the class row declares: the members of its class data, with what is at the row beside it. Returns it
+    /// with the weight of the code, or 2^64 - 1 where that is more.
     ///
     /// Condition: the row declares the members. Error: `Refused` with a number from 18 to 22, a condition that fails
     /// at the row; `Refused(23)` at the part that weighs more than `most`, and what comes after it is not looked at;
@@ -187,25 +178,39 @@ impl<'f> RowReader<'_, 'f, '_> {
     ///
     /// Source: "class_def_item", the fields `annotations_off` and `static_values_off`, and "encoded_method format", the
     /// field `code_off`.
-    pub(crate) fn read_parts(&self, scratch: &mut Scratch) -> Result<Parts<'f>, ItemFault>
-        ensures read { ReadsParts self.now self.now.row.now self.now.declared.now result }
-        ensures held { IfOk result (λ x. IsHeldDirectory x.directory) }
-        ensures codes { IfOk result (HaveCodes self.now.declared.now) }
-        ensures weight { IfOk result HasCodesWeight }
+    pub(crate) fn read_contents(&self) -> Result<(Contents<'f>, u64), ItemFault>
+        ensures read { ReadsContents self.now self.now.row.now self.now.declared.now result }
+        ensures held { IfOk result (λ x. AreHeld x.0) }
         ensures refused { RefusesParts self.now self.now.row.now self.now.declared.now result }
     {
         self.pools.numbering().is_numbering();
+        let (alloc, declared) = (self.alloc, self.declared);
+        let mut scratch = Scratch::new(alloc);
         let directory = self.read_annotations()?;
-        let declared = self.declared;
-        let (direct_codes, direct_weight) = self.read_codes(&declared.direct_methods, scratch)?;
-        let (virtual_codes, virtual_weight) = self.read_codes(&declared.virtual_methods, scratch)?;
+        let (sets, lists) = (&directory.methods, &directory.parameters);
+        let (direct_methods, direct_weight) = self.read_methods(
+            &declared.direct_methods,
+            sets,
+            lists,
+            &mut scratch,
+        )?;
+        let (virtual_methods, virtual_weight) = self.read_methods(
+            &declared.virtual_methods,
+            sets,
+            lists,
+            &mut scratch,
+        )?;
         let static_values = self.read_static_values()?;
-        Ok(Parts {
-            directory,
-            direct_codes,
-            virtual_codes,
-            codes_weight: direct_weight.saturating_add(virtual_weight),
+        let sets = &directory.fields;
+        let contents = Contents {
+            static_fields: attach_fields(alloc, &declared.static_fields, sets)?,
+            instance_fields: attach_fields(alloc, &declared.instance_fields, sets)?,
+            table: directory.table,
+            set: directory.own,
+            direct_methods,
+            virtual_methods,
             static_values,
-        })
+        };
+        Ok((contents, direct_weight.saturating_add(virtual_weight)))
     }
 }

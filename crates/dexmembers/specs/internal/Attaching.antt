@@ -1,10 +1,9 @@
 -- Members put together: what class data, a directory and the code of methods make.
-use Rattle.std.specs.Prelude.{◌≡◌, ℕ, ◌<◌, List, map, length, slice_index_or, Option, All, IfOk, IfSome, Result}
+use Rattle.std.specs.Prelude.{◌≡◌, ℕ, ◌<◌, List, map, length, slice_index_or, Option, All, IfSome}
 use Rattle.std.specs.FinMap.Entries.{find}
 use Rattle.std.specs.Ordering.{nat_cmp}
 use Rattle.std.specs.Global.{Vec}
 use Rattle.std.specs.List.{Contains}
-use Rattle.std.specs.declared.alloc.AllocError.{AllocError}
 use Rattle.dexspec.specs.Annotations.{annotated}
 use Rattle.dexspec.specs.Lists.{zip_with}
 use Rattle.dexval.specs.Numbered.{NumberedSet}
@@ -49,9 +48,13 @@ held_method sets lists x code = record { number = x.index; flags = x.flags; code
 abbrev pub AreHeldFields : List (ℕ × ℕ) → List FieldRead → Vec HeldField → Type 0
 AreHeldFields sets listed fields = fields.items ≡ map (held_field sets) listed
 
+-- the code of each method
+abbrev pub held_codes : List HeldMethod → List (Option NumberedItem)
+held_codes methods = map (λ x. x.code) methods
+
 -- where both lists of entries rise, these are the methods of a list of class data
-abbrev pub AttachesMethods : List (ℕ × ℕ) → List (ℕ × ℕ) → List MethodRead → List (Option NumberedItem) → Result (List HeldMethod) AllocError → Type 0
-AttachesMethods sets lists listed codes result = EntriesRise sets → EntriesRise lists → IfOk result (λ methods. methods ≡ zip_with (held_method sets lists) listed codes)
+abbrev pub AreHeldMethods : List (ℕ × ℕ) → List (ℕ × ℕ) → List MethodRead → List HeldMethod → Type 0
+AreHeldMethods sets lists listed methods = EntriesRise sets → EntriesRise lists → methods ≡ zip_with (held_method sets lists) listed (held_codes methods)
 
 -- the places of the fields' sets are below a limit
 abbrev pub HaveFieldSetsBelow : ℕ → Vec HeldField → Type 0

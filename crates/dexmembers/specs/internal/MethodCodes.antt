@@ -10,6 +10,8 @@ use Rattle.dexpool.specs.Numberings.{AreRising}
 use Rattle.dexcode.specs.Checking.{one_code_weight}
 use Rattle.dexcode.specs.Numbered.{NumberedItem, DenotesCode}
 use Rattle.dexcode.specs.Reading.{IsCodeFault}
+use Rattle.dexmembers.specs.Held.{HeldMethod}
+use Rattle.dexmembers.specs.internal.Attaching.{held_codes}
 use Rattle.dexmembers.specs.declared.class_data.EncodedMethod.{EncodedMethod}
 use Rattle.dexmembers.specs.declared.row_reader.RowReader.{RowReader}
 
@@ -70,9 +72,9 @@ IsCodesFaultWithin b xs most (Refused number) = HasRefusedCode b xs number ⊎ (
 
 -- ---- as it is read
 
--- the code of the methods, with its weight
-abbrev pub CodesWithin : RowReader → List EncodedMethod → List (Option NumberedItem) × ℕ → Type 0
-CodesWithin reader xs codes = AreCodesOf reader.frame.now reader.pools.now xs reader.most codes.0
+-- the methods have the code of those of a list of class data
+abbrev pub CodesWithin : RowReader → List EncodedMethod → List HeldMethod × ℕ → Type 0
+CodesWithin reader listed methods = AreCodesOf reader.frame.now reader.pools.now listed reader.most (held_codes methods.0)
 
 -- ---- as it is kept
 

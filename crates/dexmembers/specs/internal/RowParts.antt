@@ -10,10 +10,9 @@ use Rattle.dexpool.specs.declared.faults.ItemFault.TheVariants.{Refused, Memory}
 use Rattle.dexpool.specs.Pools.{ArePools}
 use Rattle.dexcode.specs.Numbered.{NumberedItem}
 use Rattle.dexval.specs.Shared.{HoldsPlaces, shared_directory_of}
-use Rattle.dexval.specs.Numbered.{NumberedDirectory, NumberedValues, IsKnownDirectory, directory_in, values_of_list}
+use Rattle.dexval.specs.Numbered.{NumberedDirectory, NumberedValues, IsKnownDirectory, directory_in}
 use Rattle.dexval.specs.Directories.{directory_weight}
 use Rattle.dexval.specs.declared.directory.SharedDirectory.{SharedDirectory}
-use Rattle.dexval.specs.Code.{value_of}
 use Rattle.dexmembers.specs.Numbered.{NumberedMembers}
 use Rattle.dexmembers.specs.internal.ClassData.{class_data_in, IsDataOf}
 use Rattle.dexmembers.specs.internal.Attaching.{EntriesRise, field_with, method_with}
@@ -26,7 +25,6 @@ use Rattle.dexmembers.specs.Reading.{AreHeavyMembers, IsMembersFault}
 use Rattle.dexmembers.specs.Weighing.{codes_weight}
 use Rattle.dexmembers.specs.declared.class_def.ClassDef.{ClassDef}
 use Rattle.dexmembers.specs.declared.members.Contents.{Contents}
-use Rattle.dexmembers.specs.declared.row_reader.Parts.{Parts}
 use Rattle.dexmembers.specs.declared.row_reader.RowReader.{RowReader}
 use Rattle.dexmembers.specs.internal.RowReaders.{IsFile}
 
@@ -86,9 +84,8 @@ pub record ArePartsOf (b : List ℕ) (r : ℕ) (m : Mentions) (d : DataRead) (mo
   pub virtual_codes : AreCodesOf b m d.virtual_methods.items most virtual
   pub values : AreValuesOf b r m (length d.static_fields.items) most vs
 
--- the lists of the directory rise, and there is code or none for each method
-pub record AreAttachable (d : DataRead) (a : SharedDirectory) (direct virtual : List (Option NumberedItem)) : Type 0 where
-  pub entered : AreEntered a
+-- there is code or none for each method
+pub record HaveCodes (d : DataRead) (direct virtual : List (Option NumberedItem)) : Type 0 where
   pub direct_many : length direct ≡ length d.direct_methods.items
   pub virtual_many : length virtual ≡ length d.virtual_methods.items
 
@@ -110,28 +107,21 @@ abbrev pub IsPartFault : List ℕ → ℕ → ℕ → ItemFault → Type 0
 IsPartFault b r most Memory = Unit {0}
 IsPartFault b r most (Refused n) = IsMembersFault b r (Refused n) ⊎ ((n ≡ 23) × (IsReadable b r → AreHeavyMembers b r most))
 
--- what the class row has beside its class data
-abbrev pub ReadsParts : RowReader → ClassDef → DataRead → Result Parts ItemFault → Type 0
-ReadsParts reader row d result = (r : ℕ) → IsClassDef reader.frame.now r row → IsFile reader → IsDataOf reader.frame.now r reader.pools.now d
-    → IfOk result (λ x. ArePartsOf reader.frame.now r reader.pools.now d reader.most x.directory x.direct_codes x.virtual_codes (values_of_list (map value_of x.static_values.items)))
+-- what the class row declares, put together, with the weight of its code, or 2^64 - 1 where that is more
+pub record IsPutTogether (b : List ℕ) (r : ℕ) (m : Mentions) (d : DataRead) (most : ℕ) (x : Contents × ℕ) : Type 0 where
+  pub directory : SharedDirectory
+  pub direct : List (Option NumberedItem)
+  pub virtual : List (Option NumberedItem)
+  pub values : NumberedValues
+  pub parts : ArePartsOf b r m d most directory direct virtual values
+  pub is : contents_in x.0 ≡ attached d (shared_directory_of directory) direct virtual values
+  pub weight : x.1 ≡ min (2 ^ 64 - 1) (codes_weight direct + codes_weight virtual)
+
+-- what the class row declares
+abbrev pub ReadsContents : RowReader → ClassDef → DataRead → Result (Contents × ℕ) ItemFault → Type 0
+ReadsContents reader row d result = (r : ℕ) → IsClassDef reader.frame.now r row → IsFile reader → IsDataOf reader.frame.now r reader.pools.now d
+    → IfOk result (IsPutTogether reader.frame.now r reader.pools.now d reader.most)
 
 -- what is refused is a part of the class row
-abbrev pub RefusesParts : RowReader → ClassDef → DataRead → Result Parts ItemFault → Type 0
+abbrev pub RefusesParts : RowReader → ClassDef → DataRead → Result (Contents × ℕ) ItemFault → Type 0
 RefusesParts reader row d result = (r : ℕ) → IsClassDef reader.frame.now r row → IsFile reader → IsDataOf reader.frame.now r reader.pools.now d → IfErr result (IsPartFault reader.frame.now r reader.most)
-
--- the weight of code is that of both lists, or 2^64 - 1 where that is more
-abbrev pub HasCodesWeight : Parts → Type 0
-HasCodesWeight x = x.codes_weight ≡ min (2 ^ 64 - 1) (codes_weight x.direct_codes + codes_weight x.virtual_codes)
-
--- the parts can be put together with the class data
-abbrev pub CanAttach : DataRead → Parts → Type 0
-CanAttach d x = AreAttachable d x.directory x.direct_codes x.virtual_codes
-
--- there is code or none for each method
-pub record HaveCodes (d : DataRead) (x : Parts) : Type 0 where
-  pub direct_many : length x.direct_codes ≡ length d.direct_methods.items
-  pub virtual_many : length x.virtual_codes ≡ length d.virtual_methods.items
-
--- they are put together
-abbrev pub IsAttached : DataRead → Parts → Contents → Type 0
-IsAttached d x contents = contents_in contents ≡ attached d (shared_directory_of x.directory) x.direct_codes x.virtual_codes (values_of_list (map value_of x.static_values.items))

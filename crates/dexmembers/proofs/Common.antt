@@ -19,6 +19,7 @@ pub use Rattle.dexcode.specs.Meaning.{IsKnownCode, code_in}
 pub use Rattle.dexcode.specs.Numbered.{DenotesCode, NumberedItem}
 pub use Rattle.dexcode.specs.Reading.{IsCodeAt, IsCodeFault}
 pub use Rattle.dexcode.specs.Renumbering.{HasImages, HasPlaces, item_uses, renumbered_item}
+pub use Rattle.dexdebug.proofs.Compared.{decides_by_eq}
 pub use Rattle.dexdebug.specs.Meaning.{IsKnownDebug, debug_in}
 pub use Rattle.dexhead.proofs.Encoded.{encoded_put}
 pub use Rattle.dexinsn.specs.Fitting.{ImagesFit, IsGreatest, MapsShort, short_strings}

@@ -1,14 +1,13 @@
 //! What class rows declare, checked and not kept.
 
-ghost use Rattle.std.specs.Prelude.{ℕ, List, ◌≡◌, ◌-◌, ◌*◌, ◌^◌, min, IfOk, IfErr, OnOk};
+ghost use Rattle.std.specs.Prelude.{ℕ, List, IfOk, IfErr, OnOk};
 ghost use Rattle.dexspec.specs.Mentions.{Mentions};
 ghost use Rattle.dexpool.specs.Pools.{ArePools};
 ghost use Rattle.dexmembers.specs.ClassDefs.{IsClassDef};
 ghost use Rattle.dexmembers.specs.Reading.{IsMembersFault, InClass};
 ghost use Rattle.dexmembers.specs.Checking.{AreChecks, HasMembersOf};
-ghost use Rattle.dexmembers.specs.internal.ClassData.{count_fields};
 
-use crate::class_data::{ClassData, read_class_data};
+use crate::class_data::read_class_data;
 use crate::class_def::ClassDef;
 use crate::codes::CheckedCodes;
 use crate::row_reader::RowReader;
@@ -35,15 +34,6 @@ impl Checks {
             codes: CheckedCodes::none(alloc),
         }
     }
-}
-
-// What declared fields weigh without their annotations, or 2^64 - 1 where that is more.
-fn fields_weight(declared: &ClassData) -> u64
-    ensures { result ≡ min (2 ^ 64 - 1) (18 * count_fields declared.now) }
-{
-    let statics = 18u64.saturating_mul(declared.static_fields.len() as u64);
-    let instances = 18u64.saturating_mul(declared.instance_fields.len() as u64);
-    statics.saturating_add(instances)
 }
 
 /// Checks what a class row declares: its members with their code and annotations, its own annotations, and its static
@@ -85,7 +75,11 @@ pub fn check_members(
     let direct = reader.check_codes(&declared.direct_methods, &mut checks.codes)?;
     let virtuals = reader.check_codes(&declared.virtual_methods, &mut checks.codes)?;
     let values = reader.check_static_values()?;
-    let fields = fields_weight(&declared).saturating_add(annotations);
+    let statics = 18u64.saturating_mul(declared.static_fields.len() as u64);
+    let instances = 18u64.saturating_mul(declared.instance_fields.len() as u64);
+    let fields = statics
+        .saturating_add(instances)
+        .saturating_add(annotations);
     let codes = direct.saturating_add(virtuals);
     Ok(fields.saturating_add(codes).saturating_add(values))
 }

@@ -114,15 +114,6 @@ pub struct DirectoryOffsets<'o> {
 }
 
 impl Members<'_> {
-    // Writes the pairs of the fields.
-    fn encode_field_pairs<O: Output>(&self, offsets: &[u32], out: &mut O)
-        requires { length offsets.now ≡ length (fields_of self.now) }
-        ensures { O.gives (field_pairs_bytes self.now offsets.now) out.old out.new }
-    {
-        let own = &self.contents;
-        encode_pairs(&own.static_fields, &own.instance_fields, offsets, out);
-    }
-
     // Writes pairs of the methods.
     fn encode_method_pairs<O: Output>(&self, offsets: &[u32], out: &mut O)
         requires { length offsets.now ≡ length (methods_of self.now) }
@@ -153,7 +144,8 @@ impl Encode for DirectoryItem<'_, '_> {
         out.u32(placed(offs.fields) as u32);
         out.u32(placed(offs.methods) as u32);
         out.u32(placed(offs.parameters) as u32);
-        members.encode_field_pairs(offs.fields, out);
+        let own = &members.contents;
+        encode_pairs(&own.static_fields, &own.instance_fields, offs.fields, out);
         members.encode_method_pairs(offs.methods, out);
         members.encode_method_pairs(offs.parameters, out);
     }

@@ -23,7 +23,9 @@ fn methods_fit_now(methods: &Methods<'_, '_>)
     ensures { All MethodFits methods.now }
 {
     for i in 0..methods.len() {
-        methods.get(i).numbers_fit();
+        if let Some(code) = methods.get(i).code() {
+            code.numbers_fit();
+        }
     }
 }
 
@@ -33,15 +35,6 @@ impl Method<'_, '_> {
         ensures { IsGreatest (method_short_strings self.now) result }
     {
         self.code()?.greatest_short_string()
-    }
-
-    // Each number in the method's code fits its place.
-    fn numbers_fit(&self)
-        ensures { MethodFits self.now }
-    {
-        if let Some(code) = self.code() {
-            code.numbers_fit();
-        }
     }
 }
 

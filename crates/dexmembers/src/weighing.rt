@@ -42,7 +42,11 @@ fn methods_weight(methods: &Methods<'_, '_>) -> u64
 {
     let mut weight: u64 = 0;
     for i in 0..methods.len() {
-        weight = weight.saturating_add(methods.get(i).weight());
+        let method = methods.get(i);
+        weight = weight
+            .saturating_add(31)
+            .saturating_add(optional_weight(method.annotations()))
+            .saturating_add(method.parameters_weight());
     }
     weight
 }
@@ -59,15 +63,6 @@ fn codes_weight(methods: &Methods<'_, '_>) -> u64
 }
 
 impl Method<'_, '_> {
-    // Returns the weight of the method without its code.
-    fn weight(&self) -> u64
-        ensures { result ≡ min (2 ^ 64 - 1) (own_method_weight self.now) }
-    {
-        31u64
-            .saturating_add(optional_weight(self.annotations()))
-            .saturating_add(self.parameters_weight())
-    }
-
     // Returns the weight of the method's code with its debug program.
     fn code_weight(&self) -> u64
         ensures { result ≡ min (2 ^ 64 - 1) (method_code_weight self.now) }

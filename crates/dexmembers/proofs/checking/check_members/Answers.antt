@@ -41,9 +41,9 @@ returns-clause-checked c = λ r row pools class.
     let d = c.in_ok-declared.declared in
     let is = c.in_ok-declared.ensures.read r row pools class in
     let rising = subst AreRising c.numbering.ensures c.is_numbering.ensures.rising in
-    members_of b r c.args.pools.now pools rising d is c.fields_weight.result c.in_ok-annotations.annotations c.in_ok-direct.direct c.in_ok-virtuals.virtuals c.in_ok-values.values _ c.fields_weight.ensures
+    members_of b r c.args.pools.now pools rising d is c.saturating_add.result c.in_ok-annotations.annotations c.in_ok-direct.direct c.in_ok-virtuals.virtuals c.in_ok-values.values _ (omega (arith, c.saturating_add.ensures, c.saturating_mul-statics.ensures, c.saturating_mul-instances.ensures))
     (c.in_ok-annotations.ensures.weight r (sym row.annotations_are) pools is)
     (subst (λ (l : List EncodedMethod). HaveCodesOf b l c.in_ok-direct.direct) c.deref.ensures.value (c.in_ok-direct.ensures.weight pools))
     (subst (λ (l : List EncodedMethod). HaveCodesOf b l c.in_ok-virtuals.virtuals) c.deref-2.ensures.value (c.in_ok-virtuals.ensures.weight pools))
     (c.in_ok-values.ensures.weight r (sym row.static_values_are) pools)
-    (omega (arith, c.saturating_add-fields.ensures, c.saturating_add-codes.ensures, c.saturating_add.ensures, c.saturating_add-2.ensures))
+    (omega (arith, c.saturating_add-fields.ensures, c.saturating_add-codes.ensures, c.saturating_add-2.ensures, c.saturating_add-3.ensures))

@@ -1,5 +1,5 @@
 -- Entries by number: a search among them, and lists that are put together member by member.
-use Rattle.dexmembers.proofs.Common.{◌≡◌, ◌≢◌, ℕ, zero, suc, ◌+◌, ◌<◌, ◌≤◌, Bool, true, false, cond, List, [], ◌∷◌, ◌++◌, length, get_or, map, refl, sym, ap, ◌∙◌, subst, arith, inl, inr, Option, Some, None, Ordering, Less, Equal, Greater, IsTrue, Result, Ok, Err, MatchOption, take, Contains, HoldsAt, nat_cmp, is_eq, ordering_index, nat_cmp_total, nat_cmp-IsAntisymmetric, cases_lt, tied_itself, get_or-map, get_or_default, length-map, take_more, map-append, zip_with, Contains-first, Contains-later, less_number, Rises, Rises-from_rises, Rises-places}
+use Rattle.dexmembers.proofs.Common.{◌≡◌, ◌≢◌, ℕ, zero, suc, ◌+◌, ◌<◌, ◌≤◌, Bool, true, false, cond, List, [], ◌∷◌, ◌++◌, length, get_or, map, refl, sym, ap, ◌∙◌, subst, arith, inl, inr, Option, Some, None, Ordering, Less, Equal, Greater, IsTrue, Result, Ok, Err, MatchOption, take, Contains, HoldsAt, nat_cmp, is_eq, ordering_index, nat_cmp_total, nat_cmp-IsAntisymmetric, cases_lt, tied_itself, get_or-map, get_or_default, length-map, take_more, map-append, Contains-first, Contains-later, less_number, Rises, Rises-from_rises, Rises-places}
 use Rattle.std.specs.List.Sorted.{IsNonDecreasingBy, IsPartitionPoint, IsSearchInRange, IsBinarySearchResult}
 use Rattle.std.specs.Result.{result_ok, is_ok}
 use Rattle.std.specs.FinMap.Entries.{find}

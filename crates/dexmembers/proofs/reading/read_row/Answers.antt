@@ -1,4 +1,4 @@
-use Rattle.dexmembers.proofs.Common.{◌≡◌, ℕ, refl, sym, subst, arith, Ok, Err, err_from_is_err_and, AreRising}
+use Rattle.dexmembers.proofs.Common.{ℕ, refl, subst, arith, Ok, Err, err_from_is_err_and, AreRising}
 use Rattle.dexmembers.specs.{contents_in, AreReadWithin}
 use Rattle.dexmembers.specs.internal.RowParts.{IsPartFault}
 use Rattle.dexmembers.proofs.CodesApart.{members_apart}

@@ -1,4 +1,4 @@
-use Rattle.dexmembers.proofs.Common.{◌^◌, List, length, map, sym, subst, arith, err_from_is_err_and, AreRising, value_of, values_of_list, set_at}
+use Rattle.dexmembers.proofs.Common.{List, length, map, sym, subst, arith, err_from_is_err_and, AreRising, value_of, values_of_list, set_at}
 use Rattle.dexmembers.specs.internal.Attaching.{held_codes}
 use Rattle.dexmembers.specs.internal.MethodCodes.{AreCodesOf, IsCodesFaultWithin}
 use Rattle.dexmembers.specs.declared.class_data.EncodedMethod.{EncodedMethod}

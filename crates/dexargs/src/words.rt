@@ -10,7 +10,9 @@ use clap::{Arg, ArgAction, ArgMatches, Command, Error, value_parser};
 use dexmerge::Caps;
 use std::alloc::{AllocError, Global};
 
-const LEAST_FAN: u16 = 2;
+const LEAST_FAN: u32 = 2;
+
+const GREATEST_FAN: u32 = 65_535;
 
 /// What the arguments ask for. File names are as in the arguments.
 #[derive(Debug, Drop)]
@@ -34,11 +36,6 @@ pub enum Job {
     Repair(String, String),
 }
 
-fn owned(alloc: Global, texts: &[&str]) -> Result<Vec<String>, AllocError> {
-    let copies = texts.iter().map(|text| String::from_str(alloc, text));
-    copies.try_collect(alloc)
-}
-
 fn one<'a>(alloc: Global, id: &'a str, name: &'a str, help: &'a str) -> Arg<'a> {
     Arg::new(alloc, id)
         .value_name(name)
@@ -52,14 +49,6 @@ fn files<'a>(alloc: Global) -> Arg<'a> {
         .action(ArgAction::Append)
 }
 
-fn fan<'a>(alloc: Global) -> Arg<'a> {
-    Arg::new(alloc, "fan")
-        .long("fan")
-        .value_name("N")
-        .help(help::FAN)
-        .value_parser(value_parser!(u16).range(i64::from(LEAST_FAN)..))
-}
-
 // Returns an option without a value.
 fn flag<'a>(alloc: Global, id: &'a str, help: &'a str) -> Arg<'a> {
     Arg::new(alloc, id)
@@ -68,75 +57,55 @@ fn flag<'a>(alloc: Global, id: &'a str, help: &'a str) -> Arg<'a> {
         .action(ArgAction::SetTrue)
 }
 
-// Returns an option that limits a number; its value is at most `greatest`.
-fn most<'a>(alloc: Global, id: &'a str, greatest: u32, help: &'a str) -> Arg<'a> {
+// Returns an option whose value is a number from `least` to `greatest`.
+fn number<'a>(alloc: Global, id: &'a str, least: u32, greatest: u32, help: &'a str) -> Arg<'a> {
     Arg::new(alloc, id)
         .long(id)
         .value_name("N")
         .help(help)
-        .value_parser(value_parser!(u32).range(0..=i64::from(greatest)))
+        .value_parser(value_parser!(u32).range(i64::from(least)..=i64::from(greatest)))
+}
+
+// Returns a command without arguments.
+fn described<'a>(alloc: Global, name: &'a str, about: &'a str, long: &'a str) -> Command<'a> {
+    Command::new(alloc, name).about(about).long_about(long)
 }
 
 fn check<'a>(alloc: Global) -> Result<Command<'a>, AllocError> {
-    Command::new(alloc, "check")
-        .about(help::CHECK)
-        .long_about(help::CHECK_LONG)
+    described(alloc, "check", help::CHECK, help::CHECK_LONG)
         .after_long_help(help::REFUSALS)
         .arg(flag(alloc, "keep-going", help::KEEP_GOING))?
         .arg(files(alloc))
 }
 
 fn merge<'a>(alloc: Global) -> Result<Command<'a>, AllocError> {
-    let mut command = Command::new(alloc, "merge")
-        .about(help::MERGE)
-        .long_about(help::MERGE_LONG)
+    let mut command = described(alloc, "merge", help::MERGE, help::MERGE_LONG)
         .arg(one(alloc, "out", "OUT", help::OUT).short('o').long("out"))?
-        .arg(flag(alloc, "strip", help::STRIP))?
-        .arg(fan(alloc))?;
-    let greatest = Caps::greatest();
-    for (id, greatest, help) in [
-        ("max-types", greatest.types(), help::MAX_TYPES),
-        ("max-protos", greatest.protos(), help::MAX_PROTOS),
-        ("max-fields", greatest.fields(), help::MAX_FIELDS),
-        ("max-methods", greatest.methods(), help::MAX_METHODS),
-        ("max-weight", greatest.weight(), help::MAX_WEIGHT),
+        .arg(flag(alloc, "strip", help::STRIP))?;
+    let caps = Caps::greatest();
+    for (id, least, greatest, help) in [
+        ("fan", LEAST_FAN, GREATEST_FAN, help::FAN),
+        ("max-types", 0, caps.types(), help::MAX_TYPES),
+        ("max-protos", 0, caps.protos(), help::MAX_PROTOS),
+        ("max-fields", 0, caps.fields(), help::MAX_FIELDS),
+        ("max-methods", 0, caps.methods(), help::MAX_METHODS),
+        ("max-weight", 0, caps.weight(), help::MAX_WEIGHT),
     ] {
-        command = command.arg(most(alloc, id, greatest, help))?;
+        command = command.arg(number(alloc, id, least, greatest, help))?;
     }
     command.arg(files(alloc))
 }
 
-// Returns a command that reads one file and writes another.
-fn file_and_out<'a>(
-    alloc: Global,
-    name: &'a str,
-    about: &'a str,
-    long_about: &'a str,
-) -> Result<Command<'a>, AllocError> {
-    Command::new(alloc, name)
-        .about(about)
-        .long_about(long_about)
+// Adds the names of the file that a command reads and of the file that it writes.
+fn file_and_out<'a>(alloc: Global, command: Command<'a>) -> Result<Command<'a>, AllocError> {
+    command
         .arg(one(alloc, "file", "FILE", help::FILE))?
         .arg(one(alloc, "out", "OUT", help::OUT))
 }
 
 fn normalise<'a>(alloc: Global) -> Result<Command<'a>, AllocError> {
-    file_and_out(alloc, "normalise", help::NORMALISE, help::NORMALISE_LONG)?.visible_alias(
-        "normalize",
-    )
-}
-
-// Returns a command that prints lines about files.
-fn over_files<'a>(
-    alloc: Global,
-    name: &'a str,
-    about: &'a str,
-    long_about: &'a str,
-) -> Result<Command<'a>, AllocError> {
-    Command::new(alloc, name)
-        .about(about)
-        .long_about(long_about)
-        .arg(files(alloc))
+    let command = described(alloc, "normalise", help::NORMALISE, help::NORMALISE_LONG);
+    file_and_out(alloc, command.visible_alias("normalize")?)
 }
 
 fn dump<'a>(alloc: Global) -> Result<Command<'a>, AllocError> {
@@ -147,58 +116,47 @@ fn dump<'a>(alloc: Global) -> Result<Command<'a>, AllocError> {
 
 // Returns the program without its commands.
 fn program<'a>(alloc: Global) -> Result<Command<'a>, AllocError> {
-    Ok(
-        Command::new(alloc, "dexkit")
-            .about(help::ABOUT)
-            .version(help::VERSION)
-            .after_help(help::EXAMPLES_AND_STATUSES)
-            .bin_name("dexkit")?
-            .no_binary_name(true)
-            .subcommand_required(true),
-    )
-}
-
-// Adds a command to the program, if there was memory for it.
-fn with<'a>(
-    program: Command<'a>,
-    command: Result<Command<'a>, AllocError>,
-) -> Result<Command<'a>, AllocError> {
-    program.subcommand(command?)
+    Command::new(alloc, "dexkit")
+        .about(help::ABOUT)
+        .version(help::VERSION)
+        .after_help(help::EXAMPLES_AND_STATUSES)
+        .no_binary_name(true)
+        .subcommand_required(true)
+        .bin_name("dexkit")
 }
 
 // Returns the program with its commands, in the order of the help.
 fn command<'a>(alloc: Global) -> Result<Command<'a>, AllocError> {
-    let program = with(program(alloc)?, check(alloc))?;
-    let program = with(program, merge(alloc))?;
-    let program = with(program, normalise(alloc))?;
-    let digest = over_files(alloc, "digest", help::DIGEST, help::DIGEST_LONG);
-    let program = with(program, digest)?;
-    let count = over_files(alloc, "count", help::COUNT, help::COUNT_LONG);
-    let program = with(program, count)?;
-    let program = with(program, dump(alloc))?;
-    let repair = file_and_out(alloc, "repair", help::REPAIR, help::REPAIR_LONG);
-    with(program, repair)
+    let mut program = program(alloc)?;
+    for command in [
+        check(alloc),
+        merge(alloc),
+        normalise(alloc),
+        described(alloc, "digest", help::DIGEST, help::DIGEST_LONG).arg(files(alloc)),
+        described(alloc, "count", help::COUNT, help::COUNT_LONG).arg(files(alloc)),
+        dump(alloc),
+        file_and_out(
+            alloc,
+            described(alloc, "repair", help::REPAIR, help::REPAIR_LONG),
+        ),
+    ] {
+        program = program.subcommand(command?)?;
+    }
+    Ok(program)
 }
 
 fn text_of(alloc: Global, matches: &ArgMatches<'_>, id: &str) -> Result<String, AllocError> {
     String::from_str(alloc, matches.get_str(id).unwrap_or(""))
 }
 
-// Returns the names of the file that a command reads and of the file that it writes.
-fn file_and_out_of(
-    alloc: Global,
-    matches: &ArgMatches<'_>,
-) -> Result<(String, String), AllocError> {
-    let file = text_of(alloc, matches, "file")?;
-    let out = text_of(alloc, matches, "out")?;
-    Ok((file, out))
-}
-
 // Returns the files of a command; `None` if there are none.
 fn files_of(alloc: Global, matches: &ArgMatches<'_>) -> Result<Option<Vec<String>>, AllocError>
     ensures { IfOk result (λ files. IfSome files (λ files. 0 < vec_len files)) }
 {
-    let files = owned(alloc, matches.get_strs("files").unwrap_or(&[]))?;
+    let names = matches.get_strs("files").unwrap_or(&[]).iter();
+    let files: Vec<String> = names
+        .map(|name| String::from_str(alloc, name))
+        .try_collect(alloc)?;
     Ok((!files.is_empty()).then_some(files))
 }
 
@@ -219,26 +177,11 @@ fn caps_of(matches: &ArgMatches<'_>) -> Option<Caps>
     Some(caps)
 }
 
-fn check_of(alloc: Global, matches: &ArgMatches<'_>) -> Result<Option<Job>, AllocError>
-    ensures { IfOk result (λ job. IfSome job IsSound) }
-{
-    let Some(files) = files_of(alloc, matches)? else {
-        return Ok(None);
-    };
-    if matches.get_flag("keep-going") {
-        return Ok(Some(Job::KeepChecking(files)));
-    }
-    Ok(Some(Job::Check(files)))
-}
-
 fn merge_of(alloc: Global, matches: &ArgMatches<'_>) -> Result<Option<Job>, AllocError>
     ensures { IfOk result (λ job. IfSome job IsSound) }
 {
-    let fan = match matches.get_one::<u16>("fan") {
-        Some(fan) if fan < LEAST_FAN => return Ok(None),
-        Some(fan) => Some(usize::from(fan)),
-        None => None,
-    };
+    let fan = matches.get_one::<u32>("fan");
+    let fan = fan.map(|fan| fan.clamp(LEAST_FAN, GREATEST_FAN) as usize);
     let Some(caps) = caps_of(matches) else {
         return Ok(None);
     };
@@ -253,43 +196,22 @@ fn merge_of(alloc: Global, matches: &ArgMatches<'_>) -> Result<Option<Job>, Allo
 fn job_of(alloc: Global, matches: &ArgMatches<'_>) -> Result<Option<Job>, AllocError>
     ensures { IfOk result (λ job. IfSome job IsSound) }
 {
-    match matches.subcommand() {
-        Some(("check", found)) => check_of(alloc, found),
-        Some(("merge", found)) => merge_of(alloc, found),
-        Some(("normalise", found)) => {
-            let (file, out) = file_and_out_of(alloc, found)?;
-            Ok(Some(Job::Normalise(file, out)))
+    let Some((name, found)) = matches.subcommand() else {
+        return Ok(None);
+    };
+    let text = |id| text_of(alloc, found, id);
+    match name {
+        "check" if found.get_flag("keep-going") => {
+            Ok(files_of(alloc, found)?.map(Job::KeepChecking))
         }
-        Some(("digest", found)) => Ok(files_of(alloc, found)?.map(Job::Digest)),
-        Some(("count", found)) => Ok(files_of(alloc, found)?.map(Job::Count)),
-        Some(("dump", found)) => Ok(Some(Job::Dump(text_of(alloc, found, "file")?))),
-        Some(("repair", found)) => {
-            let (file, out) = file_and_out_of(alloc, found)?;
-            Ok(Some(Job::Repair(file, out)))
-        }
+        "check" => Ok(files_of(alloc, found)?.map(Job::Check)),
+        "merge" => merge_of(alloc, found),
+        "normalise" => Ok(Some(Job::Normalise(text("file")?, text("out")?))),
+        "digest" => Ok(files_of(alloc, found)?.map(Job::Digest)),
+        "count" => Ok(files_of(alloc, found)?.map(Job::Count)),
+        "dump" => Ok(Some(Job::Dump(text("file")?))),
+        "repair" => Ok(Some(Job::Repair(text("file")?, text("out")?))),
         _ => Ok(None),
-    }
-}
-
-// Returns the job that the arguments ask for, if the command is known.
-fn found_job<'a>(
-    alloc: Global,
-    command: &mut Command<'a>,
-    words: &'a [&'a str],
-) -> Result<Option<Job>, Error>
-    ensures { IfOk result (λ job. IfSome job IsSound) }
-{
-    let matches = command.try_get_matches_from_mut(words)?;
-    Ok(job_of(alloc, &matches)?)
-}
-
-// Returns the job that the arguments ask for.
-fn job_in<'a>(alloc: Global, command: &mut Command<'a>, words: &'a [&'a str]) -> Result<Job, Error>
-    ensures { IfOk result IsSound }
-{
-    match found_job(alloc, command, words)? {
-        Some(job) => Ok(job),
-        None => Err(command.error(ErrorKind::ValueValidation, "no such command")?),
     }
 }
 
@@ -301,5 +223,9 @@ pub fn read_words(alloc: Global, words: &[&str]) -> Result<Job, Error>
     ensures { IfOk result IsSound }
 {
     let mut command = command(alloc)?;
-    job_in(alloc, &mut command, words)
+    let matches = command.try_get_matches_from_mut(words)?;
+    match job_of(alloc, &matches)? {
+        Some(job) => Ok(job),
+        None => Err(command.error(ErrorKind::ValueValidation, "no such command")?),
+    }
 }

@@ -5,7 +5,7 @@
 
 ghost use Rattle.std.specs.Prelude.{◌≡◌, false, All};
 ghost use Rattle.dexcode.specs.Meaning.{IsKnownCode};
-ghost use Rattle.dexmembers.specs.Numbered.{AreKnownMembers, IsKnownField, IsKnownMethod};
+ghost use Rattle.dexmembers.specs.Numbered.{IsKnownField, IsKnownMethod};
 ghost use Rattle.dexclass.specs.Uses.{IsKnownClass};
 ghost use Rattle.dexlisting.specs.internal.Going.{GoesOn};
 ghost use Rattle.dexlisting.specs.internal.Known.{IsKnownKind};
@@ -14,8 +14,8 @@ use crate::listing_buffer::Listing;
 use dexclass::Class;
 use dexcode::Code;
 use dexhead::{DeviceFault, Sink};
-use dexinsn::{Piece, PieceKind, mnemonic};
-use dexmembers::{Fields, Members, Method, Methods};
+use dexinsn::{PieceKind, mnemonic};
+use dexmembers::{Fields, Methods};
 
 impl<W: Sink> Listing<'_, '_, '_, W> {
     /// Puts the lines of classes, and writes all that is buffered.
@@ -31,16 +31,29 @@ impl<W: Sink> Listing<'_, '_, '_, W> {
         self.flush()
     }
 
-    // Puts the lines of a class: its own, those of its interfaces and of its source, and those of what it declares.
+    // Puts the lines of a class: its own, those of its interfaces and of its source, and those of what it declares, the
+    // methods with their code.
     fn put_class(&mut self, class: &Class<'_>) -> Result<(), DeviceFault>
         requires works { W.has_failed self.old.out.now ≡ false }
         requires known { IsKnownClass self.old.numbering.now class.now }
         ensures { GoesOn W.has_failed self.old self.new result }
     {
         self.put_own_line(class)?;
-        self.put_interfaces(class)?;
-        self.put_source(class)?;
-        self.put_members(class.members())
+        for interface in class.interfaces() {
+            self.put(b"  interface ")?;
+            self.put_type(*interface)?;
+            self.put_byte(b'\n')?;
+        }
+        if let Some(source) = class.source() {
+            self.put(b"  source ")?;
+            self.put_quoted(self.numbering.string(source))?;
+            self.put_byte(b'\n')?;
+        }
+        let members = class.members();
+        self.put_fields(b"  static-field ", &members.static_fields())?;
+        self.put_fields(b"  instance-field ", &members.instance_fields())?;
+        self.put_methods(b"  direct-method ", &members.direct_methods())?;
+        self.put_methods(b"  virtual-method ", &members.virtual_methods())
     }
 
     // Puts the line with the name, the flags and the superclass.
@@ -59,46 +72,6 @@ impl<W: Sink> Listing<'_, '_, '_, W> {
             None => self.put_byte(b'-')?,
         }
         self.put_byte(b'\n')
-    }
-
-    // Puts a line for each interface.
-    fn put_interfaces(&mut self, class: &Class<'_>) -> Result<(), DeviceFault>
-        requires works { W.has_failed self.old.out.now ≡ false }
-        requires known { IsKnownClass self.old.numbering.now class.now }
-        ensures { GoesOn W.has_failed self.old self.new result }
-    {
-        for interface in class.interfaces() {
-            self.put(b"  interface ")?;
-            self.put_type(*interface)?;
-            self.put_byte(b'\n')?;
-        }
-        Ok(())
-    }
-
-    // Puts the line of the source, if there is one.
-    fn put_source(&mut self, class: &Class<'_>) -> Result<(), DeviceFault>
-        requires works { W.has_failed self.old.out.now ≡ false }
-        requires known { IsKnownClass self.old.numbering.now class.now }
-        ensures { GoesOn W.has_failed self.old self.new result }
-    {
-        let Some(source) = class.source() else {
-            return Ok(());
-        };
-        self.put(b"  source ")?;
-        self.put_quoted(self.numbering.string(source))?;
-        self.put_byte(b'\n')
-    }
-
-    // Puts the lines of what a class declares: its fields, and its methods with their code.
-    fn put_members(&mut self, members: &Members<'_>) -> Result<(), DeviceFault>
-        requires works { W.has_failed self.old.out.now ≡ false }
-        requires known { AreKnownMembers self.old.numbering.now members.now }
-        ensures { GoesOn W.has_failed self.old self.new result }
-    {
-        self.put_fields(b"  static-field ", &members.static_fields())?;
-        self.put_fields(b"  instance-field ", &members.instance_fields())?;
-        self.put_methods(b"  direct-method ", &members.direct_methods())?;
-        self.put_methods(b"  virtual-method ", &members.virtual_methods())
     }
 
     // Puts the lines of fields, which begin with these words.
@@ -125,44 +98,24 @@ impl<W: Sink> Listing<'_, '_, '_, W> {
         ensures { GoesOn W.has_failed self.old self.new result }
     {
         for i in 0..methods.len() {
+            let method = methods.get(i);
             self.put(words)?;
-            self.put_rest(&methods.get(i))?;
+            self.put_own_method(method.number() as usize)?;
+            self.put(b" flags=")?;
+            self.put_flags(&method.flags())?;
+            self.put_byte(b'\n')?;
+            if let Some(code) = method.code() {
+                self.put_code(code)?;
+            }
         }
         Ok(())
     }
 
-    // Puts the rest of a method's line, and the lines of its code.
-    fn put_rest(&mut self, method: &Method<'_, '_>) -> Result<(), DeviceFault>
-        requires works { W.has_failed self.old.out.now ≡ false }
-        requires known { IsKnownMethod self.old.numbering.now method.now }
-        ensures { GoesOn W.has_failed self.old self.new result }
-    {
-        self.put_own_method(method.number() as usize)?;
-        self.put(b" flags=")?;
-        self.put_flags(&method.flags())?;
-        self.put_byte(b'\n')?;
-        match method.code() {
-            Some(code) => self.put_code(code),
-            None => Ok(()),
-        }
-    }
-
-    // Puts the lines of code.
+    // Puts the lines of code: that of the whole, what it has how many of, and one for each instruction or payload, with
+    // the unit at which it begins.
     fn put_code(&mut self, code: &Code<'_>) -> Result<(), DeviceFault>
         requires works { W.has_failed self.old.out.now ≡ false }
         requires known { IsKnownCode self.old.numbering.now code.now }
-        ensures { GoesOn W.has_failed self.old self.new result }
-    {
-        self.put_counts(code)?;
-        for piece in code.pieces().iter() {
-            self.put_piece(&piece)?;
-        }
-        Ok(())
-    }
-
-    // Puts the line of the whole of code: what it has how many of.
-    fn put_counts(&mut self, code: &Code<'_>) -> Result<(), DeviceFault>
-        requires { W.has_failed self.old.out.now ≡ false }
         ensures { GoesOn W.has_failed self.old self.new result }
     {
         let pieces = code.pieces();
@@ -171,20 +124,15 @@ impl<W: Sink> Listing<'_, '_, '_, W> {
         self.put_count(b" outs=", usize::from(pieces.outs()))?;
         self.put_count(b" units=", pieces.units() as usize)?;
         self.put_count(b" tries=", code.tries().tries().len())?;
-        self.put_byte(b'\n')
-    }
-
-    // Puts the line of an instruction or payload: the unit at which it begins, and what it is.
-    fn put_piece(&mut self, piece: &Piece) -> Result<(), DeviceFault>
-        requires works { W.has_failed self.old.out.now ≡ false }
-        requires known { IsKnownKind self.old.numbering.now piece.now.kind }
-        ensures { GoesOn W.has_failed self.old self.new result }
-    {
-        self.put(b"    ")?;
-        self.put_hexadecimal(piece.unit)?;
-        self.put(b": ")?;
-        self.put_kind(piece.kind)?;
-        self.put_byte(b'\n')
+        self.put_byte(b'\n')?;
+        for piece in pieces.iter() {
+            self.put(b"    ")?;
+            self.put_hexadecimal(piece.unit)?;
+            self.put(b": ")?;
+            self.put_kind(piece.kind)?;
+            self.put_byte(b'\n')?;
+        }
+        Ok(())
     }
 
     // Puts what an instruction or payload is.

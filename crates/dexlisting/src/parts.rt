@@ -19,7 +19,11 @@ impl<W: Sink> Listing<'_, '_, '_, W> {
         ensures { GoesOn W.has_failed self.old self.new result }
     {
         for unit in text.units() {
-            self.put_unit(unit)?;
+            match u8::try_from(unit) {
+                Ok(byte @ (b'"' | b'\\')) => self.put(&[b'\\', byte])?,
+                Ok(byte @ 0x20..=0x7e) => self.put_byte(byte)?,
+                _ => self.put(&escaped(unit))?,
+            }
         }
         Ok(())
     }
@@ -32,18 +36,6 @@ impl<W: Sink> Listing<'_, '_, '_, W> {
         self.put_byte(b'"')?;
         self.put_text(text)?;
         self.put_byte(b'"')
-    }
-
-    // Puts a unit of a text.
-    fn put_unit(&mut self, unit: u16) -> Result<(), DeviceFault>
-        requires { W.has_failed self.old.out.now ≡ false }
-        ensures { GoesOn W.has_failed self.old self.new result }
-    {
-        match u8::try_from(unit) {
-            Ok(byte @ (b'"' | b'\\')) => self.put(&[b'\\', byte]),
-            Ok(byte @ 0x20..=0x7e) => self.put_byte(byte),
-            _ => self.put(&escaped(unit)),
-        }
     }
 
     /// Puts words, and a number in decimal after them.
@@ -156,10 +148,8 @@ impl<W: Sink> Listing<'_, '_, '_, W> {
 // The eight digits of a number in lower-case hexadecimal.
 fn eight_digits(number: u32) -> [u8; 8] {
     let mut digits = [b'0'; 8];
-    let mut rest = number;
     for i in 0..8 {
-        digits[7 - i] = hexadecimal_digit((rest % 16) as u16);
-        rest /= 16;
+        digits[i] = hexadecimal_digit(((number >> (28 - 4 * i)) % 16) as u16);
     }
     digits
 }

@@ -1,5 +1,6 @@
 -- Lists that are made member by member from the members of others.
-use Rattle.dexval.proofs.Common.{◌≡◌, ℕ, ◌+◌, ◌<◌, ◌≤◌, List, [], ◌∷◌, ◌++◌, length, get_or, take, map, sym, ap, subst, ◌∙◌, map-append, map_more, take_all}
+use Rattle.dexval.proofs.Common.{◌≡◌, ℕ, ◌+◌, ◌<◌, ◌≤◌, List, [], ◌∷◌, ◌++◌, length, get_or, take, map, refl, sym, ap, subst, Result, Ok, Err, AllZip, ◌∙◌, map-append, map_more, take_all}
+use Rattle.std.specs.Prelude.{IfOk, MatchResult}
 use Rattle.std.proofs.lemmas.List.{take-map}
 
 module _ {X Y Z : Type 0} (f : X → Z) (g : Y → Z) (ys seen : List Y) (same : seen ≡ ys) where
@@ -15,3 +16,15 @@ module _ {X Y Z : Type 0} (f : X → Z) (g : Y → Z) (ys seen : List Y) (same :
 -- the first members of a list that is another's image
 pub seen_so : {X Z : Type 0} (f : X → Z) (ys : List X) (i : ℕ) {zs : List Z} → map f ys ≡ zs → map f (take i ys) ≡ take i zs
 seen_so f ys i is = sym (take-map f i ys) ∙ ap (take i) is
+
+-- clones, as a function sees them that does not tell a value from its clone
+pub clones_are : {X Y : Type 0} (f : X → Y) (IsClone : X → X → Type 0) → ((x y : X) → IsClone x y → f y ≡ f x) → (xs ys : List X) → AllZip IsClone xs ys → map f ys ≡ map f xs
+clones_are f IsClone same [] [] zip = refl
+clones_are f IsClone same [] (y ∷ ys) zip = absurd zip
+clones_are f IsClone same (x ∷ xs) [] zip = absurd zip
+clones_are f IsClone same (x ∷ xs) (y ∷ ys) zip = λ k. same x y zip.0 k ∷ clones_are f IsClone same xs ys zip.1 k
+
+-- what holds of each clone holds of one that is made
+pub clone_made : {X E : Type 0} (IsClone Is : X → Type 0) (Fails : E → Type 0) → ((x : X) → IsClone x → Is x) → (r : Result X E) → MatchResult r IsClone Fails → IfOk r Is
+clone_made IsClone Is Fails so (Ok x) h = so x h
+clone_made IsClone Is Fails so (Err e) h = tt

@@ -30,6 +30,11 @@ mutual
   elements_weight_is m NoElement = refl
   elements_weight_is m (ThenNamed name x es) = omega (arith, weight_is m x, elements_weight_is m es)
 
+-- a weight that is that of the value whatever the numbers denote
+pub weighs_numbers : (x : NumberedValue) (weight : ℕ) → ((m : Mentions) → weight ≡ min (2 ^ 64 - 1) (value_weight (value_in m x))) → weight ≡ min (2 ^ 64 - 1) (numbered_weight x)
+weighs_numbers x weight weighs =
+    let m : Mentions = record { texts = []; types = []; protos = []; fields = []; methods = [] } in weighs m ∙ ap (λ (n : ℕ). min (2 ^ 64 - 1) n) (sym (weight_is m x))
+
 sum_is : (m : Mentions) (xs : NumberedSet) → sum_by (λ (a : NumberedAnnotation). 4 + numbered_annotation_weight a) xs ≡ sum_by (λ a. 4 + annotation_weight a) (set_in m xs)
 sum_is m [] = refl
 sum_is m (x ∷ xs) =
@@ -73,6 +78,12 @@ places_sum m sets (p ∷ ps) =
     omega (arith, sum_by-cons (λ p. 4 + set_weight (set_in m (set_at sets p))) p ps, sum_by-cons set_weight (set_in m (set_at sets p)) (map (set_in m) (map (set_at sets) ps)), places_sum m sets ps)
 
 -- the sets of a list by their places, at least one
-pub places_weigh : (m : Mentions) (sets : List NumberedSet) (ps : List (Option ℕ)) → 0 < length ps → 8 + sum_by (λ p. 4 + set_weight (set_in m (set_at sets p))) ps ≡ ref_list_weight (map (set_in m) (map (set_at sets) ps))
+places_weigh : (m : Mentions) (sets : List NumberedSet) (ps : List (Option ℕ)) → 0 < length ps → 8 + sum_by (λ p. 4 + set_weight (set_in m (set_at sets p))) ps ≡ ref_list_weight (map (set_in m) (map (set_at sets) ps))
 places_weigh m sets [] some = absurd (omega arith)
 places_weigh m sets (p ∷ ps) some = omega (arith, places_sum m sets (p ∷ ps))
+
+-- the weight of a list, by the places of its sets
+pub places_weighed : (m : Mentions) (sets : List NumberedSet) (ps : List (Option ℕ)) (weight : ℕ) → (length ps ≡ 0 → weight ≡ 0) → (0 < length ps → weight ≡ min (2 ^ 64 - 1) (8 + sum_by (λ p. 4 + set_weight (set_in m (set_at sets p))) ps))
+    → weight ≡ min (2 ^ 64 - 1) (ref_list_weight (map (set_in m) (map (set_at sets) ps)))
+places_weighed m sets [] weight none some = omega (arith, none refl)
+places_weighed m sets (p ∷ ps) weight none some = some (omega arith) ∙ ap (λ (n : ℕ). min (2 ^ 64 - 1) n) (places_weigh m sets (p ∷ ps) (omega arith))

@@ -21,7 +21,7 @@ pub enum Visibility {
 /// An annotation and its visibility.
 ///
 /// Source: "annotation_item".
-#[derive(Debug, Drop, PartialEq, Eq, Hash)]
+#[derive(Clone, Debug, Drop, PartialEq, Eq, Hash)]
 pub struct Annotation {
     pub visibility: Visibility,
     pub annotation: EncodedAnnotation,

@@ -3,7 +3,7 @@
 ghost use Rattle.std.specs.Prelude.{◌≡◌, IfOk, map};
 ghost use Rattle.dexval.specs.Code.{value_of, encoded_of, set_of};
 
-use crate::{Annotation, AnnotationSet, Element, EncodedAnnotation, Value};
+use crate::{AnnotationSet, Element, EncodedAnnotation, Value};
 use std::alloc::AllocError;
 
 /// The same values, as those of static fields, with copies of all contents.
@@ -41,7 +41,7 @@ impl Value {
             Value::Enum(number) => Value::Enum(*number),
             Value::Array(held) => Value::Array(Box::new(*held.allocator(), copied_values(held)?)?),
             Value::Annotation(held) => {
-                Value::Annotation(Box::new(*held.elements.allocator(), held.copy()?)?)
+                Value::Annotation(Box::new(*held.elements.allocator(), (**held).clone()?)?)
             }
             Value::Null => Value::Null,
             Value::Boolean(is) => Value::Boolean(*is),
@@ -49,12 +49,11 @@ impl Value {
     }
 }
 
-impl EncodedAnnotation {
-    // The same encoded_annotation.
+impl Clone for EncodedAnnotation {
+    ghost is_clone = { λ annotation copy. encoded_of copy ≡ encoded_of annotation };
+
     #[cycle(copying)]
-    fn copy(&self) -> Result<Self, AllocError>
-        ensures { IfOk result (λ copy. encoded_of copy ≡ encoded_of self.now) }
-    {
+    fn clone(&self) -> Result<EncodedAnnotation, AllocError> {
         let typ = self.typ;
         let mut elements = Vec::with_capacity(*self.elements.allocator(), self.elements.len())?;
         for element in &self.elements {
@@ -72,14 +71,6 @@ impl AnnotationSet {
     pub fn copy(&self) -> Result<Self, AllocError>
         ensures { IfOk result (λ copy. set_of copy ≡ set_of self.now) }
     {
-        let alloc = *self.annotations.allocator();
-        let mut annotations = Vec::with_capacity(alloc, self.annotations.len())?;
-        for annotation in &self.annotations {
-            annotations.push(Annotation {
-                visibility: annotation.visibility,
-                annotation: annotation.annotation.copy()?,
-            })?;
-        }
-        Ok(AnnotationSet { annotations })
+        self.clone()
     }
 }

@@ -37,10 +37,9 @@ impl Budget {
         ensures refused { IfErr result (IsTooHeavy self.old weight) }
     {
         self.weight = self.weight.saturating_add(weight);
-        if self.weight > self.most {
-            return Err(ItemFault::Refused(Condition::Weight as u8));
-        }
-        Ok(())
+        let fits = self.weight <= self.most;
+        fits.then_some(())
+            .ok_or(ItemFault::Refused(Condition::Weight as u8))
     }
 }
 

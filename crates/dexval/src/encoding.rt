@@ -129,17 +129,15 @@ impl Encode for Value {
 
 /// Values, to be encoded as an encoded_array.
 #[derive(Drop)]
-pub(crate) struct ArrayItem<'a> {
-    pub(crate) values: &'a [Value],
-}
+pub(crate) struct ArrayItem<'a>(pub(crate) &'a [Value]);
 
 impl Encode for ArrayItem<'_> {
     ghost formed = { λ _. ⊤ };
 
-    ghost bytes = { λ i. numbered_array_bytes (values_of_list (map value_of i.values.now)) };
+    ghost bytes = { λ i. numbered_array_bytes (values_of_list (map value_of i.0.now)) };
 
     fn encode<O: Output>(&self, out: &mut O) {
-        encode_array(self.values, out);
+        encode_array(self.0, out);
     }
 }
 

@@ -60,7 +60,7 @@ pub fn put_statics(
         → IsOk result }
 {
     numbering.is_numbering();
-    put_encoded(&ArrayItem { values }, out)
+    put_encoded(&ArrayItem(values), out)
 }
 
 /// Appends an annotation (an annotation_item): its visibility, its type, and its elements in their order, each value as

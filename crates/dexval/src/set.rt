@@ -9,7 +9,7 @@ use std::alloc::Global;
 /// The annotations of a class, of a member or of a parameter, by type.
 ///
 /// Source: "annotation_set_item".
-#[derive(Debug, Drop)]
+#[derive(Clone, Debug, Drop)]
 pub struct AnnotationSet {
     pub(crate) annotations: Vec<Annotation>,
 }

@@ -7,6 +7,7 @@ ghost use Rattle.dexval.specs.Directories.{set_weight_in, sets_weight_in};
 ghost use Rattle.dexval.specs.Tables.{Extends, IsPlaceIn, set_at, places_at, sets_at, AreRemappedSets, with_set, with_list};
 
 use crate::set::AnnotationSet;
+use crate::weight::listed_weight;
 use dexpool::Remap;
 use std::alloc::{AllocError, Global};
 use std::marker::Model;
@@ -88,15 +89,14 @@ impl SetTable {
         }
     }
 
-    /// The weight of the set at a place, or 2^64 - 1 if it weighs more.
-    ///
-    /// Condition: the place is one of the sets'.
+    /// The weight of the set at a place, or 2^64 - 1 if it weighs more. Where no set is, the weight is 0.
     pub(crate) fn set_weight(&self, place: Option<u32>) -> u64
-        requires { IsPlaceIn self.now.sets place }
         ensures { (m : Mentions)
             → result ≡ min (2 ^ 64 - 1) (set_weight_in m (set_at self.now.sets place)) }
     {
-        self.set(place).map_or(0, |set| set.weight())
+        let Some(place) = place else { return 0 };
+        let set = self.sets.get(place as usize);
+        set.map_or(0, |set| set.weight())
     }
 
     /// The weight of the list at a place and its sets, each set as often as it occurs, or 2^64 - 1 if they weigh more.
@@ -107,16 +107,7 @@ impl SetTable {
         ensures { (m : Mentions)
             → result ≡ min (2 ^ 64 - 1) (sets_weight_in m (sets_at self.now place)) }
     {
-        let places = self.list(place);
-        if places.is_empty() {
-            return 0;
-        }
-        let mut weight: u64 = 8;
-        for place in places {
-            let set = self.set_weight(*place);
-            weight = weight.saturating_add(4).saturating_add(set);
-        }
-        weight
+        listed_weight(self.list(place), |place| self.set_weight(*place))
     }
 
     /// Adds a set. Returns its place.

@@ -5,7 +5,7 @@ ghost use Rattle.dexpool.specs.Pools.{ArePools};
 ghost use Rattle.dexpool.specs.declared.faults.ItemFault.TheVariants.{Refused};
 ghost use Rattle.dexval.specs.Reading.{IsValueFault, IsStaticsFault};
 ghost use Rattle.dexval.specs.Results.{HasValueShape, HasStaticsShape};
-ghost use Rattle.dexval.specs.internal.Found.{MeasuresEncodedValue, MeasuresStatics, FindsUleb128, MeasuresValue, MeasuresScalar, MeasuresArray, MeasuresElement, MeasuresElements, MeasuresAnnotation};
+ghost use Rattle.dexval.specs.internal.Found.{MeasuresEncodedValue, MeasuresStatics, FindsUleb128, MeasuresValue, MeasuresArray, MeasuresElement, MeasuresElements, MeasuresAnnotation};
 ghost use Rattle.dexval.specs.Nesting.{HasPools};
 
 use crate::scalars::scalar_at;
@@ -41,19 +41,6 @@ pub(crate) struct ValueChecker<'a> {
 }
 
 impl ValueChecker<'_> {
-    // The measure of the value at an offset that holds no other value, or `None` if there is none.
-    fn scalar_measure(&self, at: usize) -> Option<Measure>
-        requires within { at < length self.now.bytes.now }
-        requires array { slice_index self.now.bytes.now at ≢ 0x1c }
-        requires annotation { slice_index self.now.bytes.now at ≢ 0x1d }
-        ensures checked { ArePools self.now.bytes.now self.now.pools.now → MeasuresScalar self.now.bytes.now at self.now.pools.now result }
-        ensures within { IfSome result (λ value. at + value.size ≤ length self.now.bytes.now) }
-        ensures light { IfSome result (λ value. value.weight ≤ 9 * value.size) }
-    {
-        let (_, size) = scalar_at(self.bytes, self.pools, at)?;
-        Some(Measure { size, weight: 9 })
-    }
-
     /// The measure of the value at an offset, or `None` if there is none that nests at most `depth` deep.
     #[cycle(checking)]
     pub(crate) fn value_measure(&self, at: usize, depth: u32) -> Option<Measure>
@@ -82,7 +69,10 @@ impl ValueChecker<'_> {
                     weight: annotation.weight,
                 })
             }
-            _ => self.scalar_measure(at),
+            _ => {
+                let (_, size) = scalar_at(self.bytes, self.pools, at)?;
+                Some(Measure { size, weight: 9 })
+            }
         }
     }
 

@@ -11,18 +11,6 @@ ghost use Rattle.dexval.specs.Writing.{weight_of_statics, weight_of_sets};
 
 use crate::{AnnotationSet, EncodedAnnotation, Value};
 
-// The weight of a value, or 2^64 - 1 if it weighs more.
-#[cycle(weighing)]
-fn value_weight(value: &Value) -> u64
-    ensures { result ≡ min (2 ^ 64 - 1) (numbered_weight (value_of value.now)) }
-{
-    match value {
-        Value::Array(values) => 6u64.saturating_add(values_weight(values)),
-        Value::Annotation(annotation) => annotation_weight(annotation),
-        _ => 9,
-    }
-}
-
 // The weight of values together.
 #[cycle(weighing)]
 fn values_weight(values: &[Value]) -> u64
@@ -31,7 +19,7 @@ fn values_weight(values: &[Value]) -> u64
 {
     let mut weight: u64 = 0;
     for value in values {
-        weight = weight.saturating_add(value_weight(value));
+        weight = weight.saturating_add(value.weight());
     }
     weight
 }
@@ -43,15 +31,15 @@ fn annotation_weight(annotation: &EncodedAnnotation) -> u64
 {
     let mut weight: u64 = 12;
     for element in &annotation.elements {
-        let value = value_weight(&element.value);
+        let value = element.value.weight();
         weight = weight.saturating_add(5).saturating_add(value);
     }
     weight
 }
 
-// The weight of items in a list: 8, and for each item its weight and 4 for its offset, or 2^64 - 1 if that is more. An
-// empty list weighs nothing.
-fn listed_weight<T, F: Fn(&T) -> u64>(items: &[T], weight_of: F) -> u64
+/// The weight of items in a list: 8, and for each item its weight and 4 for its offset, or 2^64 - 1 if that is more. An
+/// empty list weighs nothing.
+pub(crate) fn listed_weight<T, F: Fn(&T) -> u64>(items: &[T], weight_of: F) -> u64
     requires { F.IsAlwaysCallable weight_of }
     ensures none { length items.now ≡ 0 → result ≡ 0 }
     ensures some { 0 < length items.now → (weighs : T → ℕ) → ((item : T) (weight : ℕ)
@@ -70,12 +58,17 @@ fn listed_weight<T, F: Fn(&T) -> u64>(items: &[T], weight_of: F) -> u64
 
 impl Value {
     /// The weight of the value, or 2^64 - 1 if it weighs more. It is at least the size of its shortest encoding.
+    #[cycle(weighing)]
     #[tactic(auto, using(crate::proofs::Weights::weight_is))]
     pub fn weight(&self) -> u64
         ensures { (m : Mentions)
             → result ≡ min (2 ^ 64 - 1) (value_weight (value_in m (value_of self.now))) }
     {
-        value_weight(self)
+        match self {
+            Value::Array(values) => 6u64.saturating_add(values_weight(values)),
+            Value::Annotation(annotation) => annotation_weight(annotation),
+            _ => 9,
+        }
     }
 }
 

@@ -72,10 +72,6 @@ IsAnnotationRead b o m depth read = IsAnnotationReadAt b o m depth (encoded_type
 abbrev pub MeasuresValue : List ℕ → ℕ → Mentions → ℕ → Option Measure → Type 0
 MeasuresValue b o m depth found = MatchOption found (NoValueAt b o depth) (λ value. HasValue b o m depth value.size value.weight)
 
--- the measure of a value that holds no other value, or none is at the offset
-abbrev pub MeasuresScalar : List ℕ → ℕ → Mentions → Option Measure → Type 0
-MeasuresScalar b o m found = (depth : ℕ) → MeasuresValue b o m depth found
-
 -- the number of the values of an encoded_array, and its measure
 abbrev pub MeasuresArray : List ℕ → ℕ → Mentions → ℕ → Option (ℕ × Measure) → Type 0
 MeasuresArray b o m depth found = MatchOption found (NoArrayAt b o depth) (λ array. HasArray b o m depth array.0 array.1.size array.1.weight)

@@ -1,7 +1,7 @@
 use Rattle.dexval.proofs.Common.{◌≡◌, ◌+◌, ℕ, refl, ap, subst, arith}
 use Rattle.dexval.proofs.ElementsRead.{nothing_after, no_array, no_annotation, no_such_name, no_such_type, no_name, no_value, no_type, no_element_count, no_elements}
 use Rattle.dexval.proofs.ValuesRead.{no_count}
-use Rattle.dexval.proofs.NestedChecked.{array_checked, annotation_checked, no_value_yet, one_value_checked, no_value_next, values_checked, no_element_yet, one_element_checked, no_element_next, elements_checked, annotation_of_elements, ElementsChecked}
+use Rattle.dexval.proofs.NestedChecked.{flat_checked, array_checked, annotation_checked, no_value_yet, one_value_checked, no_value_next, values_checked, no_element_yet, one_element_checked, no_element_next, elements_checked, annotation_of_elements, ElementsChecked}
 use Rattle.dexval.proofs.value_checking.ValueChecker.+checking.Goals.{element_measure-then-from-least-via-then-from-least, element_measure-then-from-least-via-else-from-least+then-name-len}
 use Rattle.dexval.proofs.value_checking.ValueChecker.+checking.Goals as goal
 
@@ -20,8 +20,11 @@ value_measure-returns-in_ok-annotation-in-29-clause-checked t c = λ p. annotati
 pub value_measure-returns-in_err-annotation-in-29-clause-checked : goal.value_measure-returns-in_err-annotation-in-29-clause-checked
 value_measure-returns-in_err-annotation-in-29-clause-checked t c = rw c.from_residual-in_err-annotation-in-29.ensures (λ p. no_annotation c.args.self.now.bytes.now c.args.at c.args.depth c.args.self.now.pools.now p.pools c.in-29.is (c.in_err-annotation-in-29.ensures.checked p))
 
-pub value_measure-returns-in_default-clause-checked : goal.value_measure-returns-in_default-clause-checked
-value_measure-returns-in_default-clause-checked t c = λ p. c.scalar_measure.ensures.checked p.pools c.args.depth
+pub value_measure-returns-in_ok-size-in_default-clause-checked : goal.value_measure-returns-in_ok-size-in_default-clause-checked
+value_measure-returns-in_ok-size-in_default-clause-checked t c = λ p. flat_checked c.args.self.now.bytes.now c.args.at c.args.self.now.pools.now c.args.depth _ c.in_ok-size-in_default.size (c.in_ok-size-in_default.ensures.read p.pools)
+
+pub value_measure-returns-in_err-size-in_default-clause-checked : goal.value_measure-returns-in_err-size-in_default-clause-checked
+value_measure-returns-in_err-size-in_default-clause-checked t c = rw c.from_residual-in_err-size-in_default.ensures (λ p. c.in_err-size-in_default.ensures.read p.pools c.args.depth)
 
 pub array_measure-returns-in_err-count-clause-checked : goal.array_measure-returns-in_err-count-clause-checked
 array_measure-returns-in_err-count-clause-checked t c = rw c.from_residual.ensures (λ p. no_count c.args.self.now.bytes.now c.args.self.now.pools.now c.args.at c.args.depth c.in_err-count.ensures.found)

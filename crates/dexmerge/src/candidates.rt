@@ -2,7 +2,7 @@
 
 ghost use Rattle.std.specs.Prelude.{◌≡◌, ◌↔◌, ◌<◌, IfOk, IsTrue, length};
 ghost use Rattle.dexmembers.specs.Fitting.{members_short_strings};
-ghost use Rattle.dexclass.specs.Renumbering.{IsMappedClass, remapped};
+ghost use Rattle.dexclass.specs.Renumbering.{IsMappedClass};
 ghost use Rattle.dexmerge.specs.Candidates.{class_of};
 ghost use Rattle.dexmerge.specs.internal.CandidateLists.{AreMembersOf, AreOfParts};
 ghost use Rattle.dexmerge.specs.Parts.{referents};
@@ -21,13 +21,6 @@ pub(crate) struct Candidate<'a, 'b> {
 }
 
 impl<'a, 'b> Candidate<'a, 'b> {
-    /// The number in the union of a type of the part.
-    fn remapped(&self, typ: usize) -> usize
-        ensures { result ≡ remapped self.now.remap.now.types typ }
-    {
-        self.remap.or_same(SymbolKind::Typ, typ)
-    }
-
     /// Whether the two are the same class of the union.
     pub(crate) fn is_same(&self, other: &Candidate<'_, '_>) -> bool
         ensures { IsTrue result ↔ (class_of self.now ≡ class_of other.now) }
@@ -62,11 +55,12 @@ impl<'a, 'b> HasParents for Candidate<'a, 'b> {
     ghost interfaces_of = { λ c. (class_of c).interfaces };
 
     fn name(&self) -> usize {
-        self.remapped(self.class.name())
+        self.remap.or_same(SymbolKind::Typ, self.class.name())
     }
 
     fn superclass(&self) -> Option<usize> {
-        Some(self.remapped(self.class.superclass()?))
+        let superclass = self.class.superclass()?;
+        Some(self.remap.or_same(SymbolKind::Typ, superclass))
     }
 
     fn interface_count(&self) -> usize {
@@ -74,7 +68,8 @@ impl<'a, 'b> HasParents for Candidate<'a, 'b> {
     }
 
     fn interface(&self, k: usize) -> usize {
-        self.remapped(self.class.interfaces()[k])
+        self.remap
+            .or_same(SymbolKind::Typ, self.class.interfaces()[k])
     }
 }
 

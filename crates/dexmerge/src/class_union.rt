@@ -6,9 +6,8 @@ ghost use Rattle.dexspec.specs.Mentions.{Mentions};
 ghost use Rattle.dexpool.specs.Numberings.{Maps};
 ghost use Rattle.dexclass.specs.Numbered.{NumberedClass};
 ghost use Rattle.dexclass.specs.Renumbering.{ClassHasPlaces, remapped, renumbered};
-ghost use Rattle.dexmerge.specs.Parts.{referents};
-ghost use Rattle.dexmerge.specs.internal.Collecting.{IsPartOf, ArePartsOf, HasCollected, HasMarks, HasPushed, HasMarked};
-ghost use Rattle.dexmerge.specs.internal.Collecting.{HasPlaces, CollectsPart, CollectsParts, AreMergeable, HasOneOfEach};
+ghost use Rattle.dexmerge.specs.internal.Collecting.{IsPartOf, HasCollected, HasMarks, HasPushed, HasMarked};
+ghost use Rattle.dexmerge.specs.internal.Collecting.{HasPlaces, CollectsPart, AreMergeable, HasOneOfEach};
 
 use dexclass::{Class, Program, renumbering_law};
 use dexinsn::joined_places_law;
@@ -107,34 +106,6 @@ impl<'a> Collected<'a> {
         }
         Ok(())
     }
-
-    // Adds the classes of parts whose names are not there yet. They are moved.
-    fn take_parts(&mut self, parts: Vec<Program<'a>>, remaps: &[Remap]) -> Result<(), AllocError>
-        requires { (m : Mentions) × ArePartsOf m parts.items remaps.now × HasMarks m self.old }
-        ensures count { OnOk result (length self.new.is_name.items
-            ≡ length self.old.is_name.items) }
-        ensures collected { OnOk result
-            (CollectsParts parts.entry.items remaps.now self.old self.new) }
-    {
-        let mut i = 0;
-        for part in parts {
-            self.take_all(part, &remaps[i])?;
-            i += 1;
-        }
-        Ok(())
-    }
-
-    // Adds copies of the classes of parts whose names are not there yet.
-    fn copy_parts(&mut self, parts: &[&Program<'a>], remaps: &[Remap]) -> Result<(), AllocError>
-        requires { (m : Mentions) × ArePartsOf m (referents parts.now) remaps.now
-            × HasMarks m self.old }
-        ensures { OnOk result (CollectsParts (referents parts.now) remaps.now self.old self.new) }
-    {
-        for i in 0..parts.len() {
-            self.copy_all(parts[i], &remaps[i])?;
-        }
-        Ok(())
-    }
 }
 
 /// One class of each name, with the numbers of the union.
@@ -154,7 +125,13 @@ pub(crate) fn collect_classes<'a>(
 {
     let (own, rest) = remaps.split_at(owned.len());
     let mut all = Collected::none(alloc, types)?;
-    all.take_parts(owned, own)?;
-    all.copy_parts(files, rest)?;
+    let mut place = 0;
+    for part in owned {
+        all.take_all(part, &own[place])?;
+        place += 1;
+    }
+    for i in 0..files.len() {
+        all.copy_all(files[i], &rest[i])?;
+    }
     Ok(all.classes)
 }

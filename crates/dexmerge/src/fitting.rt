@@ -1,12 +1,12 @@
 //! What a union comes to, and the first cap that it exceeds.
 
-ghost use Rattle.std.specs.Prelude.{◌≡◌, ℕ, ◌-◌, ◌^◌, ◌||◌, min, nat_lt, All};
+ghost use Rattle.std.specs.Prelude.{◌≡◌, ◌-◌, ◌^◌, min, nat_lt, All};
 ghost use Rattle.dexspec.specs.Mentions.{Mentions};
 ghost use Rattle.dexpool.specs.Pools.{count_of};
 ghost use Rattle.dexclass.specs.Uses.{IsKnownClass};
 ghost use Rattle.dexmerge.specs.Candidates.{IsOfPart, classes_of};
 ghost use Rattle.dexmerge.specs.internal.Amounts.{weight_over, short_numbers, has_from, first_over};
-ghost use Rattle.dexmerge.specs.Counting.{Decides, is_from};
+ghost use Rattle.dexmerge.specs.Counting.{Decides};
 
 use crate::candidates::Candidate;
 use crate::caps::{CapKind, Caps};
@@ -33,16 +33,6 @@ fn has_more(numbering: &Numbering<'_>, kind: SymbolKind, cap: u32) -> bool
     numbering.count(kind) > cap as usize
 }
 
-// The greater number, if there is one.
-fn greater(number: Option<usize>, other: Option<usize>) -> Option<usize>
-    ensures { (cap : ℕ) → is_from cap result ≡ (is_from cap number || is_from cap other) }
-{
-    match (number, other) {
-        (Some(number), Some(other)) => Some(number.max(other)),
-        _ => number.or(other),
-    }
-}
-
 /// The greatest number of a text that a `const-string` names, or `None` without one; a `const-string/jumbo` does not
 /// count.
 ///
@@ -53,7 +43,7 @@ pub(crate) fn greatest_short_string(classes: &[Candidate<'_, '_>]) -> Option<usi
 {
     let mut greatest = None;
     for i in 0..classes.len() {
-        greatest = greater(greatest, classes[i].greatest_short_string());
+        greatest = greatest.max(classes[i].greatest_short_string());
     }
     greatest
 }

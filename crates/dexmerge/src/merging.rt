@@ -27,10 +27,7 @@ fn all_parts<'a, 'b>(
 ) -> Result<Vec<&'b Program<'a>>, AllocError>
     ensures { IfOk result (λ parts. referents parts.items ≡ all_parts owned.now files.now) }
 {
-    let mut parts = Vec::new(alloc);
-    for program in owned {
-        parts.push(program)?;
-    }
+    let mut parts: Vec<&Program<'a>> = owned.iter().collect(alloc)?;
     parts.extend_from_slice(files)?;
     Ok(parts)
 }

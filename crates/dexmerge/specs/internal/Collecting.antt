@@ -1,7 +1,7 @@
 -- One class of each name, collected from the parts of a union.
 use Rattle.std.specs.Prelude.{◌≡◌, ℕ, Bool, true, false, List, [], ◌∷◌, ◌++◌, map, length, All, slice_index_or, slice_set}
 use Rattle.std.specs.Borrow.{Bor}
-use Rattle.std.specs.List.{Contains, AllZip, flat_map}
+use Rattle.std.specs.List.{Contains, AllZip}
 use Rattle.dexspec.specs.Lists.{AreDistinct}
 use Rattle.dexspec.specs.Texts.{Text}
 use Rattle.dexspec.specs.Classes.{Definition}
@@ -66,11 +66,6 @@ HasMarked typ old new = new.is_name.items ≡ slice_set old.is_name.items typ tr
 abbrev pub CollectsPart : Collection → Maps → Collected → Collected → Type 0
 CollectsPart part remap old new = (m : Mentions) (D : List Definition) → IsPartOf m part remap
     → HasCollected m D old → HasCollected m (D ++ definitions part) new
-
--- the same of each of the parts
-abbrev pub CollectsParts : List Collection → List Maps → Collected → Collected → Type 0
-CollectsParts parts remaps old new = (m : Mentions) (D : List Definition) → ArePartsOf m parts remaps
-    → HasCollected m D old → HasCollected m (D ++ flat_map definitions parts) new
 
 -- what a class of the part declares has places in the union
 abbrev pub HasPlaces : Collection → Maps → NumberedClass → Type 0

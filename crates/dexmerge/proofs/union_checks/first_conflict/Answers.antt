@@ -1,5 +1,5 @@
 use Rattle.std.proofs.Common.{rules}
-use Rattle.dexmerge.proofs.Common.{◌≡◌, ◌<◌, ℕ, ◌+◌, ◌∙◌, ◌↔◌, refl, sym, ap, subst, arith, length, get_or, Option, Some, None, IsTrue, name_number, false≢true}
+use Rattle.dexmerge.proofs.Common.{◌≡◌, ◌<◌, ℕ, ◌+◌, ◌∙◌, ◌↔◌, sym, ap, subst, arith, length, get_or, Option, Some, None, IsTrue, name_number, false≢true}
 use Rattle.dexmerge.specs.{classes_of, class_at, IsEqualCopy, lesser_of}
 use Rattle.dexmerge.proofs.CandidatePlaces.{at_place, name_at_place, count_classes, kept_within, equivalent_by}
 use Rattle.dexmerge.proofs.ConflictLaws.{IsLeastTo, equivalent_next, conflict_next, least_is}

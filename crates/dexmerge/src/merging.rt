@@ -39,10 +39,7 @@ pub(crate) fn joined<'a>(
 ) -> Result<(Numbering<'a>, Vec<Remap>), AllocError>
     ensures { IfOk result (λ joined. IsJoined (referents parts.now) joined.0 joined.1.items) }
 {
-    let mut numberings = Vec::with_capacity(alloc, parts.len())?;
-    for i in 0..parts.len() {
-        numberings.push(parts[i].numbering())?;
-    }
+    let numberings: Vec<_> = parts.iter().map(|part| part.numbering()).collect(alloc)?;
     let (numbering, remaps) = Numbering::join(alloc, &numberings)?;
     numbering.is_numbering();
     dexpool::mentions_law();

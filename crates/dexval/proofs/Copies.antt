@@ -17,7 +17,7 @@ module _ {X Y Z : Type 0} (f : X → Z) (g : Y → Z) (ys seen : List Y) (same :
 pub seen_so : {X Z : Type 0} (f : X → Z) (ys : List X) (i : ℕ) {zs : List Z} → map f ys ≡ zs → map f (take i ys) ≡ take i zs
 seen_so f ys i is = sym (take-map f i ys) ∙ ap (take i) is
 
--- clones, as a function sees them that does not tell a value from its clone
+-- clones, under a function that maps a value and its clone to the same
 pub clones_are : {X Y : Type 0} (f : X → Y) (IsClone : X → X → Type 0) → ((x y : X) → IsClone x y → f y ≡ f x) → (xs ys : List X) → AllZip IsClone xs ys → map f ys ≡ map f xs
 clones_are f IsClone same [] [] zip = refl
 clones_are f IsClone same [] (y ∷ ys) zip = absurd zip

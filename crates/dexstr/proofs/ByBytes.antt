@@ -1,6 +1,8 @@
 -- Texts come in the order of their bytes, with 0xc0 first.
-use Rattle.dexstr.proofs.Common.{◌≡◌, ◌≢◌, ℕ, zero, suc, ◌+◌, ◌/◌, ◌%◌, ◌^◌, ◌<◌, List, [], ◌∷◌, ◌++◌, ◌⊎◌, inl, inr, refl, sym, ◌∙◌, length, nat_eq, take, drop, min, true, false, Bool, Option, Some, None, subst, arith, cases_lt, cases_order, lt-ltb, le-ltb, eq-eqb, ne_eqb, nat_tests, append-nil, take-append-drop, slice_cmp, pointwise, same_text, form, spelling, AreUnits, text_cmp, Shape, One, Two, Three, shape_of, units_of, IsSpelling, place_of, byte_cmp}
+use Rattle.dexstr.proofs.Common.{◌≡◌, ◌≢◌, ℕ, zero, suc, ◌+◌, ◌/◌, ◌%◌, ◌^◌, ◌<◌, List, [], ◌∷◌, ◌++◌, ◌⊎◌, inl, inr, refl, sym, ap, ◌∙◌, length, take, drop, min, true, false, Bool, Option, Some, None, subst, arith, cases_lt, cases_order, lt-ltb, le-ltb, eq-eqb, ne_eqb, nat_tests, append-nil, take-append-drop, slice_cmp, form, spelling, AreUnits, text_cmp, Shape, One, Two, Three, shape_of, units_of, IsSpelling, place_of, byte_cmp}
+use Rattle.std.proofs.lemmas.List.{length-take-le}
 use Rattle.std.specs.Bool.{then_some}
+use Rattle.std.specs.Int.{from_le_bytes, w64}
 use Rattle.std.specs.Ordering.{nat_cmp}
 use Rattle.std.specs.Prelude.{slice_index}
 use Rattle.std.specs.declared.cmp.Ordering.TheVariants.{Less, Equal, Greater}

@@ -18,7 +18,11 @@ fn after_common_group<'a, 'b>(left: &'a [u8], right: &'b [u8]) -> Option<(&'a [u
 {
     let (group, left) = left.split_first_chunk::<8>()?;
     let (other, right) = right.split_first_chunk::<8>()?;
-    (group == other).then_some((left, right))
+    if u64::from_le_bytes(*group) == u64::from_le_bytes(*other) {
+        Some((left, right))
+    } else {
+        None
+    }
 }
 
 /// What is after the common prefix of both, but for its last bytes, of which there are fewer than eight.

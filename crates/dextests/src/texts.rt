@@ -19,6 +19,12 @@ const RISING: [&str; 11] = [
     "01ee808000",
 ];
 
+// Returns whether two texts with their keys compare as their numbers do.
+fn keyed_are_ordered(left: &Text<'_>, right: &Text<'_>, i: usize, j: usize) -> bool {
+    let keyed = KeyedText::of(left).clone();
+    keyed.compare(&KeyedText::of(right)) == i.cmp(&j)
+}
+
 // Returns whether two texts compare as their numbers do, and are equal if and only if their numbers are.
 fn are_ordered(alloc: Global, i: usize, j: usize) -> Option<bool> {
     let left = hex::decode(alloc, *RISING.get(i)?).ok()?;
@@ -26,14 +32,13 @@ fn are_ordered(alloc: Global, i: usize, j: usize) -> Option<bool> {
     let left = Text::read(&left, 0).ok()?.0;
     let right = Text::read(&right, 0).ok()?.0;
     let copy = Name::of(alloc, &left).ok()?.copy().ok()?;
-    let (keyed, other) = (KeyedText::of(&left).clone(), KeyedText::of(&right));
     Some(
         left.cmp(&right) == i.cmp(&j)
             && left.partial_cmp(&right) == Some(i.cmp(&j))
             && (left == right) == (i == j)
             && (copy.text() == right) == (i == j)
-            && keyed.compare(&other) == i.cmp(&j)
-            && keyed.text() == left,
+            && keyed_are_ordered(&left, &right, i, j)
+            && KeyedText::of(&left).text() == left,
     )
 }
 

@@ -241,7 +241,7 @@ pub record OperationsBuilt (m : Counts) (b : List ℕ) (from : ℕ) (t : Tally) 
   pub whole : AreTheOperations m b from t (ops ++ rest)
 
 pub are_tallied : (m : Counts) (b : List ℕ) (from : ℕ) (t : Tally) (h : AreTallied m b from t) → AreTheOperations m b from t h.operations
-are_tallied m b from t h = record { many = h.count; program = h.program; formed = h.formed }
+are_tallied m b from t h = record { many = h.count; program = h.program; formed = h.formed; weight = h.weight }
 
 pub no_operations_built : (m : Counts) (b : List ℕ) (from : ℕ) (t : Tally) (ops : List Operation) → AreTallied m b from t → ops ≡ [] → OperationsBuilt m b from t 0 from ops
 no_operations_built m b from t ops h e = rw e (record { rest = h.operations; left = omega (arith, h.count); ahead = h.program; whole = are_tallied m b from t h })

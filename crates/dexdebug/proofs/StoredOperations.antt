@@ -1,7 +1,8 @@
 -- Operations as they are stored: the bytes and the numbers give back the operations.
-use Rattle.dexdebug.proofs.Common.{◌≡◌, ℕ, zero, suc, ◌+◌, ◌-◌, ◌<◌, ◌≤◌, List, [], ◌∷◌, ◌++◌, length, take, drop, map, get_or, Option, Some, None, refl, ap, sym, subst, ◌∙◌, arith, length-append, IsSome, flat_map, lt-ltb, le-ltb, length-take-le, length-map, take_at, drop_at, map-append, append-nil, flat_map-append, Sequence, IsChain, Uleb128At, sum_of_groups, signed_sum, operands, is_at_within, same_first, Maps, Operation, AdvancePc, AdvanceLine, StartLocal, StartLocalExtended, EndLocal, RestartLocal, SetPrologueEnd, SetEpilogueBegin, SetFile, Special, Counts, Tally, Index, number_uses, operation_uses, debug_uses, renumbered_operation, renumbered_debug, image_or_none, name_of, type_of, signature_of, unindexed_operation, with_numbers, IndexAt, LocalAt, OperandsAt, NumberedAt, AreTheOperations, KeepsNames, KeepsSymbols, every, indices_of, text_index, chain_of, chain_at, after_numbers, after_operation, operation_of, number_in, operation_in, operations_in, unindexed_of, IsStoredAt, AreStored, IsStored, numbers_in, stored_debug, renumbered_index}
+use Rattle.dexdebug.proofs.Common.{◌≡◌, ℕ, zero, suc, ◌+◌, ◌-◌, ◌<◌, ◌≤◌, List, [], ◌∷◌, ◌++◌, length, take, drop, map, get_or, Option, Some, None, refl, ap, sym, subst, ◌∙◌, arith, length-append, IsSome, flat_map, lt-ltb, le-ltb, length-take-le, length-map, sum_by, sum_by-cons, take_at, drop_at, map-append, append-nil, flat_map-append, Sequence, IsChain, Uleb128At, sum_of_groups, signed_sum, operands, debug_weight, is_at_within, same_first, Maps, Operation, AdvancePc, AdvanceLine, StartLocal, StartLocalExtended, EndLocal, RestartLocal, SetPrologueEnd, SetEpilogueBegin, SetFile, Special, Counts, Tally, Index, number_uses, operation_uses, debug_uses, renumbered_operation, renumbered_debug, image_or_none, name_of, type_of, signature_of, NumberedDebug, unindexed, unindexed_operation, operation_weight, with_numbers, IndexAt, LocalAt, OperandsAt, NumberedAt, AreTheOperations, KeepsNames, KeepsSymbols, every, indices_of, text_index, chain_of, chain_at, after_numbers, after_operation, operation_of, number_in, operation_in, operations_in, unindexed_of, IsStoredAt, AreStored, IsStored, numbers_in, stored_debug, renumbered_index}
 use Rattle.dexpool.specs.declared.symbols.SymbolKind.TheVariants as kinds
 use Rattle.dexdebug.proofs.DebugRuns.{byte_encoded, code_some}
+use Rattle.dexdebug.proofs.DebugMeanings.{weight_is}
 use Rattle.dexdebug.proofs.DebugSame.{unindexed_with, with_unindexed}
 
 -- ---- the bytes
@@ -274,6 +275,14 @@ module _ (r : Maps) where
 
   remapped_unindexed : (op : Operation) → unindexed_of op ≡ unindexed_of (renumbered_operation r op)
   remapped_unindexed op = sym (unindexed_with op (image_or_none r kinds.Text (name_of op)) (image_or_none r kinds.Typ (type_of op)) (image_or_none r kinds.Text (signature_of op)))
+
+  remapped_weights : (ops : List Operation) → sum_by operation_weight (map (renumbered_operation r) ops) ≡ sum_by operation_weight ops
+  remapped_weights [] = refl
+  remapped_weights (op ∷ ops) = omega (arith, sum_by-cons operation_weight op ops, sum_by-cons operation_weight (renumbered_operation r op) (map (renumbered_operation r) ops), same_operands op (renumbered_operation r op) (remapped_unindexed op), remapped_weights ops)
+
+  -- other numbers weigh the same
+  pub renumbered_weight : (d : NumberedDebug) → debug_weight (unindexed (renumbered_debug r d)) ≡ debug_weight (unindexed d)
+  renumbered_weight d = omega (arith, weight_is d, weight_is (renumbered_debug r d), length-map d.parameter_names (image_or_none r kinds.Text), remapped_weights d.operations)
 
   remapped_each : (b : List ℕ) (o : ℕ) (ops : List Operation) (n : ℕ) → Sequence IsStoredAt b o ops n → Sequence IsStoredAt b o (map (renumbered_operation r) ops) n
   remapped_each b o [] n h = h

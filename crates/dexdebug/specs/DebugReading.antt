@@ -185,11 +185,12 @@ pub record HaveNames (texts : ℕ) (b : List ℕ) (o count : ℕ) : Type 0 where
   pub names : List (Option ℕ)
   pub are : AreTheNames texts b o count names
 
--- at offset o are these operations, as many as the tally has
+-- at offset o are these operations, whose number and weight are those of the tally
 pub record AreTheOperations (m : Counts) (b : List ℕ) (o : ℕ) (t : Tally) (ops : List Operation) : Type 0 where
   pub many : length ops ≡ t.operations
   pub program : ProgramAt m b o ops
   pub formed : All IsFormedOperation ops
+  pub weight : sum_by operation_weight ops ≡ t.weight
 
 -- these `count` names at offset o are stored after others
 pub record KeepsNames (texts : ℕ) (b : List ℕ) (o count : ℕ) (old new : List Index) : Type 0 where

@@ -25,6 +25,8 @@ pub struct Debug<'a> {
     pub(crate) count: u32,
     /// The initial value of the line register.
     pub(crate) line_start: u32,
+    /// Its weight, which does not depend on the numbers.
+    pub(crate) weight: u64,
 }
 
 // One call drops a debug program.
@@ -37,19 +39,22 @@ impl Drop for Debug<'_> {
             at: _,
             count: _,
             line_start: _,
+            weight: _,
         } = self;
     }
 }
 
 impl<'a> Model for Debug<'a> {
-    ghost use Rattle.dexdebug.specs.Debug.{NumberedDebug, IsFormedDebug};
+    ghost use Rattle.std.specs.Prelude.{◌≡◌};
+    ghost use Rattle.dexspec.specs.Weight.{debug_weight};
+    ghost use Rattle.dexdebug.specs.Debug.{NumberedDebug, IsFormedDebug, unindexed};
     ghost use Rattle.dexdebug.specs.Operations.{IsStored, stored_debug};
 
     ghost Value = { NumberedDebug };
 
     ghost view = { λ d. stored_debug d.line_start d.names d.count d.bytes.now d.at d.indices.items };
 
-    ghost invariant = { λ d. IsFormedDebug (stored_debug d.line_start d.names d.count d.bytes.now d.at d.indices.items) × IsStored d.names d.count d.bytes.now d.at d.indices.items };
+    ghost invariant = { λ d. IsFormedDebug (stored_debug d.line_start d.names d.count d.bytes.now d.at d.indices.items) × IsStored d.names d.count d.bytes.now d.at d.indices.items × (d.weight ≡ debug_weight (unindexed (stored_debug d.line_start d.names d.count d.bytes.now d.at d.indices.items))) };
 }
 
 impl<'a> Debug<'a> {

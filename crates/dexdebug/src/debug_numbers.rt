@@ -28,12 +28,7 @@ impl<'a> Debug<'a> {
     pub fn weight(&self) -> u64
         ensures { result ≡ debug_weight (unindexed self.now) }
     {
-        let names = u64::from(self.names);
-        let operations: u64 = self
-            .operations()
-            .map(|operation| 1 + 5 * operation.operands())
-            .sum();
-        11 + 5 * names + operations
+        self.weight
     }
 
     /// Each number is below 2^32 - 1, and there are less than 2^32 names and less than 2^30 operations. The call does

@@ -300,6 +300,7 @@ impl<'b> DebugReader<'b> {
             at: shape.operations_at as u32,
             count: shape.tally.operations as u32,
             line_start: shape.line_start,
+            weight: shape.weight,
         })
     }
 }

@@ -87,6 +87,16 @@ four_ascii (a ∷ b ∷ c ∷ d ∷ rest) enough first second third fourth = rec
 }
 four_ascii _ enough first second third fourth = absurd (omega (arith, enough))
 
+-- one unit of ASCII first
+pub one_ascii : (bytes : List ℕ) → 1 ≤ length bytes → IsAscii (get_or bytes 0 0) → BeginsWithAscii 1 bytes (take (length bytes - 1) (drop 1 bytes))
+one_ascii (a ∷ rest) enough first = record {
+  us = a ∷ [];
+  len = refl;
+  ascii = All-cons IsAscii a [] first (λ k e lt. absurd (omega (arith, lt)));
+  parts = ap (λ (t : List ℕ). a ∷ t) (sym (take_all (length (a ∷ rest) - 1) rest (omega arith)));
+}
+one_ascii [] enough first = absurd (omega (arith, enough))
+
 -- units of ASCII are passed where their bytes are
 pub ascii_passed : (bytes : List ℕ) (n : ℕ) (rest : List ℕ) (k : ℕ) (after : List ℕ) → Passed bytes n rest → BeginsWithAscii k rest after → Passed bytes (n + k) after
 ascii_passed bytes n rest k after passed begins = record {

@@ -59,6 +59,10 @@ pub(crate) fn skip_units(bytes: &[u8]) -> (usize, &[u8])
         count += 4;
         rest = after;
     }
+    while let Some(after) = after_ascii_unit(rest) {
+        count += 1;
+        rest = after;
+    }
     while let Some((_, after)) = first_unit(rest) {
         count += 1;
         rest = after;
@@ -79,6 +83,17 @@ fn after_ascii(bytes: &[u8]) -> Option<&[u8]>
             0x01..=0x7f,
             rest @ ..,
         ] => Some(rest),
+        _ => None,
+    }
+}
+
+// The bytes after the first one, if it spells a unit of ASCII.
+#[inline]
+fn after_ascii_unit(bytes: &[u8]) -> Option<&[u8]>
+    ensures { IfSome result (λ rest. BeginsWithAscii 1 bytes.now rest.now) }
+{
+    match bytes {
+        [0x01..=0x7f, rest @ ..] => Some(rest),
         _ => None,
     }
 }

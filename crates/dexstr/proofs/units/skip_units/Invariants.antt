@@ -13,3 +13,9 @@ invariant-loop-after-2 l = Passed l.bytes l.count l.rest
 
 abbrev pub decreases-loop-after-2 : goal.decreases-loop-after-2
 decreases-loop-after-2 l = length l.rest
+
+abbrev pub invariant-loop-after-3 : goal.invariant-loop-after-3
+invariant-loop-after-3 l = Passed l.bytes l.count l.rest
+
+abbrev pub decreases-loop-after-3 : goal.decreases-loop-after-3
+decreases-loop-after-3 l = length l.rest

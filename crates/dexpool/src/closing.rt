@@ -12,7 +12,7 @@ use crate::lists::Parameters;
 use crate::marks::Marks;
 use crate::numbering::Tables;
 use crate::rows::{ProtoEntry, Span};
-use dexrows::{FieldRow, MethodRow, TypeNumbers};
+use dexrows::{FieldRow, MethodRow};
 use std::alloc::AllocError;
 
 /// Returns the marks, and marks on what marked symbols name, in one pass over each table.
@@ -110,7 +110,10 @@ fn mark_by_protos(
             strings[proto.shorty] = true;
             types[proto.return_type] = true;
             if !longest.is(proto.parameters) {
-                mark_numbers(&parameters.part(proto.parameters), types);
+                let numbers = parameters.part(proto.parameters);
+                for k in 0..numbers.len() {
+                    types[numbers.at(k)] = true;
+                }
                 longest = longest.longer(proto.parameters);
             }
         }
@@ -127,15 +130,5 @@ fn mark_by_types(types: &[usize], marks: &[bool], strings: &mut [bool])
         if marks[i] {
             strings[*text] = true;
         }
-    }
-}
-
-// Marks each of the numbers.
-fn mark_numbers(numbers: &TypeNumbers<'_>, marks: &mut [bool])
-    requires { All (λ n. n < length marks.old) numbers.now }
-    ensures { marks.new ≡ mark_all marks.old numbers.now }
-{
-    for i in 0..numbers.len() {
-        marks[numbers.at(i)] = true;
     }
 }

@@ -1,7 +1,7 @@
-use Rattle.dexpool.proofs.Common.{◌≡◌, ◌∙◌, ◌∷◌, Bool, List, [], ap, sym, subst, arith, get_or, set, true, inl, inr, All, Contains-get_or, Contains-later, Span, ProtoEntry, span_of, IsMarked, mark_all, entry_types}
+use Rattle.dexpool.proofs.Common.{◌≡◌, ◌∙◌, ◌∷◌, Bool, List, [], drop, drop_all, ap, sym, subst, arith, get_or, set, true, inl, inr, All, Contains-get_or, Contains-later, Span, ProtoEntry, span_of, IsMarked, mark_all, entry_types}
 use Rattle.dexpool.proofs.KeptRows.{number_marked, number_left, numbers_marked, numbers_left, marked_before, mark_stays, mark_comes}
 use Rattle.dexpool.proofs.closing.mark_by_protos.Goals as goal
-use Rattle.dexpool.proofs.closing.mark_by_protos.Goals.{then-marks-i+then-not-is, then-marks-i+else-not-is, else-marks-i}
+use Rattle.dexpool.proofs.closing.mark_by_protos.Goals.{then-marks-i+then-not-is+else-loop-k-test, then-marks-i+else-not-is, else-marks-i}
 
 pub loop-i-preserved : goal.loop-i-preserved
 loop-i-preserved c =
@@ -16,8 +16,9 @@ loop-i-preserved c =
     let names = entry_types lists in
     let Known : List Bool → Span → Type 0 = λ ts s. All (IsMarked ts) (span_of lists s) in
     elim c.if-marks-i.branch [
-      | then-marks-i+then-not-is w ↦
-          let grown : new ≡ mark_all old (names p) = w.types-is ∙ w.mark_numbers.ensures ∙ ap (mark_all (set old p.return_type true)) w.part.ensures in
+      | then-marks-i+then-not-is+else-loop-k-test w ↦
+          let none_left : drop w.loop-k.k w.part-numbers.result ≡ [] = drop_all w.loop-k.k w.part-numbers.result (omega (arith, w.loop-k-test.false, w.len-k-end.ensures)) in
+          let grown : new ≡ mark_all old (names p) = w.types-is ∙ sym (ap (mark_all w.loop-k.types) none_left) ∙ w.loop-k.invariant ∙ ap (mark_all (set old p.return_type true)) w.part-numbers.ensures in
           record {
             strings = number_marked marks rows i none (omega arith) c.requires.marks _ _ _ (λ (q : ProtoEntry). q.shorty) w.if-marks-i.true w.strings-is c.loop-i.invariant.strings;
             known = subst (λ ts. Known ts c.if-marks-i.longest) (sym grown) (elim w.longer-longest.ensures [

@@ -7,3 +7,7 @@ invariant-loop-i l = record {
   known : All (IsMarked l.types) (span_of l.parameters l.longest);
   types : mark_all l.types (flat_map (entry_types l.parameters) (kept (drop l.i l.marks) (drop l.i l.protos))) ≡ mark_all l.fn.types (flat_map (entry_types l.parameters) (kept l.marks l.protos));
 }
+
+-- the marks of a proto's parameters that are left give all of them
+abbrev pub invariant-loop-k : goal.invariant-loop-k
+invariant-loop-k l = mark_all l.types (drop l.k l.numbers) ≡ mark_all l.initial.types l.numbers

@@ -103,17 +103,6 @@ fn drop_debugs(codes: &mut Vec<Code<'_>>)
     }
 }
 
-// Returns a copy of the code, whose units are borrowed as before.
-fn copied_codes<'a>(codes: &Vec<Code<'a>>) -> Result<Vec<Code<'a>>, AllocError>
-    ensures { IfOk result (λ copy. copy.items ≡ codes.now.items) }
-{
-    let mut copy = Vec::with_capacity(*codes.allocator(), codes.len())?;
-    for code in codes {
-        copy.push(code.copy()?)?;
-    }
-    Ok(copy)
-}
-
 impl<'a> MethodList<'a> {
     /// The methods without their code.
     pub(crate) fn declared(&self) -> &[DeclaredMethod]
@@ -145,9 +134,14 @@ impl<'a> MethodList<'a> {
         ensures { IfOk result (λ copy. copy ≡ self.now) }
     {
         let alloc = *self.methods.allocator();
+        let methods = Vec::from_slice(alloc, &self.methods)?;
+        let mut code_items = Vec::with_capacity(alloc, self.code_items.len())?;
+        for code in &self.code_items {
+            code_items.push(code.copy()?)?;
+        }
         Ok(MethodList {
-            methods: Vec::from_slice(alloc, &self.methods)?,
-            code_items: copied_codes(&self.code_items)?,
+            methods,
+            code_items,
         })
     }
 }

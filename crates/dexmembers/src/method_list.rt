@@ -1,11 +1,10 @@
 //! Declared methods of one kind, with their code beside them.
 
 ghost use Rattle.std.specs.Prelude.{◌≡◌, IfOk, All, map};
-ghost use Rattle.dexcode.specs.Renumbering.{HasPlaces, renumbered_item};
 ghost use Rattle.dexmembers.specs.Borrowed.{IsBorrowedCode};
 ghost use Rattle.dexmembers.specs.internal.Stored.{code_at, remapped_stored, IsStoredMethodMapped};
 ghost use Rattle.dexmembers.specs.Renumbering.{remapped_method, IsHeldMethodMapped};
-ghost use Rattle.dexmembers.specs.Stripped.{stripped_code, stripped_held};
+ghost use Rattle.dexmembers.specs.Stripped.{stripped_held};
 
 use crate::places::Place;
 use dexcode::Code;
@@ -84,25 +83,6 @@ pub(crate) fn code_at<'m, 'a>(codes: &'m [Code<'a>], place: Option<u32>) -> Opti
     codes.get(place? as usize)
 }
 
-// Replaces each number of a symbol in code by its image.
-fn renumber_codes(codes: &mut Vec<Code<'_>>, remap: &Remap)
-    requires { All (HasPlaces remap.now) codes.old.items }
-    ensures { codes.new.items ≡ map (renumbered_item remap.now) codes.old.items }
-{
-    for i in 0..codes.len() {
-        codes[i].renumber(remap);
-    }
-}
-
-// Leaves out the debug programs of code.
-fn drop_debugs(codes: &mut Vec<Code<'_>>)
-    ensures { codes.new.items ≡ map stripped_code codes.old.items }
-{
-    for i in 0..codes.len() {
-        codes[i].drop_debug();
-    }
-}
-
 impl<'a> MethodList<'a> {
     /// The methods without their code.
     pub(crate) fn declared(&self) -> &[DeclaredMethod]
@@ -119,14 +99,18 @@ impl<'a> MethodList<'a> {
         ensures { self.new ≡ map (remapped_method remap.now) self.old }
     {
         renumber_all(&mut self.methods, remap);
-        renumber_codes(&mut self.code_items, remap);
+        for i in 0..self.code_items.len() {
+            self.code_items[i].renumber(remap);
+        }
     }
 
     /// Leaves out the debug programs.
     pub(crate) fn drop_debug(&mut self)
         ensures { self.new ≡ map stripped_held self.old }
     {
-        drop_debugs(&mut self.code_items);
+        for i in 0..self.code_items.len() {
+            self.code_items[i].drop_debug();
+        }
     }
 
     /// Returns a copy of the methods, with code of their own, whose units are borrowed as before.

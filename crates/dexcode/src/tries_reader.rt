@@ -8,8 +8,8 @@ ghost use Rattle.dexcode.specs.Numbered.{NumberedHandler};
 ghost use Rattle.dexcode.specs.Reading.{TriesAt, IsStart, CatchAt, CatchAllAt, ListedTryAt, TryItemsAt, IsNumberPut, IsTriesFault};
 ghost use Rattle.dexcode.specs.declared.handlers.Catch.{Catch as Caught};
 ghost use Rattle.dexcode.specs.declared.tries.Try.{Try as Meant};
-ghost use Rattle.dexcode.specs.internal.NamedHandlers.{HasHandler, HasList, HaveCatches, HaveListed, IsHandlerAt};
-ghost use Rattle.dexcode.specs.internal.TriesReading.{HasNoTries, HaveLightHandlers, IsFoundNamed, AreHeavy, AreTriesRead, NoCatches, NoHandlerAt, NoList, NoTries, NoTryItems};
+ghost use Rattle.dexcode.specs.internal.NamedHandlers.{HasHandler, HasList, HaveListed, IsHandlerAt};
+ghost use Rattle.dexcode.specs.internal.TriesReading.{HasNoTries, HaveLightHandlers, IsFoundNamed, AreHeavy, AreTriesRead, NoHandlerAt, NoList, NoTries, NoTryItems};
 
 use crate::handlers::{Catch, Handler, handlers_weight};
 use crate::named_handlers::number_at;
@@ -255,22 +255,6 @@ impl TriesReader<'_, '_> {
         Some((Catch { typ, addr }, index_size + addr_size))
     }
 
-    // Returns the number of bytes that encode `count` catches at `at`, if they are there. No catch is kept.
-    fn catches_len(&self, at: usize, count: usize) -> Option<usize>
-        requires { at ≤ length self.now.bytes.now }
-        ensures none { IfNone result
-            (NoCatches self.now.starts.now self.now.types self.now.bytes.now at count) }
-        ensures some { IfSome result
-            (HaveCatches self.now.starts.now self.now.types self.now.bytes.now at count) }
-    {
-        let mut size = 0;
-        for _ in 0..count {
-            let (_, len) = self.read_catch(at + size)?;
-            size += len;
-        }
-        Some(size)
-    }
-
     // Builds the `count` catches at `at`, in a vector without spare room, and returns the number of bytes that encode
     // them.
     fn build_catches(&self, at: usize, count: usize) -> Result<(Vec<Catch>, usize), AllocError>
@@ -322,10 +306,13 @@ impl TriesReader<'_, '_> {
             return None;
         };
         let first = at + count_size;
-        let many = count.unsigned_abs() as usize;
-        let catches_size = self.catches_len(first, many)?;
-        let (_, all_size) = self.read_catch_all(first + catches_size, count)?;
-        Some(count_size + catches_size + all_size)
+        let mut size = 0;
+        for _ in 0..count.unsigned_abs() {
+            let (_, len) = self.read_catch(first + size)?;
+            size += len;
+        }
+        let (_, all_size) = self.read_catch_all(first + size, count)?;
+        Some(count_size + size + all_size)
     }
 
     // Builds the handler at an offset.

@@ -4,17 +4,12 @@ use Rattle.dexspec.specs.Code.{most_handlers}
 use Rattle.dexpool.specs.declared.faults.ItemFault.{ItemFault}
 use Rattle.dexspec.specs.Lists.{Sequence}
 use Rattle.dexspec.specs.Numbers.{Uleb128At}
-use Rattle.dexcode.specs.declared.handlers.Catch.{Catch}
 use Rattle.dexcode.specs.declared.tries.Try.{Try}
 use Rattle.dexcode.specs.Numbered.{NumberedHandler, NumberedTry, all_named, handlers_of, handlers_weight}
-use Rattle.dexcode.specs.Reading.{AreApartFrom, CatchAt, HandlerAt, ListedTryAt, TriesAt, TriesRead, TryItemsAt}
+use Rattle.dexcode.specs.Reading.{AreApartFrom, HandlerAt, ListedTryAt, TriesAt, TriesRead, TryItemsAt}
 use Rattle.dexcode.specs.internal.NamedHandlers.{AreListed}
 
 -- ---- what is not there
-
--- there are not `count` catches from offset o on
-abbrev pub NoCatches : List Bool → ℕ → List ℕ → ℕ → ℕ → Type 0
-NoCatches starts types b o count = (cs : List Catch) (n : ℕ) → length cs ≡ count → Sequence (CatchAt starts types) b o cs n → ⊥
 
 -- at offset o is no handler, of any size
 abbrev pub NoHandlerAt : List Bool → ℕ → List ℕ → ℕ → Type 0

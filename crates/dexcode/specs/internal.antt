@@ -3,4 +3,3 @@ pub mod Extras
 pub mod NamedHandlers
 pub mod TriesReading
 pub mod Same
-pub mod Writing

@@ -3,7 +3,6 @@
 ghost use Rattle.std.specs.Prelude.{◌≡◌, ◌+◌, ◌*◌, ◌^◌, ◌<◌, ℕ, length};
 ghost use Rattle.dexcode.specs.CodePut.{handler_count, numbered_code_bytes, unit_count, IsCodeLen, numbered_code_weight, numbered_tries_weight};
 ghost use Rattle.dexcode.specs.Numbered.{ForDenoted};
-ghost use Rattle.dexcode.specs.internal.Writing.{IsPlacedLen};
 ghost use Rattle.dexspec.specs.Weight.{code_weight};
 
 use crate::code::Code;
@@ -33,21 +32,6 @@ pub(crate) fn unit_count(pieces: &Pieces<'_>) -> u32
     pieces.units()
 }
 
-// Returns the length of a code item of `units` units.
-fn placed_len(units: u32, tries: &Tries<'_>) -> usize
-    ensures { IsPlacedLen units tries.now result }
-{
-    let (items, handlers) = tries.parts();
-    let front = 16 + 2 * units as usize;
-    if items.is_empty() {
-        return front;
-    }
-    let mut list = Count { len: 0 };
-    encode_list(handlers, &mut list);
-    // The units are padded with 2 bytes if their number is odd.
-    front + 2 * (units % 2) as usize + 8 * items.len() + list.len
-}
-
 impl<'a> Code<'a> {
     /// The number of bytes that [`put_code`](crate::put_code) appends, wherever the debug program is.
     ///
@@ -58,7 +42,17 @@ impl<'a> Code<'a> {
         ensures symbolic { IsCodeLen self.now result }
     {
         code_bytes_law();
-        placed_len(unit_count(&self.pieces), &self.tries())
+        let units = unit_count(&self.pieces);
+        let front = 16 + 2 * units as usize;
+        let tries = self.tries();
+        let (items, handlers) = tries.parts();
+        if items.is_empty() {
+            return front;
+        }
+        let mut list = Count { len: 0 };
+        encode_list(handlers, &mut list);
+        // The units are padded with 2 bytes if their number is odd.
+        front + 2 * (units % 2) as usize + 8 * items.len() + list.len
     }
 }
 

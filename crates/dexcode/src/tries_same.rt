@@ -1,7 +1,7 @@
 //! Whether tries mean the same.
 
 ghost use Rattle.std.specs.Prelude.{◌≡◌, ◌↔◌, ◌<◌, IsTrue, All, length};
-ghost use Rattle.dexcode.specs.Renumbering.{remapped_type, renumbered_catch, renumbered_handler, renumbered_try};
+ghost use Rattle.dexcode.specs.Renumbering.{remapped_type, renumbered_handler, renumbered_try};
 ghost use Rattle.dexdebug.specs.internal.Same.{SameRemapped, EqualRemapped};
 ghost use Rattle.dexcode.specs.internal.Same.{AreCompared, EqualTries, SameTries};
 
@@ -17,24 +17,24 @@ fn remapped_parts(remap: &Remap, catch: &Catch) -> (usize, u32)
     (typ, catch.addr)
 }
 
-// Whether the catches are equal, one for one, once their types are remapped.
-fn same_catches(mine: &Remap, catches: &[Catch], theirs: &Remap, others: &[Catch]) -> bool
-    ensures { IsTrue result
-        ↔ SameRemapped renumbered_catch mine.now theirs.now catches.now others.now }
-{
-    catches
-        .iter()
-        .map(|catch| remapped_parts(mine, catch))
-        .eq(others.iter().map(|catch| remapped_parts(theirs, catch)))
-}
-
 // Whether the handlers are equal once their types are remapped.
 fn same_handler(mine: &Remap, handler: &Handler, theirs: &Remap, other: &Handler) -> bool
     ensures { IsTrue result
         ↔ EqualRemapped renumbered_handler mine.now theirs.now handler.now other.now }
 {
-    handler.catch_all_addr == other.catch_all_addr
-        && same_catches(mine, &handler.catches, theirs, &other.catches)
+    if handler.catch_all_addr != other.catch_all_addr {
+        return false;
+    }
+    handler
+        .catches()
+        .iter()
+        .map(|catch| remapped_parts(mine, catch))
+        .eq(
+            other
+                .catches()
+                .iter()
+                .map(|catch| remapped_parts(theirs, catch)),
+        )
 }
 
 // Tries with their handlers, and the map by which the types of these are remapped.

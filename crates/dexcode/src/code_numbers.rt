@@ -7,7 +7,7 @@ ghost use Rattle.dexcode.specs.Renumbering.{item_uses, HasPlaces, NumbersFit, re
 
 use crate::code::Code;
 use crate::extras::Extras;
-use dexpool::{Marks, Remap, Symbols, Visitor, mark};
+use dexpool::{Marks, Remap, Symbols, Visitor, mark, renumber_all};
 
 impl Symbols for Code<'_> {
     ghost uses = { item_uses };
@@ -61,7 +61,8 @@ impl<'a> Code<'a> {
             Extras::None => {}
             Extras::Debug(debug) => debug.renumber(remap),
             Extras::Tries(both) => {
-                both.tries.renumber(remap);
+                remap.keeps_order();
+                renumber_all(&mut both.tries.handlers, remap);
                 if let Some(debug) = &mut both.debug {
                     debug.renumber(remap);
                 }

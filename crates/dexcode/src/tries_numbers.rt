@@ -1,10 +1,9 @@
 //! Numbers of types in tries, and what becomes of them.
 
-ghost use Rattle.std.specs.Prelude.{◌≡◌, ◌∷◌, [], All, map};
-ghost use Rattle.dexcode.specs.Renumbering.{catch_use, handler_uses, tries_uses, HasTypePlace, renumbered_catch, renumbered_handler, renumbered_try};
+ghost use Rattle.std.specs.Prelude.{◌∷◌, [], All};
+ghost use Rattle.dexcode.specs.Renumbering.{catch_use, handler_uses, tries_uses, HasTypePlace, renumbered_catch, renumbered_handler};
 
 use crate::handlers::{Catch, Handler};
-use crate::stored_tries::StoredTries;
 use crate::tries::Tries;
 use dexpool::{Remap, Renumber, SymbolKind, Symbols, Visitor, renumber_all, visit_all};
 
@@ -50,16 +49,5 @@ impl Symbols for Tries<'_> {
     fn visit<V: Visitor>(&self, visitor: &mut V) {
         let (_, handlers) = self.parts();
         visit_all(handlers, visitor);
-    }
-}
-
-impl StoredTries {
-    // Replaces each type that is caught by the one that it maps to.
-    pub(crate) fn renumber(&mut self, remap: &Remap)
-        requires { All (HasTypePlace remap.now) (tries_uses self.old) }
-        ensures { self.new ≡ map (renumbered_try remap.now) self.old }
-    {
-        remap.keeps_order();
-        renumber_all(&mut self.handlers, remap);
     }
 }

@@ -1,4 +1,4 @@
-use Rattle.dexpool.proofs.Common.{Bool, List, false, length, ◌++◌, ◌∙◌, ap, map, length-replicate, TextSymbol, TypeSymbol, ProtoSymbol, FieldSymbol, MethodSymbol}
+use Rattle.dexpool.proofs.Common.{Bool, List, length, ◌++◌, ◌∙◌, ap, map, length-replicate, TextSymbol, TypeSymbol, ProtoSymbol, FieldSymbol, MethodSymbol}
 use Rattle.dexpool.proofs.KeptRows.{kept_none}
 use Rattle.dexpool.proofs.marks.Marks.none.Goals as goal
 

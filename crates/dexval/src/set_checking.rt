@@ -1,12 +1,12 @@
 //! Checks sets of annotations in place in a file.
 
-ghost use Rattle.std.specs.Prelude.{◌≡◌, ◌*◌, ◌^◌, ◌≤◌, IfOk, IfErr, IfSome};
+ghost use Rattle.std.specs.Prelude.{◌≡◌, IfOk, IfErr};
 ghost use Rattle.dexpool.specs.Pools.{ArePools};
 ghost use Rattle.dexpool.specs.declared.faults.ItemFault.TheVariants.{Refused};
 ghost use Rattle.dexval.specs.Nesting.{HasPools};
 ghost use Rattle.dexval.specs.Reading.{IsSetFault};
 ghost use Rattle.dexval.specs.Results.{HasSetShape};
-ghost use Rattle.dexval.specs.internal.Found.{MeasuresItem, MeasuresSet};
+ghost use Rattle.dexval.specs.internal.Found.{MeasuresSet};
 
 use crate::set_reading::offset_count;
 use crate::value_checking::ValueChecker;
@@ -26,37 +26,27 @@ pub struct SetShape {
     pub weight: u64,
 }
 
-// The number of the type of the annotation_item at an offset, and its weight, or `None` if there is no such item.
-fn item_weight(frame: &Frame<'_>, pools: &Pools<'_>, off: u32) -> Option<(u32, u64)>
-    ensures checked { HasPools frame.now pools.now → MeasuresItem frame.now off pools.now result }
-    ensures light { IfSome result (λ item. item.1 ≤ 9 * 2 ^ 30) }
-{
-    let bytes = frame.bytes();
-    let at = off as usize;
-    if off < frame.data_off() || at >= bytes.len() || bytes[at] > MOST_VISIBILITY {
-        return None;
-    }
-    let checker = ValueChecker { bytes, pools };
-    let (typ, annotation) = checker.annotation_measure(at + 1, MOST_DEPTH)?;
-    Some((typ, annotation.weight))
-}
-
 // The shape of the annotation_set_item at an offset, or `None` if there is no such item.
 fn set_shape(frame: &Frame<'_>, pools: &Pools<'_>, off: u32) -> Option<SetShape>
     ensures { HasPools frame.now pools.now → MeasuresSet frame.now off pools.now result }
 {
     let count = offset_count(frame, off)?;
     let bytes = frame.bytes();
+    let checker = ValueChecker { bytes, pools };
     let mut weight = 8;
     let mut least = 0;
     for i in 0..count {
         let place = u32_at(bytes, off as usize + 4 + 4 * i as usize);
-        let (typ, item) = item_weight(frame, pools, place)?;
+        let at = place as usize;
+        if place < frame.data_off() || at >= bytes.len() || bytes[at] > MOST_VISIBILITY {
+            return None;
+        }
+        let (typ, annotation) = checker.annotation_measure(at + 1, MOST_DEPTH)?;
         if u64::from(typ) < least {
             return None;
         }
         least = u64::from(typ) + 1;
-        weight += 4 + item;
+        weight += 4 + annotation.weight;
     }
     let weight = if count == 0 { 0 } else { weight };
     Some(SetShape { count, weight })

@@ -15,9 +15,9 @@ use Rattle.dexval.specs.declared.value.EncodedAnnotation.{EncodedAnnotation}
 use Rattle.dexval.specs.declared.value.Value.{Value}
 use Rattle.dexval.specs.declared.value_checking.StaticsShape.{StaticsShape}
 use Rattle.dexval.specs.declared.value_checking.ValueShape.{ValueShape}
-use Rattle.dexval.specs.Checking.{HasValue, HasArray, HasElement, HasElements, HasAnnotation, HasItem}
+use Rattle.dexval.specs.Checking.{HasValue, HasArray, HasElement, HasElements, HasAnnotation}
 use Rattle.dexval.specs.Code.{value_of, values_of, element_of, elements_of, encoded_type, encoded_elements, annotation_of}
-use Rattle.dexval.specs.Items.{IsItemAt, NoItemAt, NoSetAt, HasOffsets}
+use Rattle.dexval.specs.Items.{IsItemAt, NoSetAt, HasOffsets}
 use Rattle.dexval.specs.Nesting.{NoArrayAt, AreReadAt, NoElementAt, IsElementReadAt, NoElementsAt, AreElementsReadAt, NoAnnotationAt, IsAnnotationReadAt}
 use Rattle.dexval.specs.Results.{HasValueShape, HasStaticsShape, HasSetShape}
 use Rattle.dexval.specs.internal.Scalars.{Spells, NoValueAt, IsReadAt}
@@ -97,10 +97,6 @@ IsOffsetCount b off count = HasOffsets b off × (count ≡ uint_at b off)
 -- the annotation of the annotation_item at the offset
 abbrev pub IsReadItem : List ℕ → ℕ → Mentions → CodeAnnotation → Type 0
 IsReadItem b off m annotation = IsItemAt b off m (annotation_of annotation)
-
--- the number of the type of an annotation_item, and its weight, or none is at the offset
-abbrev pub MeasuresItem : List ℕ → ℕ → Mentions → Option (ℕ × ℕ) → Type 0
-MeasuresItem b off m found = MatchOption found (NoItemAt b off) (λ item. HasItem b off m item.0 item.1)
 
 -- the shape of an annotation_set_item, or none is at the offset
 abbrev pub MeasuresSet : List ℕ → ℕ → Mentions → Option SetShape → Type 0

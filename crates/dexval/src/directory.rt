@@ -1,9 +1,9 @@
 //! The annotations of a class and its members.
 
-ghost use Rattle.std.specs.Prelude.{◌≡◌, All, IfOk, Some, map};
+ghost use Rattle.std.specs.Prelude.{◌≡◌, All, IfOk, Some};
 ghost use Rattle.dexval.specs.Code.{set_of, directory_of, member_sets};
 ghost use Rattle.dexval.specs.Shared.{sets_of_members, shared_directory_of, HoldsItsPlaces};
-ghost use Rattle.dexval.specs.Tables.{IsPlaceIn, set_at, sets_at};
+ghost use Rattle.dexval.specs.Tables.{IsPlaceIn, set_at};
 
 use crate::{AnnotationSet, SetTable};
 use std::alloc::{AllocError, Global};
@@ -68,19 +68,6 @@ impl SetTable {
             .map_or_else(|| Ok(AnnotationSet::empty(alloc)), |set| set.copy())
     }
 
-    // The sets of the list at a place, each with annotations of its own.
-    fn copied_list(&self, alloc: Global, place: u32) -> Result<Vec<AnnotationSet>, AllocError>
-        requires { IsPlaceIn self.now.lists (Some place) }
-        ensures { IfOk result (λ sets. map set_of sets.items ≡ sets_at self.now (Some place)) }
-    {
-        let places = self.list(Some(place));
-        let mut sets = Vec::with_capacity(alloc, places.len())?;
-        for place in places {
-            sets.push(self.copied_set(alloc, *place)?)?;
-        }
-        Ok(sets)
-    }
-
     // Members with their sets instead of the places.
     fn copied_sets(&self, members: &Members<u32>) -> Result<Members<AnnotationSet>, AllocError>
         requires { All (λ e. IsPlaceIn self.now.sets (Some e.1)) members.now.items }
@@ -108,7 +95,11 @@ impl SharedDirectory {
         let alloc = *self.parameters.allocator();
         let mut parameters = Vec::with_capacity(alloc, self.parameters.len())?;
         for member in &self.parameters {
-            let sets = self.table.copied_list(alloc, member.1)?;
+            let places = self.table.list(Some(member.1));
+            let mut sets = Vec::with_capacity(alloc, places.len())?;
+            for place in places {
+                sets.push(self.table.copied_set(alloc, *place)?)?;
+            }
             parameters.push((member.0, sets))?;
         }
         Ok(Directory {

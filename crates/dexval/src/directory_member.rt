@@ -7,10 +7,8 @@ ghost use Rattle.dexspec.specs.Mentions.{Mentions};
 ghost use Rattle.dexspec.specs.Weight.{set_weight, ref_list_weight};
 ghost use Rattle.dexval.specs.Numbered.{NumberedSet, IsKnownSet, set_in};
 ghost use Rattle.dexval.specs.DirectoryCache.{AreHeld};
-ghost use Rattle.dexval.specs.Directories.{NoRefListAt};
-ghost use Rattle.dexval.specs.Items.{IsRefusal};
 ghost use Rattle.dexval.specs.Tables.{NumberedTable, Extends, IsListed, IsPlaceIn, set_at, sets_at};
-ghost use Rattle.dexval.specs.internal.Counting.{IsFaultAt, HasItemOf, HasRefListOf, IsFile, AreCheckedOf, IsCacheOf, IsItemNoted, AreSetsNoted, HasCountedItem, HasCountedSets, IsFaultWithin};
+ghost use Rattle.dexval.specs.internal.Counting.{IsFaultAt, HasItemOf, IsFile, AreCheckedOf, IsCacheOf, IsItemNoted, AreSetsNoted, HasCountedItem, HasCountedSets, IsFaultWithin};
 
 use crate::directory_cache::{CountedCache, File};
 use crate::directory_checking::CheckedSets;
@@ -125,27 +123,6 @@ fn list_weight(count: u32) -> u64
 }
 
 impl File<'_> {
-    // The weight of the sets of the annotation_set_ref_list at an offset, with the list, or 2^64 - 1 if they weigh more.
-    // Error: there is no list.
-    fn weigh_listed(&self, off: u32, checked: &mut CheckedSets) -> Result<u64, ItemFault>
-        requires { IsFile self.now → AreCheckedOf self.now checked.old }
-        ensures checked { IsFile self.now → OnOk result (AreCheckedOf self.now checked.new) }
-        ensures weight { IsFile self.now
-            → IfOk result (HasRefListOf self.now.frame.now off self.now.pools.now) }
-        ensures refused { IsFile self.now
-            → IfErr result (IsRefusal (NoRefListAt self.now.frame.now off)) }
-    {
-        let count = count_at(self.frame, off)?;
-        let list = list_weight(count);
-        let mut weight = list;
-        for i in 0..count {
-            let set_off = uint_at(self.frame, off as usize + 4 + 4 * i as usize);
-            let set = self.weigh_set(set_off, checked)?;
-            weight = weight.saturating_add(set);
-        }
-        Ok(weight)
-    }
-
     // The places of the sets of the annotation_set_ref_list at an offset. The list and each set are counted. Error: there
     // is no list, or it is too heavy.
     fn listed_at(&self, off: u32, kept: &mut CountedCache) -> Result<Vec<Option<u32>>, ItemFault>
@@ -201,7 +178,14 @@ impl OfMember for ListOfMember {
         if let Some(weight) = checked.lists.get(&off) {
             return Ok(*weight);
         }
-        let weight = file.weigh_listed(off, checked)?;
+        let count = count_at(file.frame, off)?;
+        let list = list_weight(count);
+        let mut weight = list;
+        for i in 0..count {
+            let set_off = uint_at(file.frame, off as usize + 4 + 4 * i as usize);
+            let set = file.weigh_set(set_off, checked)?;
+            weight = weight.saturating_add(set);
+        }
         checked.lists.insert(off, weight)?;
         Ok(weight)
     }

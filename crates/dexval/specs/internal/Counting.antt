@@ -146,10 +146,6 @@ IsFaultOf encodes b pairs = IsRefusal (NoPairsAt encodes b pairs.at pairs.count 
 abbrev pub HasSetOrEmptyOf : List ℕ → ℕ → Mentions → ℕ → Type 0
 HasSetOrEmptyOf b off m = IsWeighed (IsSetOrEmptyAt b off m) (set_weight_in m)
 
--- the list at the offset
-abbrev pub HasRefListOf : List ℕ → ℕ → Mentions → ℕ → Type 0
-HasRefListOf b off m = IsWeighed (IsRefListAt b off m) (sets_weight_in m)
-
 -- the item of a member
 abbrev pub HasItemOf : {X Y : Type 0} → (Mentions → X → Type 0) → (Mentions → X → Y) → (List ℕ → ℕ → Y → Type 0) → (Y → ℕ) → List ℕ → ℕ → Mentions → ℕ → Type 0
 HasItemOf is_known inside encodes weighs b off m = IsWeighed (IsKnownAt (is_known m) (inside m) (encodes b off)) (λ x. weighs (inside m x))

@@ -38,19 +38,6 @@ impl Model for SetTable {
     ghost invariant = { λ t. HoldsLists (record { sets = map set_of t.sets.items; lists = map (λ l. l.items) t.lists.items }) };
 }
 
-// Replaces each number of a symbol in the sets by the one that it maps to, in each set that fits.
-fn renumber_sets(sets: &mut Vec<AnnotationSet>, remap: &Remap)
-    ensures size { length sets.new.items ≡ length sets.old.items }
-    ensures sets { AreRemappedSets remap.now (map set_of sets.old.items)
-        (map set_of sets.new.items) }
-{
-    for i in 0..sets.len() {
-        if sets[i].fits(remap) {
-            sets[i].renumber(remap);
-        }
-    }
-}
-
 impl SetTable {
     /// A table without sets and lists.
     pub fn empty(alloc: Global) -> SetTable
@@ -146,7 +133,11 @@ impl SetTable {
         ensures lists { self.new.lists ≡ self.old.lists }
         ensures sets { AreRemappedSets remap.now self.old.sets self.new.sets }
     {
-        renumber_sets(&mut self.sets, remap);
+        for i in 0..self.sets.len() {
+            if self.sets[i].fits(remap) {
+                self.sets[i].renumber(remap);
+            }
+        }
     }
 
     /// The same table, with copies of its sets and lists.

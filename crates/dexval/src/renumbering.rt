@@ -2,9 +2,9 @@
 
 ghost use Rattle.std.specs.Prelude.{◌≡◌, map};
 ghost use Rattle.dexpool.specs.declared.symbols.SymbolKind.TheVariants as kinds;
-ghost use Rattle.dexval.specs.Code.{value_of, element_of, encoded_of, annotation_of, set_of, values_of, elements_of};
-ghost use Rattle.dexval.specs.Numbered.{values_of_list, elements_of_list};
-ghost use Rattle.dexval.specs.Renumbering.{remapped, renumbered, renumbered_values, renumbered_elements, renumbered_element, renumbered_annotation, renumbered_set, HasPlaces, HavePlaces, ElementHasPlaces, ElementsHavePlaces, AnnotationHasPlaces, SetHasPlaces};
+ghost use Rattle.dexval.specs.Code.{value_of, element_of, encoded_of, annotation_of, set_of, values_of};
+ghost use Rattle.dexval.specs.Numbered.{values_of_list};
+ghost use Rattle.dexval.specs.Renumbering.{remapped, renumbered, renumbered_values, renumbered_element, renumbered_annotation, renumbered_set, HasPlaces, HavePlaces, ElementHasPlaces, AnnotationHasPlaces, SetHasPlaces};
 ghost use Rattle.dexpool.specs.Images.{IsMapped};
 
 use crate::{Annotation, AnnotationSet, Element, EncodedAnnotation, Value};
@@ -18,18 +18,6 @@ pub fn remapped(remap: &Remap, kind: SymbolKind, number: u32) -> u32
     ensures { result ≡ remapped remap.now kind number }
 {
     remap.or_same(kind, number as usize) as u32
-}
-
-// Replaces each number of elements by the one that it maps to.
-#[cycle(renumbering)]
-fn renumber_elements(elements: &mut Vec<Element>, remap: &Remap)
-    requires { ElementsHavePlaces remap.now (elements_of_list (map element_of elements.old.items)) }
-    ensures { elements_of elements.new.items
-        ≡ renumbered_elements remap.now (elements_of elements.old.items) }
-{
-    for i in 0..elements.len() {
-        elements[i].renumber(remap);
-    }
 }
 
 /// Replaces each number of a symbol in values, as those of static fields, by the one that it maps to.
@@ -91,8 +79,10 @@ impl EncodedAnnotation {
         requires { HasPlaces remap.now (encoded_of self.old) }
         ensures { encoded_of self.new ≡ renumbered remap.now (encoded_of self.old) }
     {
+        for i in 0..self.elements.len() {
+            self.elements[i].renumber(remap);
+        }
         self.typ = remapped(remap, SymbolKind::Typ, self.typ);
-        renumber_elements(&mut self.elements, remap);
     }
 }
 

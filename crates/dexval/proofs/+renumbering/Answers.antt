@@ -1,26 +1,12 @@
-use Rattle.dexval.proofs.Common.{◌≡◌, List, rules, [], map, ap, sym, subst, ◌∙◌, arith, All-head, All-tail, Value, EncodedAnnotation-F, roll-EncodedAnnotation, out-roll-EncodedAnnotation, Element, EncodedAnnotation, out-EncodedAnnotation, value_of, element_of, values_of, elements_of, encoded_of, encoded_type, encoded_elements, Annotated, values_of_list, elements_of_list, remapped, renumbered, renumbered_values, renumbered_elements, renumbered_element, HasPlaces, HavePlaces, ElementHasPlaces, ElementsHavePlaces, IsMapped, MapsUse, value_uses, elements_uses, numbered_elements_weight}
+use Rattle.dexval.proofs.Common.{◌≡◌, ◌+◌, ◌<◌, length, rules, [], map, ap, sym, subst, ◌∙◌, arith, All-head, All-tail, Value, EncodedAnnotation-F, out-roll-EncodedAnnotation, Element, EncodedAnnotation, out-EncodedAnnotation, value_of, element_of, values_of, elements_of, encoded_of, encoded_type, encoded_elements, Annotated, values_of_list, elements_of_list, remapped, renumbered, renumbered_values, renumbered_elements, renumbered_element, HasPlaces, HavePlaces, ElementHasPlaces, ElementsHavePlaces, IsMapped, MapsUse, value_uses, elements_uses, numbered_elements_weight}
 use Rattle.std.specs.Box.{with_value}
+use Rattle.std.specs.Vec.{with_item}
 use Rattle.dexpool.specs.declared.symbols.SymbolKind.TheVariants as kinds
 use Rattle.dexval.specs.declared.value.Value.TheVariants as variants
 use Rattle.dexval.specs.Numbered as numbered
 use Rattle.dexval.proofs.Members.{string_is, typ_is, field_is, method_is, enum_is, array_is, annotation_is, element_is, value_lighter, element_lighter, array_lighter, annotation_lighter}
-use Rattle.dexval.proofs.Renumbered.{next_is, next_member, all_remapped, remapped_more, values_placed, elements_placed, values_renumbered, elements_renumbered}
+use Rattle.dexval.proofs.Renumbered.{AreRemapped, next_is, next_member, all_remapped, remapped_more, values_placed, elements_placed, values_renumbered, elements_renumbered}
 use Rattle.dexval.proofs.+renumbering.Goals as goal
-
-pub renumbering::renumber_elements-renumber-requires : goal.renumbering::renumber_elements-renumber-requires
-renumbering::renumber_elements-renumber-requires t c =
-    let old = c.args.elements.now.items in
-    let d = c.index_mut.result.now in
-    let lighter = element_lighter old c.loop-i.i d (omega arith) (next_is element_of (renumbered_element c.args.remap.now) old c.loop-i.elements.items c.loop-i.i d c.loop-i.invariant c.index_mut.ensures.value) in
-    (search rules, next_member element_of (renumbered_element c.args.remap.now) (ElementHasPlaces c.args.remap.now) old c.loop-i.elements.items c.loop-i.i d c.loop-i.invariant (omega arith) (elements_placed c.args.remap.now (map element_of old) c.requires) c.index_mut.ensures.value)
-
-pub renumbering::renumber_elements-loop-i-preserved : goal.renumbering::renumber_elements-loop-i-preserved
-renumbering::renumber_elements-loop-i-preserved t c =
-    remapped_more element_of (renumbered_element c.args.remap.now) c.args.elements.now.items c.loop-i.elements.items c.loop-i.i c.index_mut.result.now c.renumber.new.self c.loop-i.invariant (omega arith) c.index_mut.ensures.value c.renumber.ensures
-
-pub renumbering::renumber_elements-returns : goal.renumbering::renumber_elements-returns
-renumbering::renumber_elements-returns t c =
-    ap elements_of_list (all_remapped element_of (renumbered_element c.args.remap.now) c.args.elements.now.items c.loop-i.elements.items c.loop-i.i c.loop-i.invariant (omega arith)) ∙ elements_renumbered c.args.remap.now (map element_of c.args.elements.now.items)
 
 pub renumbering::renumber_values-renumber-requires : goal.renumbering::renumber_values-renumber-requires
 renumbering::renumber_values-renumber-requires t c =
@@ -81,25 +67,50 @@ value::Value::renumber-returns-in-Array t c =
     let is = ap numbered.Array (c.renumber_values.ensures ∙ ap (λ v. renumbered_values c.args.remap.now (values_of v.items)) (c.deref_mut.ensures.value ∙ ap (λ b. b.value) c.in-Array.values-is)) ∙ ap (renumbered c.args.remap.now) (sym (array_is b)) in
     let whole : value_of (variants.Array (with_value b c.renumber_values.new.values)) ≡ renumbered c.args.remap.now (value_of (variants.Array b)) = array_is (with_value b c.renumber_values.new.values) ∙ is in search rules
 
+pub value::EncodedAnnotation::renumber-renumber-requires : goal.value::EncodedAnnotation::renumber-renumber-requires
+value::EncodedAnnotation::renumber-renumber-requires t c =
+    let r = c.args.remap.now in
+    let a = c.args.self.now in
+    let old = (out-EncodedAnnotation a).elements.items in
+    let now = (out-EncodedAnnotation c.loop-i.self).elements.items in
+    let i = c.loop-i.i in
+    let d = c.index_mut.result.now in
+    let h = c.loop-i.invariant.elements in
+    let lt : i < length old = omega (arith, (out-EncodedAnnotation a).elements.ok.0) in
+    let lighter = element_lighter old i d lt (next_is element_of (renumbered_element r) old now i d h c.index_mut.ensures.value) in
+    let places : ElementsHavePlaces r (elements_of old) = All-tail (MapsUse r) (record { kind = kinds.Typ; number = encoded_type a }) (elements_uses (encoded_elements a)) c.requires in
+    (search rules, next_member element_of (renumbered_element r) (ElementHasPlaces r) old now i d h lt (elements_placed r (map element_of old) places) c.index_mut.ensures.value)
+
+pub value::EncodedAnnotation::renumber-loop-i-preserved : goal.value::EncodedAnnotation::renumber-loop-i-preserved
+value::EncodedAnnotation::renumber-loop-i-preserved t c =
+    let r = c.args.remap.now in
+    let a = out-EncodedAnnotation c.args.self.now in
+    let old = a.elements.items in
+    let now = out-EncodedAnnotation c.loop-i.self in
+    let i = c.loop-i.i in
+    let lt : i < length old = omega (arith, a.elements.ok.0) in
+    let new : EncodedAnnotation-F Value Element EncodedAnnotation = record { typ = now.typ; elements = with_item now.elements i c.renumber.new.self } in
+    let same = out-roll-EncodedAnnotation new in
+    record {
+      typ = ap (λ (n : EncodedAnnotation-F Value Element EncodedAnnotation). n.typ) same ∙ c.loop-i.invariant.typ;
+      elements = subst (λ (n : EncodedAnnotation-F Value Element EncodedAnnotation). AreRemapped element_of (renumbered_element r) (i + 1) old n.elements.items) (sym same)
+          (remapped_more element_of (renumbered_element r) old now.elements.items i c.index_mut.result.now c.renumber.new.self c.loop-i.invariant.elements lt c.index_mut.ensures.value c.renumber.ensures);
+    }
+
 pub value::EncodedAnnotation::renumber-remapped-self-requires : goal.value::EncodedAnnotation::renumber-remapped-self-requires
 value::EncodedAnnotation::renumber-remapped-self-requires t c =
-    let a = c.args.self.now in All-head (MapsUse c.args.remap.now) (record { kind = kinds.Typ; number = encoded_type a }) (elements_uses (encoded_elements a)) c.requires
-
-pub value::EncodedAnnotation::renumber-renumber_elements-requires : goal.value::EncodedAnnotation::renumber-renumber_elements-requires
-value::EncodedAnnotation::renumber-renumber_elements-requires t c =
-    let new : EncodedAnnotation-F Value Element EncodedAnnotation = record { typ = c.remapped-self.result; elements = (out-EncodedAnnotation c.args.self.now).elements } in
-    let same : (out-EncodedAnnotation (roll-EncodedAnnotation new)).elements.items ≡ (out-EncodedAnnotation c.args.self.now).elements.items = ap (λ (n : EncodedAnnotation-F Value Element EncodedAnnotation). n.elements.items) (out-roll-EncodedAnnotation new) in
-    let weight = ap (λ (l : List Element). numbered_elements_weight (elements_of l)) same in
-    (search rules, subst (λ (l : List Element). ElementsHavePlaces c.args.remap.now (elements_of l)) (sym same) (All-tail (MapsUse c.args.remap.now) (record { kind = kinds.Typ; number = encoded_type c.args.self.now }) (elements_uses (encoded_elements c.args.self.now)) c.requires))
+    let a = c.args.self.now in
+    subst (IsMapped c.args.remap.now kinds.Typ) (sym c.loop-i.invariant.typ) (All-head (MapsUse c.args.remap.now) (record { kind = kinds.Typ; number = encoded_type a }) (elements_uses (encoded_elements a)) c.requires)
 
 pub value::EncodedAnnotation::renumber-returns : goal.value::EncodedAnnotation::renumber-returns
 value::EncodedAnnotation::renumber-returns t c =
+    let r = c.args.remap.now in
     let a = out-EncodedAnnotation c.args.self.now in
-    let mid : EncodedAnnotation-F Value Element EncodedAnnotation = record { typ = c.remapped-self.result; elements = a.elements } in
-    let new : EncodedAnnotation-F Value Element EncodedAnnotation = record { typ = (out-EncodedAnnotation (roll-EncodedAnnotation mid)).typ; elements = c.renumber_elements.new.elements } in
-    let typ : new.typ ≡ remapped c.args.remap.now kinds.Typ a.typ = ap (λ (n : EncodedAnnotation-F Value Element EncodedAnnotation). n.typ) (out-roll-EncodedAnnotation mid) ∙ c.remapped-self.ensures in
-    let elements : elements_of new.elements.items ≡ renumbered_elements c.args.remap.now (elements_of a.elements.items) =
-    c.renumber_elements.ensures ∙ ap (λ (n : EncodedAnnotation-F Value Element EncodedAnnotation). renumbered_elements c.args.remap.now (elements_of n.elements.items)) (out-roll-EncodedAnnotation mid) in
+    let old = a.elements.items in
+    let new : EncodedAnnotation-F Value Element EncodedAnnotation = record { typ = c.remapped-self.result; elements = (out-EncodedAnnotation c.loop-i.self).elements } in
+    let typ : new.typ ≡ remapped r kinds.Typ a.typ = c.remapped-self.ensures ∙ ap (remapped r kinds.Typ) c.loop-i.invariant.typ in
+    let elements : elements_of new.elements.items ≡ renumbered_elements r (elements_of old) =
+    ap elements_of_list (all_remapped element_of (renumbered_element r) old new.elements.items c.loop-i.i c.loop-i.invariant.elements (omega (arith, a.elements.ok.0))) ∙ elements_renumbered r (map element_of old) in
     ap (λ (n : EncodedAnnotation-F Value Element EncodedAnnotation). Annotated n.typ (elements_of n.elements.items)) (out-roll-EncodedAnnotation new) ∙ (λ k. Annotated (typ k) (elements k))
 
 pub value::Element::renumber-remapped-self-requires : goal.value::Element::renumber-remapped-self-requires

@@ -6,7 +6,7 @@ ghost use Rattle.dexspec.specs.Files.{definitions, IsCollectionOf};
 ghost use Rattle.dexspec.specs.Depth.{in_class_order};
 
 use crate::classes::Class;
-use crate::programs::{Program, copied};
+use crate::programs::Program;
 use crate::trimming::trim;
 use dexpool::Numbering;
 use std::alloc::{AllocError, Global};
@@ -52,11 +52,8 @@ impl<'a> Part<'a> {
         ensures { IfOk result (λ part. part ≡ in_class_order (definitions program.now)) }
     {
         program.is_good();
-        let classes = program.classes();
-        Ok(Part {
-            numbering: program.numbering().copy()?,
-            classes: copied(*program.classes.allocator(), classes)?,
-        })
+        let (numbering, classes) = program.copy()?.into_parts();
+        Ok(Part { numbering, classes })
     }
 
     /// The number of classes.

@@ -232,23 +232,17 @@ impl<'a> Program<'a> {
     pub fn copy(&self) -> Result<Program<'a>, AllocError>
         ensures { IfOk result (λ copy. copy ≡ self.now) }
     {
+        let numbering = self.numbering.copy()?;
+        let mut classes = Vec::with_capacity(*self.classes.allocator(), self.classes.len())?;
+        for class in &self.classes {
+            classes.push(class.copy()?)?;
+        }
         Ok(Program {
-            numbering: self.numbering.copy()?,
-            classes: copied(*self.classes.allocator(), &self.classes)?,
+            numbering,
+            classes,
             weight: self.weight,
         })
     }
-}
-
-/// The same classes, with lists of their own.
-pub(crate) fn copied<'a>(alloc: Global, classes: &[Class<'a>]) -> Result<Vec<Class<'a>>, AllocError>
-    ensures { IfOk result (λ copy. copy.items ≡ classes.now) }
-{
-    let mut copy = Vec::with_capacity(alloc, classes.len())?;
-    for i in 0..classes.len() {
-        copy.push(classes[i].copy()?)?;
-    }
-    Ok(copy)
 }
 
 // What classes weigh over the numbering of just what they mention, or 2^64 - 1 where that is more.

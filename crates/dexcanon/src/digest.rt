@@ -35,8 +35,24 @@ pub fn digests(alloc: Global, program: &Program<'_>) -> Result<Vec<[u8; 20]>, Al
 {
     dexlaws::normal::normal_form();
     program.is_good();
-    let mut digests = Vec::with_capacity(alloc, program.len())?;
-    put_digests(alloc, Part::of(program)?, &mut digests)?;
+    digests_of(alloc, Part::of(program)?)
+}
+
+/// What [`digests`] returns of a program that is given up: its classes are moved, and not copied.
+///
+/// Source: as of [`digests`].
+pub fn into_digests(alloc: Global, program: Program<'_>) -> Result<Vec<[u8; 20]>, AllocError>
+    ensures { IfOk result (λ digests. digests.items ≡ class_digests program.entry) }
+{
+    digests_of(alloc, program.into_part())
+}
+
+// The digest of each class of a part.
+fn digests_of(alloc: Global, part: Part<'_>) -> Result<Vec<[u8; 20]>, AllocError>
+    ensures { IfOk result (λ digests. digests.items ≡ map class_digest part.entry) }
+{
+    let mut digests = Vec::with_capacity(alloc, part.len())?;
+    put_digests(alloc, part, &mut digests)?;
     Ok(digests)
 }
 

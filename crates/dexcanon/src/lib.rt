@@ -17,6 +17,6 @@ mod targets;
 mod writing;
 
 pub use dexlayout::Layout;
-pub use digest::digests;
+pub use digest::{digests, into_digests};
 pub use faults::StoreFault;
 pub use writing::{to_bytes, write_to};

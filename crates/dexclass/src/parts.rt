@@ -51,9 +51,7 @@ impl<'a> Part<'a> {
     pub fn of(program: &Program<'a>) -> Result<Part<'a>, AllocError>
         ensures { IfOk result (λ part. part ≡ in_class_order (definitions program.now)) }
     {
-        program.is_good();
-        let (numbering, classes) = program.copy()?.into_parts();
-        Ok(Part { numbering, classes })
+        Ok(program.copy()?.into_part())
     }
 
     /// The number of classes.
@@ -99,5 +97,16 @@ impl<'a> Part<'a> {
     {
         let Part { numbering, classes } = self;
         Program::of(alloc, numbering, classes)
+    }
+}
+
+impl<'a> Program<'a> {
+    /// All classes of the program, by depth and then by name, moved out of it.
+    pub fn into_part(self) -> Part<'a>
+        ensures { result ≡ in_class_order (definitions self.entry) }
+    {
+        self.is_good();
+        let (numbering, classes) = self.into_parts();
+        Part { numbering, classes }
     }
 }

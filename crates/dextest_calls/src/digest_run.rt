@@ -1,7 +1,10 @@
 //! Classes digested as the program does: `digestrun FILE ok CLASSES`, with the digest and the name of each class in
-//! canonical order, all separated by tabs, or `-` if there is no class; or `digestrun FILE fault CAUSE`.
+//! canonical order, all separated by tabs, or `-` if there is no class; or `digestrun FILE fault CAUSE`. The digests of
+//! a program that is borrowed are the same.
 
+use crate::program::program_of;
 use crate::run_answer::RunAnswer;
+use dexcanon::digests;
 use dexhead::Device;
 use dexruns::digest_run;
 use dextest_cases::{CaseFault, Outcome, Printed};
@@ -9,6 +12,11 @@ use std::alloc::{AllocError, Global};
 
 /// Runs a line, given the name of the file and its bytes. `right` is the text after the name.
 pub fn run(alloc: Global, name: &str, bytes: &[u8], right: &str) -> Result<Outcome, CaseFault> {
+    if let Some(classes) = right.strip_prefix("ok ") {
+        if borrowed_digests(alloc, bytes)? != digests_in(alloc, classes)? {
+            return Err(CaseFault::failed(alloc, "other digests"));
+        }
+    }
     let right = answer_in(alloc, name, right)?;
     let mut input = Device::new(bytes);
     let mut out = Device::new(Vec::new(alloc));
@@ -44,4 +52,27 @@ fn lines_of(alloc: Global, name: &str, classes: &str) -> Result<String, AllocErr
         is_digest = !is_digest;
     }
     lines.finish()
+}
+
+// Returns the digests of the classes of a file, one after the other, by the call that borrows the program.
+fn borrowed_digests(alloc: Global, bytes: &[u8]) -> Result<String, CaseFault> {
+    let program = program_of(alloc, bytes)?;
+    let mut text = Printed::new(alloc);
+    for digest in &digests(alloc, &program)? {
+        for byte in digest {
+            text.add_hex(u64::from(*byte), 2);
+        }
+    }
+    Ok(text.finish()?)
+}
+
+// Returns the digests of classes, one after the other, given by their digests and names.
+fn digests_in(alloc: Global, classes: &str) -> Result<String, AllocError> {
+    let mut text = Printed::new(alloc);
+    for (i, part) in classes.split('\t').enumerate() {
+        if i % 2 == 0 && part != "-" {
+            text.add(part);
+        }
+    }
+    text.finish()
 }

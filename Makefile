@@ -7,8 +7,9 @@
 #   make check              the gate: proves what it has not passed on this machine, runs all cases, and makes each
 #                           allocation, read and write of the proved program fail once
 #   make documents          checks links, sizes, names and versions in the documents, and words in all text and names
-#   make install PREFIX=..  installs the proved program, its manual, completions and notices; PREFIX is /usr/local if not given
-#   make dist               packs them as a tar file and a Debian package in dist/
+#   make install PREFIX=..  installs the proved program, its manual, completions, documents and examples; PREFIX is
+#                           /usr/local if not given; a program that was not proved from the files of this tree is refused
+#   make dist               packs them as a tar file and a Debian package in dist/, with the same condition
 #   make clean              removes what checks and builds keep
 
 PREFIX ?= /usr/local
@@ -21,7 +22,7 @@ JOBS ?= $(shell nproc)
 PROGRAM = crates/dexkit/out/dexkit
 UNPROVED = crates/dexkit/out/dexkit-unproved
 
-VERSION := $(shell sed -n 's/.*const VERSION: &str = "\(.*\)";/\1/p' crates/dexargs/src/*.rt)
+VERSION := $(shell sed -n 's/.*const VERSION: &str = "\([^ "]*\).*/\1/p' crates/dexargs/src/help.rt)
 
 # The crates of the program, each after those that it depends on; the program is the last one.
 CRATES := $(shell tools/libraries dexkit)
@@ -38,6 +39,7 @@ all:
 		if [ $$crate = dexkit ]; then rt run --jobs $(JOBS) -- --version; else rt lib --jobs $(JOBS); fi; \
 		cd ../..; \
 	done
+	@tools/proved note
 
 try: $(UNPROVED)
 	@tools/try $(UNPROVED)
@@ -63,22 +65,18 @@ documents:
 	tests/words/run
 	[ ! -x tests/cases/run ] || tests/cases/run
 
-$(PROGRAM):
-	@echo "$(PROGRAM) is not there: prove and build it with make (an hour or more)" >&2
-	@exit 1
-
-install: $(PROGRAM)
+install:
+	@tools/proved ask
 	install -D -m 755 $(PROGRAM) $(DESTDIR)$(PREFIX)/bin/dexkit
 	install -D -m 644 docs/dexkit.1 $(DESTDIR)$(PREFIX)/share/man/man1/dexkit.1
 	sed -i 's/^\(\.TH DEXKIT .*\)"dexkit[^"]*"/\1"dexkit $(VERSION)"/' $(DESTDIR)$(PREFIX)/share/man/man1/dexkit.1
 	install -D -m 644 docs/completions/dexkit.bash $(DESTDIR)$(PREFIX)/share/bash-completion/completions/dexkit
 	install -D -m 644 docs/completions/_dexkit $(DESTDIR)$(PREFIX)/share/zsh/site-functions/_dexkit
 	install -D -m 644 docs/completions/dexkit.fish $(DESTDIR)$(PREFIX)/share/fish/vendor_completions.d/dexkit.fish
-	install -d $(DESTDIR)$(PREFIX)/share/doc/dexkit
-	install -m 644 README.md CHANGELOG.md LICENSE NOTICE docs/FORMAT.md docs/PROMISES.md docs/RECIPES.md \
-		crates/dextest_calls/data/rows/EXAMPLES.md $(DESTDIR)$(PREFIX)/share/doc/dexkit
+	tools/documents $(DESTDIR)$(PREFIX)/share/doc/dexkit
 
-dist: $(PROGRAM)
+dist:
+	@tools/proved ask
 	@rm -rf dist/stage
 	@umask 022; $(MAKE) -s install DESTDIR=dist/stage PREFIX=/usr
 	@tools/dist dist/stage $(VERSION)

@@ -1,11 +1,13 @@
 # shellcheck shell=sh
 # The common part of the recipes. Each `run` reads this file first.
-# DEXKIT names the program; without it, the program is the one that `make` at the top of the repository builds.
+# DEXKIT names the program; without it, the program is the one that `make` at the top of the repository builds, or, in an
+# installed copy, the one on the path.
 set -eu
 export LC_ALL=C.UTF-8
 
 examples=$(cd "$(dirname "$0")/.." && pwd)
-DEXKIT=${DEXKIT:-$examples/../crates/dexkit/out/dexkit}
+[ -n "${DEXKIT:-}" ] || [ ! -d "$examples/../crates" ] || DEXKIT=$examples/../crates/dexkit/out/dexkit
+DEXKIT=${DEXKIT:-dexkit}
 if ! command -v "$DEXKIT" >/dev/null; then
     echo "there is no program $DEXKIT: build it with make, or name one as DEXKIT=PATH" >&2
     exit 1

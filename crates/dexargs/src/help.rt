@@ -1,6 +1,7 @@
 //! The texts of the program's help. Each line has at most 80 columns.
 
-pub(crate) const VERSION: &str = "1.0.0";
+// The version, and the identity of the kit that the program is proved and built with.
+pub(crate) const VERSION: &str = "1.0.0 (rattle-kit-13f logic dac8208d650f15bf)";
 
 pub(crate) const ABOUT: &str =
     "Checks, merges, normalises, compares and lists DEX files of version 035";

@@ -10,19 +10,42 @@
  *   short-read=N  the Nth read moves one byte; short-read=0: each does; short-write=N: the same for writes
  *
  * FAULTS_COUNTS names a file of 24 bytes, to which the numbers of growths, reads and writes are written as they rise.
+ *
+ * It includes no header and is linked with no library, so that a compiler suffices on a machine that has no headers of
+ * the C library: what it calls of that library is declared here, for Linux on x86-64, and found there when it is loaded.
  */
-#define _GNU_SOURCE
-#include <errno.h>
-#include <fcntl.h>
-#include <stdint.h>
-#include <stdlib.h>
-#include <string.h>
-#include <sys/mman.h>
-#include <sys/syscall.h>
-#include <sys/vfs.h>
-#include <unistd.h>
+typedef unsigned long size_t;
+typedef long ssize_t;
 
+#define NULL ((void *)0)
+#define EINTR 4
+#define EIO 5
+#define ENOMEM 12
+#define O_RDWR 2
+#define PROT_READ 1
+#define PROT_WRITE 2
+#define MAP_SHARED 1
+#define MAP_FAILED ((void *)-1)
+#define STDERR_FILENO 2
+#define SYS_read 0
+#define SYS_write 1
 #define PROC_FILES 0x9fa0
+
+struct statfs {
+    long f_type;
+    long others[14];
+};
+
+int *__errno_location(void);
+int fstatfs(int fd, struct statfs *system);
+int open(const char *file, int flags, ...);
+int close(int fd);
+void *mmap(void *start, size_t size, int access, int flags, int fd, long offset);
+long syscall(long number, ...);
+void *__libc_malloc(size_t size);
+void *__libc_realloc(void *block, size_t size);
+
+#define errno (*__errno_location())
 
 enum { GROWTHS, READS, WRITES, KINDS };
 
@@ -41,22 +64,30 @@ static const struct fault faults[] = {
 };
 
 static const struct fault *chosen;
-static uint64_t chosen_call;
-static uint64_t own_counts[KINDS];
-static uint64_t *counts = own_counts;
+static unsigned long chosen_call;
+static unsigned long own_counts[KINDS];
+static unsigned long *counts = own_counts;
 
-void *__libc_malloc(size_t size);
-void *__libc_realloc(void *block, size_t size);
+/* Returns what is after a prefix of a text, or NULL if it does not begin with that. */
+static const char *after(const char *prefix, const char *text) {
+    while (*prefix && *prefix == *text) prefix++, text++;
+    return *prefix ? NULL : text;
+}
 
-__attribute__((constructor)) static void choose(void) {
-    const char *words = getenv("FAULTS");
-    const char *file = getenv("FAULTS_COUNTS");
-    for (size_t i = 0; words && i < sizeof faults / sizeof *faults; i++) {
-        size_t length = strlen(faults[i].name);
-        if (strncmp(words, faults[i].name, length) == 0) {
-            chosen_call = strtoull(words + length, NULL, 10);
-            chosen = &faults[i];
-        }
+/* The C library calls this with the arguments and the environment before `main`. */
+__attribute__((constructor)) static void choose(int count, char **words, char **environment) {
+    const char *fault = NULL, *file = NULL;
+    (void)count, (void)words;
+    for (; *environment; environment++) {
+        const char *found;
+        if ((found = after("FAULTS=", *environment))) fault = found;
+        if ((found = after("FAULTS_COUNTS=", *environment))) file = found;
+    }
+    for (size_t i = 0; fault && i < sizeof faults / sizeof *faults; i++) {
+        const char *digits = after(faults[i].name, fault);
+        if (!digits) continue;
+        chosen = &faults[i];
+        for (; *digits; digits++) chosen_call = 10 * chosen_call + (*digits - '0');
     }
     if (file) {
         int fd = open(file, O_RDWR);
@@ -68,7 +99,7 @@ __attribute__((constructor)) static void choose(void) {
 
 /* Counts a call, and returns whether it has the fault. */
 static int comes_at(int kind) {
-    uint64_t call = ++counts[kind];
+    unsigned long call = ++counts[kind];
     return chosen && chosen->kind == kind && (chosen_call == 0 || chosen_call == call);
 }
 

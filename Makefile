@@ -4,8 +4,8 @@
 #   make unproved           builds crates/dexkit/out/dexkit-unproved: the program with checks at run time and no proof
 #   make                    proves the program and all that it depends on, crate by crate, and builds crates/dexkit/out/dexkit;
 #                           what is proved is kept, so a run that was interrupted goes on where it was
-#   make check              the gate: proves what it has not passed on this machine, runs all cases, and makes each
-#                           allocation, read and write of the proved program fail once
+#   make check              the gate: proves what it has not passed on this machine, runs all cases, makes each allocation,
+#                           read and write of the proved program fail once, and runs the scripts that tests/gate/run lists
 #   make documents          checks links, sizes, names and versions in the documents, and words in all text and names
 #   make install PREFIX=..  installs the proved program, its manual, completions, documents and examples; PREFIX is
 #                           /usr/local if not given; a program that was not proved from the files of this tree is refused
@@ -51,14 +51,9 @@ $(UNPROVED): $(SOURCES)
 	@echo "Compiling dexkit without proofs: a minute and a half on four idle cores, several beside other work."
 	@tools/unproved
 
-# A line is printed for a failing call that was handled wrong, and none otherwise: the last line is that of `rt ci`. The
-# faults need a C compiler.
+# `rt ci`, and then the scripts that need nothing but this machine: the last line is that of `rt ci`.
 check:
-	rt ci
-	@said=$$(mktemp) && trap 'rm -f "$$said"' EXIT; \
-	if [ -x $(PROGRAM) ] && command -v cc >/dev/null; then \
-		tests/faults/run $(PROGRAM) >"$$said" || { cat "$$said"; exit 1; }; \
-	fi
+	@tests/gate/run
 
 documents:
 	tests/documents/run

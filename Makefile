@@ -54,6 +54,7 @@ $(UNPROVED): $(SOURCES)
 # `rt ci`, and then the scripts that need nothing but this machine: the last line is that of `rt ci`.
 check:
 	@tests/gate/run
+	@tools/proved note
 
 documents:
 	tests/documents/run

@@ -1,0 +1,238 @@
+"""Command lines with what is right of them: the files `*.cases` of the data, whose form is in README.md."""
+import os
+import re
+import shutil
+import tempfile
+from typing import Dict, Iterator, List, NamedTuple, Optional, Tuple
+
+from suite.calls import Hang, Program, Streams
+from suite.sources import Sources
+from suite.text import DataFault, expanded, unescaped, words
+
+MOST_SHOWN = 160
+
+
+class Output:
+    """What is right of an output: its bytes, or what they are like."""
+
+    def __init__(self) -> None:
+        self.exact = bytearray()
+        self.patterns: List["re.Pattern[bytes]"] = []
+
+    def trouble(self, name: str, got: bytes) -> Optional[str]:
+        """Returns what is wrong with these bytes, or None."""
+        if not self.patterns:
+            return difference(name, bytes(self.exact), got)
+        for pattern in self.patterns:
+            if not pattern.search(got):
+                return f"{name} is not like {pattern.pattern.decode()}: {shown(got)}"
+        return None
+
+
+def shown(some: bytes) -> str:
+    """Returns the beginning of some bytes, to be printed."""
+    dots = f".. ({len(some)} bytes)" if len(some) > MOST_SHOWN else ""
+    return repr(some[:MOST_SHOWN])[1:] + dots
+
+
+def difference(name: str, right: bytes, got: bytes) -> Optional[str]:
+    """Returns how these bytes are not the right ones, or None."""
+    if right == got:
+        return None
+    at = next((i for i, (a, b) in enumerate(zip(right, got)) if a != b), min(len(right), len(got)))
+    begin = max(right.rfind(b"\n", 0, at) + 1, at - 40)
+    return (
+        f"{name} has {len(got)} bytes, not {len(right)}, and at {at} (from {begin} on) "
+        f"{shown(got[begin:])}, not {shown(right[begin:])}"
+    )
+
+
+class Case:
+    """A command line, what is there before, and what is right then."""
+
+    def __init__(self, path: str, line: int, title: bytes):
+        self.path, self.line, self.title = path, line, title
+        self.lines: List[bytes] = []
+        self.words: Optional[List[bytes]] = None
+        self.files: Dict[bytes, bytes] = {}
+        self.folders: List[bytes] = []
+        self.modes: List[Tuple[bytes, int]] = []
+        self.streams = Streams()
+        self.status: Optional[int] = None
+        self.outputs = {b"stdout": Output(), b"stderr": Output()}
+        self.written: Dict[bytes, bytes] = {}
+
+    def __str__(self) -> str:
+        return f"{self.path}:{self.line}: {self.title.decode()}"
+
+    def text(self) -> bytes:
+        return b"\n".join([self.title] + self.lines)
+
+
+class Reader:
+    """Reads a file of cases."""
+
+    def __init__(self, path: str, sources: Sources):
+        self.path, self.sources, self.line = path, sources, 0
+
+    def cases(self) -> Iterator[Case]:
+        """Returns the cases of the file, in order, and raises DataFault at a broken line."""
+        with open(self.path, "rb") as file:
+            lines = file.read().split(b"\n")
+        case = None
+        for self.line, line in enumerate(lines, 1):
+            line = line.rstrip()
+            if not line or line.startswith(b"#"):
+                continue
+            kind, _, rest = line.partition(b" ")
+            try:
+                if kind == b"case":
+                    if case:
+                        yield self.whole(case)
+                    case = Case(os.path.basename(self.path), self.line, rest)
+                elif case is None:
+                    raise ValueError("a line before the first `case`")
+                else:
+                    case.lines.append(line)
+                    self.add(case, kind, rest)
+            except (ValueError, IndexError, re.error) as error:
+                raise DataFault(self.path, self.line, str(error)) from None
+        if case:
+            yield self.whole(case)
+
+    def whole(self, case: Case) -> Case:
+        if case.words is None or case.status is None or not case.title:
+            raise DataFault(self.path, case.line, "a case has a title, a line `run` and a line `status`")
+        return case
+
+    def add(self, case: Case, kind: bytes, rest: bytes) -> None:
+        """Adds a line to a case."""
+        stream, _, form = kind.partition(b"-")
+        if kind == b"run":
+            if case.words is not None:
+                raise ValueError("a second line `run`")
+            case.words = words(rest)
+        elif kind == b"files":
+            for name in words(rest):
+                add_new(case.files, name.rpartition(b"/")[2], self.sources.file(name))
+        elif kind == b"file":
+            for name, source in self.named(rest):
+                add_new(case.files, name, source)
+        elif kind == b"folder":
+            case.folders += words(rest)
+        elif kind == b"mode":
+            name, mode = rest.split()
+            case.modes.append((unescaped(name), int(mode, 8)))
+        elif kind == b"stdin":
+            is_closed = rest == b"closed"
+            case.streams = case.streams._replace(
+                stdin=b"" if is_closed else self.sources.bytes(rest), has_stdin=not is_closed)
+        elif kind == b"to":
+            name, where = rest.decode().split()
+            if name not in ("stdout", "stderr") or where not in ("full", "gone", "closed"):
+                raise ValueError("`to` has stdout or stderr, and full, gone or closed")
+            case.streams = case.streams._replace(**{name: where})
+        elif kind == b"unprivileged" and not rest:
+            case.streams = case.streams._replace(is_unprivileged=True)
+        elif kind == b"status":
+            if case.status is not None:
+                raise ValueError("a second line `status`")
+            case.status = int(rest)
+        elif stream in case.outputs:
+            self.add_output(case.outputs[stream], form, rest)
+        elif kind == b"made":
+            for name, source in self.named(rest):
+                add_new(case.written, name, source)
+        elif kind in (b"untouched", b"absent"):
+            if any((name in case.files) != (kind == b"untouched") for name in words(rest)):
+                raise ValueError("what is untouched is a file of the case that stands above, what is absent is none")
+        else:
+            raise ValueError(f"`{kind.decode(errors='replace')}` begins no line of a case")
+
+    def named(self, rest: bytes) -> Iterator[Tuple[bytes, bytes]]:
+        """Returns the name and the bytes that `NAME = SOURCE` stands for."""
+        for one in expanded(rest):
+            name, equals, source = one.partition(b" = ")
+            if not equals:
+                raise ValueError("it is `NAME = SOURCE`")
+            yield unescaped(name), self.sources.bytes(source)
+
+    def add_output(self, output: Output, form: bytes, rest: bytes) -> None:
+        if bool(output.patterns) != (form in (b"like", b"has")) and (output.patterns or output.exact):
+            raise ValueError("an output is exact, or like something")
+        if form == b"":
+            output.exact += b"".join(unescaped(one) + b"\n" for one in expanded(rest))
+        elif form == b"is":
+            output.exact += b"".join(self.sources.bytes(one) for one in expanded(rest))
+        elif form == b"like":
+            output.patterns.append(re.compile(rb"\A(?:" + rest + rb")\Z", re.DOTALL))
+        elif form == b"has":
+            output.patterns.append(re.compile(re.escape(unescaped(rest))))
+        else:
+            raise ValueError("an output is followed by nothing, -is, -like or -has")
+
+
+def add_new(files: Dict[bytes, bytes], name: bytes, some: bytes) -> None:
+    if name in files:
+        raise ValueError(f"{name.decode(errors='replace')} twice")
+    files[name] = some
+
+
+class Run(NamedTuple):
+    """The program, and a folder for what is made for the cases."""
+
+    program: Program
+    scratch: str
+
+    def trouble(self, case: Case) -> Optional[str]:
+        """Runs a case, and returns what is wrong, or None."""
+        folder = os.fsencode(tempfile.mkdtemp(dir=self.scratch))
+        try:
+            return self.trouble_in(case, folder)
+        except Hang as hang:
+            return str(hang)
+        except OSError as error:
+            return f"it cannot be run: {error}"
+        finally:
+            for name, _ in case.modes:
+                if os.path.exists(os.path.join(folder, name)):
+                    os.chmod(os.path.join(folder, name), 0o700)
+            shutil.rmtree(folder)
+
+    def trouble_in(self, case: Case, folder: bytes) -> Optional[str]:
+        for name in case.folders:
+            os.makedirs(os.path.join(folder, name))
+        for name, some in case.files.items():
+            with open(os.path.join(folder, name), "wb") as file:
+                file.write(some)
+        for name, mode in case.modes:
+            os.chmod(os.path.join(folder, name), mode)
+        assert case.words is not None
+        answer = self.program.call(case.words, os.fsdecode(folder), case.streams)
+        for name, mode in case.modes:
+            os.chmod(os.path.join(folder, name), mode | 0o700)
+        troubles = [] if answer.status == case.status else [f"status {answer.status}, not {case.status}"]
+        troubles += [
+            case.outputs[b"stdout"].trouble("standard output", answer.stdout),
+            case.outputs[b"stderr"].trouble("standard error", answer.stderr),
+            folder_trouble(folder, {**case.files, **case.written}),
+        ]
+        return "; ".join(each for each in troubles if each) or None
+
+
+def folder_trouble(folder: bytes, right: Dict[bytes, bytes]) -> Optional[str]:
+    """Returns how the files of a folder are not these, or None."""
+    found = set()
+    for at, _, names in os.walk(folder):
+        for name in names:
+            path = os.path.join(at, name)
+            relative = os.path.relpath(path, folder)
+            found.add(relative)
+            if relative not in right:
+                return f"{os.fsdecode(relative)} was made"
+            with open(path, "rb") as file:
+                trouble = difference(os.fsdecode(relative), right[relative], file.read())
+            if trouble:
+                return trouble
+    missing = set(right) - found
+    return f"{os.fsdecode(min(missing))} was not made" if missing else None

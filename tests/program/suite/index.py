@@ -1,0 +1,301 @@
+"""The lines of the index files, as command lines: which ones, and how, is in README.md."""
+import os
+import re
+from typing import Dict, Iterator, List, NamedTuple, Optional, Tuple, Union
+
+from suite.calls import Answer
+from suite.sources import Sources
+from suite.text import DataFault
+
+CONDITIONS = (
+    "Size Magic Version Lengths Endian Link Checksum Signature Layout Map Strings Types Protos Fields Methods Classes "
+    "Members Code Tries Debug Values Annotations Weight"
+).split()
+KINDS = (
+    "check checkrun cuts weight class slices normalise strip dump merge mergestrip regroup measure countrun digestrun "
+    "repairrun symbol join"
+).split()
+GREATEST = [65535, 65535, 65536, 65536, 65536, 1073741824]
+CAPS = ["types", "protos", "fields", "methods", "short-strings", "weight"]
+COUNTED = CAPS + ["classes", "strings"]
+SHORT_STRINGS = 4
+# A file that weighs more would be held in memory by `count`.
+MOST_WEIGHT = 1 << 26
+OUT = b"OUT"
+Plan = Union[int, List["Plan"]]
+
+
+class Line(NamedTuple):
+    """A line of an index: the folder of its files, where it stands, and what it says."""
+
+    folder: str
+    path: str
+    number: int
+    kind: str
+    rest: str
+
+    def __str__(self) -> str:
+        return f"{self.path}:{self.number}: {self.kind} {self.rest}"
+
+
+class Ask(NamedTuple):
+    """A command line, and its right answers; each has the bytes of OUT, or None where it is not made. The output may also
+    be right by a part: `part` returns what is to be compared of standard output."""
+
+    words: List[bytes]
+    rights: List[Tuple[Answer, Optional[bytes]]]
+    part: str = ""
+
+
+class Unsaid(Exception):
+    """No command line says this line."""
+
+
+def lines_of(data: str, path: str) -> List[Line]:
+    """Returns the lines of an index, and raises DataFault at one of no kind and at one that is written twice."""
+    lines: List[Line] = []
+    seen: Dict[str, int] = {}
+    try:
+        with open(os.path.join(data, path), encoding="ascii") as file:
+            texts = file.read().split("\n")
+    except (OSError, UnicodeDecodeError) as error:
+        raise DataFault(path, 0, str(error)) from None
+    for number, text in enumerate(texts, 1):
+        if not text or text.startswith("#"):
+            continue
+        kind, _, rest = text.partition(" ")
+        if kind not in KINDS:
+            raise DataFault(path, number, f"`{kind}` is no kind of line")
+        if text in seen:
+            raise DataFault(path, number, f"the same as line {seen[text]}")
+        seen[text] = number
+        lines.append(Line(os.path.dirname(path), path, number, kind, rest))
+    return lines
+
+
+def refusal(words: List[str]) -> str:
+    """Returns `NUMBER NAME at PLACE` for a number and a place."""
+    number, place = (int(word) for word in words)
+    return f"{number} {CONDITIONS[number - 1]} at {place}"
+
+
+def verdicts(rest: str) -> List[str]:
+    """Returns what `check` may print after `FILE: `, for what a line says after FILE."""
+    if re.fullmatch(r"ok \d+", rest):
+        return [f"ok classes={int(rest[3:])}"]
+    if not rest.startswith("refused "):
+        raise ValueError("neither ok nor refused")
+    return ["refused " + refusal(each.split()) for each in rest[8:].split(" | ")]
+
+
+def done(stdout: bytes = b"", out: Optional[bytes] = None) -> List[Tuple[Answer, Optional[bytes]]]:
+    return [(Answer(0, stdout, b""), out)]
+
+
+def faults(causes: str, files: List[str]) -> List[Tuple[Answer, Optional[bytes]]]:
+    """Returns the right answers of a run that is refused for one of these causes."""
+    return [(Answer(1, b"", f"dexkit: {fault(cause, files)}\n".encode()), None) for cause in causes.split(" | ")]
+
+
+def fault(cause: str, files: List[str]) -> str:
+    kind, _, rest = cause.partition(" ")
+    match = re.fullmatch(r"(\d+) refused (\d+ \d+)", rest)
+    if kind == "input" and match:
+        return f"{files[int(match.group(1))]}: refused {refusal(match.group(2).split())}"
+    if kind in ("conflict", "cycle") and rest or kind == "cap" and rest in CAPS:
+        return cause
+    raise ValueError(f"`{cause}` is no cause")
+
+
+class Asks:
+    """Makes command lines of lines of an index."""
+
+    def __init__(self, sources: Sources):
+        self.sources = sources
+
+    def file(self, line: Line, name: str) -> bytes:
+        return self.sources.file(os.path.normpath(os.path.join(line.folder, name)).encode())
+
+    def of(self, line: Line) -> List[Ask]:
+        """Returns the command lines of a line that is not asked together with others. Raises Unsaid if there are none,
+        and DataFault if the line is broken."""
+        if line.kind in ("symbol", "join"):
+            raise Unsaid("of calls that no command makes alone")
+        try:
+            return list(getattr(self, line.kind)(line, *line.rest.split(" ", 1)))
+        except (ValueError, IndexError, TypeError) as error:
+            raise DataFault(line.path, line.number, str(error)) from None
+
+    def checkrun(self, line: Line, name: str, rest: str) -> Iterator[Ask]:
+        status, text = rest.split(" ", 1)
+        self.file(line, name)
+        yield Ask([b"check", name.encode()], [(Answer(int(status), text.encode() + b"\n", b""), None)])
+
+    def dump(self, line: Line, name: str, listing: str) -> Iterator[Ask]:
+        yield Ask([b"dump", name.encode()], done(self.file(line, listing)))
+
+    def normalise(self, line: Line, name: str, canon: str) -> Iterator[Ask]:
+        yield Ask([b"normalise", name.encode(), OUT], done(out=self.file(line, canon)))
+
+    def slices(self, line: Line, name: str, rest: str) -> Iterator[Ask]:
+        _most, _count, canon = rest.split()
+        yield from self.normalise(line, name, canon)
+
+    def strip(self, line: Line, name: str, canon: str) -> Iterator[Ask]:
+        yield Ask([b"merge", b"--strip", b"-o", OUT, name.encode()], done(out=self.file(line, canon)))
+
+    def repairrun(self, line: Line, name: str, rest: str) -> Iterator[Ask]:
+        self.file(line, name)
+        kind, right = rest.split(" ", 1)
+        rights = done(out=self.file(line, right)) if kind == "ok" else faults(fault_words(rest), [name])
+        yield Ask([b"repair", name.encode(), OUT], rights)
+
+    def digestrun(self, line: Line, name: str, rest: str) -> Iterator[Ask]:
+        self.file(line, name)
+        if not rest.startswith("ok "):
+            yield Ask([b"digest", name.encode()], faults(fault_words(rest), [name]))
+            return
+        cells = [] if rest == "ok -" else rest[3:].split("\t")
+        if len(cells) % 2:
+            raise ValueError("a digest without a class")
+        yield Ask([b"digest", name.encode()], done("".join(
+            f"{digest}\t{text}\t{name}\n" for digest, text in zip(cells[::2], cells[1::2])).encode()))
+
+    def weight(self, line: Line, name: str, weight: str) -> Iterator[Ask]:
+        self.file(line, name)
+        if int(weight) > MOST_WEIGHT:
+            raise Unsaid("the file would be held in memory")
+        yield Ask([b"count", name.encode()], done(f"weight {int(weight)} of 1073741824\n".encode()), "weight ")
+
+    def klass(self, line: Line, name: str, rest: str) -> Iterator[Ask]:
+        row, text, superclass = rest.split(" ")
+        self.file(line, name)
+        yield Ask([b"dump", name.encode()], done(f"{row} {text} super={superclass}\n".encode()), "class ")
+
+    def measure(self, line: Line, word: str, rest: str) -> Iterator[Ask]:
+        names, right = rest.split(" is ", 1)
+        files = self.files(line, word, names)
+        if re.fullmatch(r"\d+( \d+){7}", right):
+            greatest = [f" of {most}" for most in GREATEST] + ["", ""]
+            rights = done("".join(f"{kind} {count}{most}\n" for kind, count, most in zip(COUNTED, right.split(), greatest)).encode())
+        else:
+            rights = faults(right, files)
+        yield Ask([b"count"] + [name.encode() for name in files], rights)
+
+    countrun = measure
+
+    def files(self, line: Line, word: str, names: str) -> List[str]:
+        if word != "files":
+            raise ValueError("no word `files`")
+        if names == "-":
+            raise Unsaid("no files")
+        for name in names.split(" "):
+            self.file(line, name)
+        return names.split(" ")
+
+    def merge(self, line: Line, plan: str, rest: str) -> Iterator[Ask]:
+        yield from self.merged(line, [])
+
+    def mergestrip(self, line: Line, plan: str, rest: str) -> Iterator[Ask]:
+        yield from self.merged(line, [b"--strip"])
+
+    def merged(self, line: Line, options: List[bytes]) -> Iterator[Ask]:
+        plan_text, rest = line.rest.split(" caps ", 1)
+        if rest.endswith(" badplan"):
+            raise Unsaid("a bad plan, which the program never makes")
+        options, files, rights = self.merge_parts(line, rest, options)
+        order, fan = plan_of(plan_text, rights[0][0].status == 0)
+        names = [files[number].encode() for number in order]
+        yield Ask([b"merge", b"-o", OUT] + fan + options + names, rights)
+
+    def regroup(self, line: Line, rounds: str, rest: str) -> Iterator[Ask]:
+        """Some of the groupings: in order and in reverse, with each file twice, and two at a time."""
+        if int(rounds) < 1 or not rest.startswith("caps "):
+            raise ValueError("no rounds, or no caps")
+        options, files, rights = self.merge_parts(line, rest[5:], [])
+        names = [name.encode() for name in files]
+        for words in (names, names[::-1] + names, [b"--fan", b"2"] + names[::-1]):
+            yield Ask([b"merge", b"--out", OUT] + options + words, rights)
+
+    def merge_parts(self, line: Line, rest: str, options: List[bytes]) -> Tuple[List[bytes], List[str], List]:
+        """Returns the options, the files and the right answers of what stands after `caps`."""
+        caps_text, rest = rest.split(" files ", 1)
+        match = re.fullmatch(r"(.*?) (ok (?P<canon>\S+)|fault (?P<causes>.*))", rest)
+        if not match:
+            raise ValueError("neither ok nor fault")
+        files = self.files(line, "files", match.group(1))
+        caps = [int(cap) for cap in caps_text.split()]
+        causes = match.group("causes")
+        if len(caps) != len(CAPS) or any(cap > most for cap, most in zip(caps, GREATEST)):
+            raise ValueError("these are no caps")
+        if caps[SHORT_STRINGS] != GREATEST[SHORT_STRINGS] and causes and "cap short-strings" in causes:
+            raise Unsaid("a cap on short strings, for which there is no option")
+        words = [word for kind, cap, most in zip(CAPS, caps, GREATEST) if cap != most and kind != "short-strings"
+                 for word in (f"--max-{kind}".encode(), str(cap).encode())]
+        rights = faults(causes, files) if causes else done(out=self.file(line, match.group("canon")))
+        return options + words, files, rights
+
+
+# `class` is a word of Python.
+setattr(Asks, "class", Asks.klass)
+
+
+def fault_words(rest: str) -> str:
+    if not rest.startswith("fault "):
+        raise ValueError("neither ok nor fault")
+    return rest[6:]
+
+
+def parsed(text: str) -> Plan:
+    """Returns the plan that a text of numbers and brackets says."""
+    open_lists: List[List[Plan]] = [[]]
+    for token in re.findall(r"\d+|[()]|\S", text):
+        if token == "(":
+            open_lists.append([])
+        elif token == ")":
+            closed = open_lists.pop()
+            open_lists[-1].append(closed)
+        else:
+            open_lists[-1].append(int(token))
+    if len(open_lists) != 1 or len(open_lists[0]) != 1:
+        raise ValueError(f"`{text}` is no plan")
+    return open_lists[0][0]
+
+
+def leaves(plan: Plan) -> List[int]:
+    return [plan] if isinstance(plan, int) else [leaf for part in plan for leaf in leaves(part)]
+
+
+def fan_plan(order: List[int], fan: int) -> Plan:
+    """Returns the plan of `--fan` over these files."""
+    level: List[Plan] = list(order)
+    while len(level) > 1:
+        level = [level[at : at + fan] for at in range(0, len(level), fan)]
+    return level[0]
+
+
+def plan_of(text: str, is_ok: bool) -> Tuple[List[int], List[bytes]]:
+    """Returns the files in their order and the option `--fan` that a plan asks for. A plan of another shape is asked for
+    without one if the merge is right, since grouping changes no bytes."""
+    plan = parsed(text)
+    order = leaves(plan)
+    if plan == order:
+        return order, []
+    for fan in range(2, max(len(order), 2) + 1):
+        if order and fan_plan(order, fan) == plan:
+            return order, [b"--fan", str(fan).encode()]
+    if is_ok and order:
+        return order, []
+    raise Unsaid("a plan that no fan makes, whose causes may be others than those of a flat merge")
+
+
+def part_of(ask: Ask, answer: Answer) -> Answer:
+    """Returns what is to be compared of an answer: with a part, the line of `count` that begins so, or the line of `dump`
+    of the class with the number in the right answer, without its flags."""
+    if not ask.part or answer.status:
+        return answer
+    lines = [line for line in answer.stdout.decode(errors="replace").split("\n") if line.startswith(ask.part)]
+    if ask.part == "class ":
+        row = int(ask.rights[0][0].stdout.split()[0])
+        lines = [re.sub(r"^class (\S+) flags=\S+", rf"{row} \1", line) for line in lines[row : row + 1]]
+    return answer._replace(stdout="".join(line + "\n" for line in lines).encode())

@@ -1,0 +1,79 @@
+"""Where bytes of files and right outputs come from: see "Sources" in README.md."""
+import os
+from typing import Callable, Dict, List
+
+from suite.classes import Classes, cut
+from suite.text import unescaped, words
+
+
+class Sources:
+    """The files of a folder of data, and what is made from them."""
+
+    def __init__(self, data: str):
+        self.data = data
+        self.kept: Dict[bytes, bytes] = {}
+        self.made: Dict[bytes, Callable[[bytes], bytes]] = {
+            b"nothing": lambda rest: b"",
+            b"text": unescaped,
+            b"hex": lambda rest: bytes.fromhex(rest.decode("ascii")),
+            b"zeros": lambda rest: bytes(int(rest)),
+            b"lines": lambda rest: b"".join(word + b"\n" for word in words(rest)),
+            b"front": self.front,
+            b"cut": self.cut,
+            b"then": self.joined,
+            b"classes": lambda rest: classes(rest.split()).canonical(),
+            b"counts": lambda rest: classes(rest.split()).counts(),
+            b"listing": lambda rest: classes(rest.split()).listing(),
+            b"digests": digests,
+        }
+
+    def file(self, name: bytes) -> bytes:
+        """Returns the bytes of a file of the data, and raises ValueError if it is not there."""
+        path = os.path.join(os.fsencode(self.data), name)
+        try:
+            with open(path, "rb") as file:
+                return file.read()
+        except OSError as error:
+            raise ValueError(f"{os.fsdecode(name)}: {error.strerror}") from None
+
+    def bytes(self, source: bytes) -> bytes:
+        """Returns the bytes of a source, and raises ValueError if there is none."""
+        if source not in self.kept:
+            kind, _, rest = source.strip().partition(b" ")
+            if kind in self.made:
+                self.kept[source] = self.made[kind](rest)
+            elif b"/" in kind and not rest:
+                self.kept[source] = self.file(kind)
+            else:
+                raise ValueError(f"`{source.decode(errors='replace')}` is no source")
+        return self.kept[source]
+
+    def front(self, rest: bytes) -> bytes:
+        """`front N SOURCE`: its first N bytes."""
+        count, _, source = rest.partition(b" ")
+        whole = self.bytes(source)
+        if int(count) > len(whole):
+            raise ValueError(f"there are only {len(whole)} bytes")
+        return whole[: int(count)]
+
+    def cut(self, rest: bytes) -> bytes:
+        """`cut N MENDED SOURCE`: its first N bytes, with fields of the header set right."""
+        count, mended, source = rest.split(None, 2)
+        return cut(self.bytes(source), int(count), mended.decode())
+
+    def joined(self, rest: bytes) -> bytes:
+        """`then SOURCE | SOURCE ..`: one after the other."""
+        return b"".join(self.bytes(each.strip()) for each in rest.split(b" | "))
+
+
+def classes(rest: List[bytes]) -> Classes:
+    """Returns the classes of `FIRST LAST` or `FIRST LAST WIDTH`."""
+    if len(rest) not in (2, 3):
+        raise ValueError("classes are `FIRST LAST`, or `FIRST LAST WIDTH`")
+    return Classes(*(int(word) for word in rest))
+
+
+def digests(rest: bytes) -> bytes:
+    """`digests FILE FIRST LAST [WIDTH]`."""
+    name, *numbers = rest.split()
+    return classes(numbers).digests(unescaped(name))

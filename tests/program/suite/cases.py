@@ -10,6 +10,8 @@ from suite.sources import Sources
 from suite.text import DataFault, expanded, unescaped, words
 
 MOST_SHOWN = 160
+# What a cell of a table replaces.
+COLUMN = re.compile(rb"\$([A-Z]+)")
 
 
 class Output:
@@ -77,32 +79,73 @@ class Reader:
 
     def cases(self) -> Iterator[Case]:
         """Returns the cases of the file, in order, and raises DataFault at a broken line."""
-        with open(self.path, "rb") as file:
-            lines = file.read().split(b"\n")
-        case = None
-        for self.line, line in enumerate(lines, 1):
-            line = line.rstrip()
+        block: List[Tuple[int, bytes]] = []
+        for number, line in enumerate(self.lines(self.path), 1):
+            if line.startswith(b"case ") and block:
+                yield from self.of_block(block)
+                block = []
+            if line and not line.startswith(b"#"):
+                block.append((number, line))
+        if block:
+            yield from self.of_block(block)
+
+    def lines(self, path: str) -> List[bytes]:
+        try:
+            with open(path, "rb") as file:
+                return [line.rstrip() for line in file.read().split(b"\n")]
+        except OSError as error:
+            raise DataFault(path, self.line, str(error.strerror)) from None
+
+    def of_block(self, block: List[Tuple[int, bytes]]) -> Iterator[Case]:
+        """Returns the case of some lines; with a table, one for each of its rows."""
+        tables = [(number, line[6:]) for number, line in block if line.startswith(b"table ")]
+        if not tables:
+            yield self.case(block)
+            return
+        self.line = tables[0][0]
+        if len(tables) > 1:
+            raise DataFault(self.path, tables[1][0], "a second table")
+        for row in self.rows(tables[0][1]):
+            yield self.case([(number, COLUMN.sub(lambda match: row.get(match.group(1), match.group()), line))
+                             for number, line in block if not line.startswith(b"table ")])
+
+    def rows(self, name: bytes) -> List[Dict[bytes, bytes]]:
+        """Returns the rows of a table, whose first line has the names of its columns."""
+        path = os.path.join(os.path.dirname(self.path), os.fsdecode(name))
+        rows: List[Dict[bytes, bytes]] = []
+        columns: List[bytes] = []
+        for number, line in enumerate(self.lines(path), 1):
+            cells = [cell.strip() for cell in line.split(b"|")]
             if not line or line.startswith(b"#"):
                 continue
+            if columns and len(cells) != len(columns):
+                raise DataFault(path, number, f"{len(cells)} columns, not {len(columns)}")
+            if not columns:
+                columns = cells
+            else:
+                rows.append(dict(zip(columns, cells)))
+        if not rows:
+            raise DataFault(path, 0, "a table without rows")
+        return rows
+
+    def case(self, block: List[Tuple[int, bytes]]) -> Case:
+        """Returns the case of some lines."""
+        first, title = block[0]
+        if not title.startswith(b"case "):
+            raise DataFault(self.path, first, "a line before the first `case`")
+        case = Case(os.path.basename(self.path), first, title[5:])
+        for self.line, line in block[1:]:
+            case.lines.append(line)
             kind, _, rest = line.partition(b" ")
             try:
-                if kind == b"case":
-                    if case:
-                        yield self.whole(case)
-                    case = Case(os.path.basename(self.path), self.line, rest)
-                elif case is None:
-                    raise ValueError("a line before the first `case`")
-                else:
-                    case.lines.append(line)
-                    self.add(case, kind, rest)
+                unknown = COLUMN.search(line)
+                if unknown:
+                    raise ValueError(f"`{unknown.group().decode()}` is no column")
+                self.add(case, kind, rest)
             except (ValueError, IndexError, re.error) as error:
                 raise DataFault(self.path, self.line, str(error)) from None
-        if case:
-            yield self.whole(case)
-
-    def whole(self, case: Case) -> Case:
-        if case.words is None or case.status is None or not case.title:
-            raise DataFault(self.path, case.line, "a case has a title, a line `run` and a line `status`")
+        if case.words is None or case.status is None:
+            raise DataFault(self.path, first, "a case has a line `run` and a line `status`")
         return case
 
     def add(self, case: Case, kind: bytes, rest: bytes) -> None:

@@ -19,6 +19,7 @@ class Sources:
             b"zeros": lambda rest: bytes(int(rest)),
             b"lines": lambda rest: b"".join(word + b"\n" for word in words(rest)),
             b"front": self.front,
+            b"after": self.after,
             b"cut": self.cut,
             b"then": self.joined,
             b"classes": lambda rest: classes(rest.split()).canonical(),
@@ -56,10 +57,17 @@ class Sources:
             raise ValueError(f"there are only {len(whole)} bytes")
         return whole[: int(count)]
 
+    def after(self, rest: bytes) -> bytes:
+        """`after N SOURCE`: all but its first N bytes."""
+        count, _, source = rest.partition(b" ")
+        return self.bytes(source)[int(count) :]
+
     def cut(self, rest: bytes) -> bytes:
-        """`cut N MENDED SOURCE`: its first N bytes, with fields of the header set right."""
+        """`cut N MENDED SOURCE`: its first N bytes, with fields of the header set right; -N leaves out as many."""
         count, mended, source = rest.split(None, 2)
-        return cut(self.bytes(source), int(count), mended.decode())
+        whole = self.bytes(source)
+        length = int(count) if int(count) >= 0 else len(whole) + int(count)
+        return cut(whole, length, mended.decode())
 
     def joined(self, rest: bytes) -> bytes:
         """`then SOURCE | SOURCE ..`: one after the other."""

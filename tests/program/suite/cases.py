@@ -7,7 +7,7 @@ from typing import Dict, Iterator, List, NamedTuple, Optional, Tuple
 
 from suite.calls import Hang, Program, Streams
 from suite.sources import Sources
-from suite.text import DataFault, expanded, unescaped, words
+from suite.text import RANGE, DataFault, expanded, unescaped, words
 
 MOST_SHOWN = 160
 # What a cell of a table replaces.
@@ -194,10 +194,11 @@ class Reader:
 
     def named(self, rest: bytes) -> Iterator[Tuple[bytes, bytes]]:
         """Returns the name and the bytes that `NAME = SOURCE` stands for."""
-        for one in expanded(rest):
-            name, equals, source = one.partition(b" = ")
-            if not equals:
-                raise ValueError("it is `NAME = SOURCE`")
+        name, equals, source = rest.partition(b" = ")
+        if not equals:
+            raise ValueError("it is `NAME = SOURCE`")
+        for one in expanded(rest) if RANGE.search(name) else [rest]:
+            name, _, source = one.partition(b" = ")
             yield unescaped(name), self.sources.bytes(source)
 
     def add_output(self, output: Output, form: bytes, rest: bytes) -> None:

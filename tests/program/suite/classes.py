@@ -48,8 +48,7 @@ class Classes:
         body = struct.pack("<20I", size, 112, 0x12345678, 0, 0, map_off, count, strings, count, types, 0, 0, 0, 0, 0, 0,
                            len(self.names), classes, size - data, data)
         body += struct.pack(f"<{count}I", *offsets) + struct.pack(f"<{count}I", *range(count))
-        for row in range(len(self.names)):
-            body += struct.pack("<8I", row, PUBLIC, count - 1, 0, NONE, 0, 0, 0)
+        body += b"".join(struct.pack("<8I", row, PUBLIC, count - 1, 0, NONE, 0, 0, 0) for row in range(len(self.names)))
         body += bytes(items) + struct.pack("<I", len(sections))
         for kind, number, offset in sections:
             body += struct.pack("<HHII", kind, 0, number, offset)

@@ -10,6 +10,7 @@
 #   make install PREFIX=..  installs the proved program, its manual, completions, documents and examples; PREFIX is
 #                           /usr/local if not given; a program that was not proved from the files of this tree is refused
 #   make dist               packs them as a tar file and a Debian package in dist/, with the same condition
+#   make vectors            packs tests/program with its data, for programs of others, in dist/
 #   make clean              removes what checks and builds keep
 
 PREFIX ?= /usr/local
@@ -28,7 +29,7 @@ VERSION := $(shell sed -n 's/.*const VERSION: &str = "\([^ "]*\).*/\1/p' crates/
 CRATES := $(shell tools/libraries dexkit)
 SOURCES := $(foreach crate,$(CRATES),$(wildcard crates/$(crate)/src/*.rt crates/$(crate)/src/*/*.rt))
 
-.PHONY: all try unproved check documents install dist clean
+.PHONY: all try unproved check documents install dist vectors clean
 
 all:
 	@set -e; number=0; \
@@ -77,6 +78,9 @@ dist:
 	@umask 022; $(MAKE) -s install DESTDIR=dist/stage PREFIX=/usr
 	@tools/dist dist/stage $(VERSION)
 	@rm -rf dist/stage
+
+vectors:
+	@tools/vectors $(VERSION)
 
 clean:
 	rm -rf crates/*/out dist

@@ -5,6 +5,15 @@ from typing import Callable, Dict, List
 from suite.classes import Classes, cut
 from suite.text import unescaped, words
 
+PROGRAM = os.path.normpath(os.path.join(os.path.dirname(os.path.abspath(__file__)), ".."))
+# In a pack, and in a clone.
+FOLDERS = [os.path.join(PROGRAM, "files"), os.path.normpath(os.path.join(PROGRAM, "..", "..", "crates", "dextest_calls", "data"))]
+
+
+def data_folder() -> str:
+    """Returns the folder with the files of the index lines, or where it would be in a pack."""
+    return next((folder for folder in FOLDERS if os.path.isdir(folder)), FOLDERS[0])
+
 
 class Sources:
     """The files of a folder of data, and what is made from them."""

@@ -58,6 +58,8 @@ class Program:
                 preexec_fn=preparation(streams),
                 start_new_session=True,
             )
+        except subprocess.SubprocessError as error:
+            raise OSError(f"what comes before the program failed: {error}") from None
         finally:
             for end in open_ends:
                 os.close(end)

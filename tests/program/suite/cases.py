@@ -94,7 +94,7 @@ class Reader:
             with open(path, "rb") as file:
                 return [line.rstrip() for line in file.read().split(b"\n")]
         except OSError as error:
-            raise DataFault(path, self.line, str(error.strerror)) from None
+            raise DataFault(self.path, self.line, f"{os.path.basename(path)}: {error.strerror}") from None
 
     def of_block(self, block: List[Tuple[int, bytes]]) -> Iterator[Case]:
         """Returns the case of some lines; with a table, one for each of its rows."""

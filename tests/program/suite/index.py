@@ -73,19 +73,31 @@ def lines_of(data: str, path: str) -> List[Line]:
     return lines
 
 
-def refusal(words: List[str]) -> str:
+NUMBER = r"(?:0|[1-9]\d*)"
+# Of the conditions before this one, the first that fails is reported.
+FIRST_OF_ANY = 17
+
+
+def refusal(text: str) -> str:
     """Returns `NUMBER NAME at PLACE` for a number and a place."""
-    number, place = (int(word) for word in words)
-    return f"{number} {CONDITIONS[number - 1]} at {place}"
+    if not re.fullmatch(f"{NUMBER} {NUMBER}", text):
+        raise ValueError(f"`{text}` is no number and place")
+    number, place = text.split()
+    if not 1 <= int(number) <= len(CONDITIONS):
+        raise ValueError(f"there is no condition {number}")
+    return f"{number} {CONDITIONS[int(number) - 1]} at {place}"
 
 
 def verdicts(rest: str) -> List[str]:
     """Returns what `check` may print after `FILE: `, for what a line says after FILE."""
-    if re.fullmatch(r"ok \d+", rest):
-        return [f"ok classes={int(rest[3:])}"]
+    if re.fullmatch(f"ok {NUMBER}", rest):
+        return [f"ok classes={rest[3:]}"]
     if not rest.startswith("refused "):
-        raise ValueError("neither ok nor refused")
-    return ["refused " + refusal(each.split()) for each in rest[8:].split(" | ")]
+        raise ValueError("neither `ok` and a number nor `refused`")
+    each = rest[8:].split(" | ")
+    if len(each) > 1 and any(int(one.split(" ")[0]) < FIRST_OF_ANY for one in each):
+        raise ValueError("only of conditions 17 to 23 any that fails may be reported")
+    return ["refused " + refusal(one) for one in each]
 
 
 def done(stdout: bytes = b"", out: Optional[bytes] = None) -> List[Tuple[Answer, Optional[bytes]]]:
@@ -99,9 +111,9 @@ def faults(causes: str, files: List[str]) -> List[Tuple[Answer, Optional[bytes]]
 
 def fault(cause: str, files: List[str]) -> str:
     kind, _, rest = cause.partition(" ")
-    match = re.fullmatch(r"(\d+) refused (\d+ \d+)", rest)
+    match = re.fullmatch(f"({NUMBER}) refused (.*)", rest)
     if kind == "input" and match:
-        return f"{files[int(match.group(1))]}: refused {refusal(match.group(2).split())}"
+        return f"{files[int(match.group(1))]}: refused {refusal(match.group(2))}"
     if kind in ("conflict", "cycle") and rest or kind == "cap" and rest in CAPS:
         return cause
     raise ValueError(f"`{cause}` is no cause")
@@ -175,7 +187,7 @@ class Asks:
     def measure(self, line: Line, word: str, rest: str) -> Iterator[Ask]:
         names, right = rest.split(" is ", 1)
         files = self.files(line, word, names)
-        if re.fullmatch(r"\d+( \d+){7}", right):
+        if re.fullmatch(f"{NUMBER}( {NUMBER}){{7}}", right):
             greatest = [f" of {most}" for most in GREATEST] + ["", ""]
             rights = done("".join(f"{kind} {count}{most}\n" for kind, count, most in zip(COUNTED, right.split(), greatest)).encode())
         else:
@@ -205,6 +217,8 @@ class Asks:
             raise Unsaid("a bad plan, which the program never makes")
         options, files, rights = self.merge_parts(line, rest, options)
         order, fan = plan_of(plan_text, rights[0][0].status == 0)
+        if len(rights) > 1 and not fan:
+            raise ValueError("a flat merge has one cause that is right")
         names = [files[number].encode() for number in order]
         yield Ask([b"merge", b"-o", OUT] + fan + options + names, rights)
 

@@ -46,6 +46,12 @@ class Sources:
         except OSError as error:
             raise ValueError(f"{os.fsdecode(name)}: {error.strerror}") from None
 
+    def files(self) -> Dict[bytes, bytes]:
+        """Returns all files of the data, by their paths from its folder."""
+        folder = os.fsencode(self.data)
+        paths = (os.path.join(at, name) for at, _, names in os.walk(folder) for name in names)
+        return {name: self.file(name) for name in (os.path.relpath(path, folder) for path in paths)}
+
     def bytes(self, source: bytes) -> bytes:
         """Returns the bytes of a source, and raises ValueError if there is none."""
         if source not in self.kept:

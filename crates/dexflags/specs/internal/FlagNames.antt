@@ -1,6 +1,5 @@
 -- The text of flags, by the table of their named bits.
-use Rattle.std.specs.Prelude.{ℕ, ◌≡◌, ◌==◌, ◌^◌, ◌+◌, ◌≤◌, List, ◌++◌, map, take, length, codes, Bool, true, false, ◌∷◌, if◌then◌else◌, All, Result, OnOk, OnErr, IsOk, vec_len, vec_capacity}
-use Rattle.std.specs.Global.{Vec}
+use Rattle.std.specs.Prelude.{ℕ, ◌≡◌, ◌==◌, ◌^◌, List, ◌++◌, map, codes, Bool, true, false, ◌∷◌, if◌then◌else◌, All}
 use Rattle.std.specs.List.{filter, join_with_byte}
 use Rattle.std.specs.Fmt.{digits}
 use Rattle.std.specs.Char.{to_ascii_lowercase}
@@ -35,13 +34,3 @@ IsSingleBit bits = (k : ℕ) × (bits ≡ 2 ^ k)
 -- each row has one bit
 abbrev pub HasSingleBits : List Row → Type 0
 HasSingleBits table = All (λ row. IsSingleBit row.1) table
-
--- On success the item is appended. On failure the old contents are kept, perhaps with more bytes after them. The call
--- succeeds if the spare capacity is enough for the item.
-pub record Grows {T E : Type 0} (item : List ℕ) (old new : Vec ℕ) (r : Result T E) : Type 0 where
-  pub ok : OnOk r (new.items ≡ old.items ++ item)
-  pub len : OnOk r (vec_len new ≡ vec_len old + length item)
-  pub err : OnErr r (take (vec_len old) new.items ≡ old.items)
-  pub longer : vec_len old ≤ vec_len new
-  pub room : vec_len old + length item ≤ vec_capacity old → IsOk r
-  pub capacity : vec_capacity old ≤ vec_capacity new

@@ -1,0 +1,5 @@
+pub mod Common
+pub mod Buffered
+pub mod Finished
+pub mod Given
+pub mod Hexadecimal

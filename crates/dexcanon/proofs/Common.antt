@@ -37,5 +37,8 @@ pub use Rattle.dexspec.specs.Placing.{Ordered, end, offsets, section_bytes, uses
 pub use Rattle.dexspec.specs.Spellings.{proto_index, text_index, type_index}
 pub use Rattle.dexspec.specs.Texts.{Text, string_data}
 pub use Rattle.sha1.specs.Sha1.{sha1}
-pub use Rattle.dexcanon.specs.{Adds, HasLeft, HasRoom, HasWritten, IsFileAlone, IsReady, TookPrefix, adds_both, adds_nothing, after_header_of, class_alone, class_row, no_offsets, ordered_in, result_of, rows_with, signed_of, took_nothing}
+pub use Rattle.dexout.specs.Output.{Adds, HasWritten, adds_both}
+pub use Rattle.dexout.specs.Took.{TookPrefix, took_nothing}
+pub use Rattle.dexout.specs.Written.{HasLeft}
+pub use Rattle.dexcanon.specs.{IsFileAlone, IsReady, after_header_of, class_alone, class_row, no_offsets, ordered_in, rows_with, signed_of}
 unfoldable pub use Rattle.dexcanon.specs.{class_digest}

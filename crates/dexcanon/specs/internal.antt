@@ -2,6 +2,5 @@
 pub mod Adding
 pub mod Checksums
 pub mod ClassRows
-pub mod Output
 pub mod Ready
 pub mod Through

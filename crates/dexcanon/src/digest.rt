@@ -9,6 +9,7 @@ ghost use Rattle.dexcanon.specs.Digests.{class_digest, IsFileAlone, class_digest
 
 use crate::contents::Contents;
 use crate::files::write_signed;
+use crate::targets::Message;
 use crate::writing::PIECE;
 use dexclass::{Part, Program};
 use dexlayout::Layout;
@@ -85,6 +86,7 @@ fn signature(alloc: Global, program: &Program<'_>) -> Result<[u8; 20], AllocErro
     let layout = Layout::of(alloc, program)?;
     let contents = Contents::of(program, &layout);
     let buffer = Vec::with_capacity(alloc, PIECE)?;
-    let (_buffer, message) = write_signed(&contents, buffer, Sha1::new());
-    Ok(message.finalize())
+    let message = Message { hash: Sha1::new() };
+    let (_buffer, Message { hash }) = write_signed(&contents, buffer, message);
+    Ok(hash.finalize())
 }

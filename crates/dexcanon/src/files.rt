@@ -4,16 +4,16 @@
 
 ghost use Rattle.std.specs.Prelude.{◌≡◌, ◌≤◌, false, drop, vec_len, vec_capacity};
 ghost use Rattle.dexhead.specs.Written.{head_bytes};
+ghost use Rattle.dexout.specs.Output.{Adds};
 ghost use Rattle.dexcanon.specs.internal.Ready.{CanBeMade};
 ghost use Rattle.dexcanon.specs.internal.Adding.{after_header_of, signed_of, tables_of, data_of};
-ghost use Rattle.dexcanon.specs.internal.Output.{Adds};
 
 use crate::contents::{Contents, ItemList};
-use crate::output::{Out, Target};
 use crate::tables::{
     ClassDefs, FieldIds, MethodIds, ProtoIds, StringDataItems, StringIds, TypeIds,
 };
 use dexhead::{Head, Output};
+use dexout::{Out, Target};
 use dexpool::SymbolKind;
 
 // Writes the rows of the tables.

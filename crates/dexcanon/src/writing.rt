@@ -3,22 +3,22 @@
 ghost use Rattle.std.specs.Prelude.{◌≡◌, ◌↔◌, ◌≤◌, ◌++◌, true, false, IfOk, OnOk, IfErr, IsErrOf, vec_len, vec_capacity};
 ghost use Rattle.dexspec.specs.Canonical.{canonical};
 ghost use Rattle.dexhead.specs.Written.{head_bytes};
+ghost use Rattle.dexout.specs.Output.{HasRoom};
+ghost use Rattle.dexout.specs.Written.{HasLeft, HasTaken};
+ghost use Rattle.dexout.specs.declared.faults.StoreFault.TheVariants.{Io};
 ghost use Rattle.dexcanon.specs.internal.Ready.{CanBeMade};
-ghost use Rattle.dexcanon.specs.internal.Output.{HasRoom};
 ghost use Rattle.dexcanon.specs.internal.Adding.{file_of, after_header_of};
 ghost use Rattle.dexcanon.specs.internal.Through.{HasTakenRest, HasLeftRest};
-ghost use Rattle.dexcanon.specs.Written.{HasLeft, HasTaken, CanonicalIsAccepted, CanonicalDenotes};
-ghost use Rattle.dexcanon.specs.declared.faults.StoreFault.TheVariants.{Io};
+ghost use Rattle.dexcanon.specs.Written.{CanonicalIsAccepted, CanonicalDenotes};
 
 use crate::adler_combine::adler_combine;
 use crate::contents::Contents;
-use crate::faults::StoreFault;
 use crate::files::{encode_body, put_head, write_body, write_signed};
-use crate::output::Out;
-use crate::targets::{Sums, Writer};
+use crate::targets::Sums;
 use dexclass::Program;
 use dexhead::{Adler, Head, Sink, adler, set_sums, write_whole};
 use dexlayout::Layout;
+use dexout::{Out, StoreFault, Writer};
 use sha1::Sha1;
 use std::alloc::{AllocError, Global};
 

@@ -1,10 +1,10 @@
 -- What a writer has taken through an output.
 use Rattle.std.specs.Prelude.{ℕ, List, ◌++◌}
 use Rattle.dexcanon.specs.declared.contents.Contents.{Contents}
-use Rattle.dexcanon.specs.declared.faults.StoreFault.{StoreFault}
-use Rattle.dexcanon.specs.declared.output.Out.{Out}
-use Rattle.dexcanon.specs.declared.targets.Writer.{Writer}
-use Rattle.dexcanon.specs.Written.{HasTaken, HasLeft}
+use Rattle.dexout.specs.declared.faults.StoreFault.{StoreFault}
+use Rattle.dexout.specs.declared.output.Out.{Out}
+use Rattle.dexout.specs.declared.writer.Writer.{Writer}
+use Rattle.dexout.specs.Written.{HasTaken, HasLeft}
 use Rattle.dexcanon.specs.internal.Adding.{after_header_of}
 
 -- what was buffered, and what follows the header

@@ -1,5 +1,5 @@
 use Rattle.dexcanon.proofs.Common.{◌++◌, drop, refl, ap, subst, ◌∙◌, arith, head_bytes, after_header_of}
-use Rattle.dexcanon.proofs.Finished.{sure}
+use Rattle.dexout.proofs.Finished.{sure}
 use Rattle.dexcanon.proofs.files.write_signed.Goals as goal
 
 pub returns-clause-given : goal.returns-clause-given

@@ -1,6 +1,6 @@
 use Rattle.dexcanon.proofs.Common.{◌++◌, sym, ◌∙◌, after_header, ordered_of, TookPrefix, took_nothing, HasWritten}
-use Rattle.dexcanon.specs.Took.{Took}
-use Rattle.dexcanon.proofs.Finished.{begun, same_writer, written_whole, written_prefix, reported_failed}
+use Rattle.dexout.specs.Took.{Took}
+use Rattle.dexout.proofs.Finished.{begun, same_writer, written_whole, written_prefix, reported_failed}
 use Rattle.dexcanon.proofs.writing.write_through.Goals as goal
 use Rattle.dexcanon.proofs.writing.write_through.Goals.{After-write_body}
 

@@ -1,6 +1,0 @@
-use Rattle.dexcanon.proofs.Common.{◌∷◌, [], arith}
-use Rattle.dexcanon.proofs.Buffered.{flushed_first}
-use Rattle.dexcanon.proofs.output.OutOutput.byte.Goals as goal
-
-pub returns : goal.returns
-returns g c = flushed_first g.met.T.Target.more c.args.self.now c.make_room.new.self c.byte.new.self (c.args.byte ∷ []) c.make_room.ensures.adds (λ room. omega (arith, c.make_room.ensures.room room)) c.byte.ensures

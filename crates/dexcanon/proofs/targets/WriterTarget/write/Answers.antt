@@ -1,6 +1,0 @@
-use Rattle.dexcanon.proofs.Common.{refl}
-use Rattle.dexcanon.proofs.Finished.{took_prefix}
-use Rattle.dexcanon.proofs.targets.WriterTarget.write.Goals as goal
-
-pub returns-clause-prefix : goal.returns-clause-prefix
-returns-clause-prefix g c = took_prefix g.W.Sink.reports g.W.Sink.taken c.args.bytes.now c.args.self.now _ c.write_whole.result refl c.write_whole.ensures.prefix

@@ -1,5 +1,4 @@
 pub mod ClassParts
-pub mod ListedPieces
 pub mod RowParts
-pub mod ShortFlags
-pub mod Written
+pub mod Shown
+pub mod Example

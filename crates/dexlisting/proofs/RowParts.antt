@@ -1,8 +1,8 @@
--- The parts of symbols have numbers of their own.
-use Rattle.std.proofs.Common.{ℕ, ◌≡◌, ◌<◌, sym, arith, List, [], ◌∷◌, length}
-use Rattle.std.specs.Prelude.{slice_index, slice_index_or, All}
-use Rattle.std.specs.List.{AllZip}
-use Rattle.std.proofs.lemmas.List.Elements.{All-nil, All-cons, All-get_or}
+-- The parts of symbols have numbers of their own, and are the texts of these.
+use Rattle.std.proofs.Common.{ℕ, ◌≡◌, ◌<◌, ◌∙◌, ap, sym, refl, List, [], ◌∷◌, ◌++◌, length, map}
+use Rattle.std.specs.Prelude.{slice_index_or, All}
+use Rattle.std.specs.List.{AllZip, flat_map}
+use Rattle.std.proofs.lemmas.List.Elements.{All-nil, All-cons}
 use Rattle.dexspec.specs.Texts.{Text}
 use Rattle.dexspec.specs.Symbols.{Proto, Field, Method}
 use Rattle.dexspec.specs.Mentions.{Mentions}
@@ -10,50 +10,28 @@ use Rattle.dexrows.specs.Numbers.{ProtoNumbers}
 use Rattle.dexrows.specs.declared.fields.FieldRow.{FieldRow}
 use Rattle.dexrows.specs.declared.methods.MethodRow.{MethodRow}
 use Rattle.dexpool.specs.Numberings.{IsAt, DenotesProto, DenotesField, DenotesMethod}
+use Rattle.dexclass.specs.Numbered.{type_at, text_at}
+use Rattle.dexlisting.specs.internal.Known.{proto_at}
+use Rattle.dexval.specs.Numbered.{field_at, method_at}
+use Rattle.dexout.specs.Printed.{shown}
 
-no_proto : Proto
-no_proto = record { return_type = []; parameters = [] }
+pub field_row : (m : Mentions) (i : ℕ) (row : FieldRow) → ((d : Field) → DenotesField m row (slice_index_or m.fields i d)) → DenotesField m row (field_at m i)
+field_row m i row encodes = encodes (record { class = []; name = []; type = [] })
 
--- the class, the name and the type of a field
-pub record FieldParts (m : Mentions) (row : FieldRow) : Type 0 where
-  pub class_in : row.class < length m.types
-  pub name_in : row.name < length m.texts
-  pub type_in : row.typ < length m.types
+pub method_row : (m : Mentions) (i : ℕ) (row : MethodRow) → ((d : Method) → DenotesMethod m row (slice_index_or m.methods i d)) → DenotesMethod m row (method_at m i)
+method_row m i row encodes = encodes (record { class = []; name = []; proto = record { return_type = []; parameters = [] } })
 
-pub field_parts : (m : Mentions) (i : ℕ) (row : FieldRow) → ((d : Field) → DenotesField m row (slice_index_or m.fields i d)) → FieldParts m row
-field_parts m i row encodes =
-    let s = encodes (record { class = []; name = []; type = [] }) in
-    record { class_in = s.class_is.within; name_in = s.name_is.within; type_in = s.type_is.within }
+pub proto_row : (m : Mentions) (i : ℕ) (row : ProtoNumbers) → ((d : Proto) → DenotesProto m row (slice_index_or m.protos i d)) → DenotesProto m row (proto_at m i)
+proto_row m i row encodes = encodes (record { return_type = []; parameters = [] })
 
--- the class, the name and the proto of a method
-pub record MethodParts (m : Mentions) (row : MethodRow) : Type 0 where
-  pub class_in : row.class < length m.types
-  pub name_in : row.name < length m.texts
-  pub proto_in : row.proto < length m.protos
-
-pub method_parts : (m : Mentions) (i : ℕ) (row : MethodRow) → ((d : Method) → DenotesMethod m row (slice_index_or m.methods i d)) → MethodParts m row
-method_parts m i row encodes =
-    let s = encodes (record { class = []; name = []; proto = no_proto }) in
-    record { class_in = s.class_is.within; name_in = s.name_is.within; proto_in = s.proto_is.within }
-
-all_within : (xs : List Text) (numbers : List ℕ) (texts : List Text) → AllZip (IsAt xs) numbers texts → All (λ n. n < length xs) numbers
+pub all_within : (xs : List Text) (numbers : List ℕ) (texts : List Text) → AllZip (IsAt xs) numbers texts → All (λ n. n < length xs) numbers
 all_within xs [] texts zip = All-nil (λ n. n < length xs)
 all_within xs (n ∷ ns) [] zip = absurd zip
 all_within xs (n ∷ ns) (t ∷ ts) zip = All-cons (λ m. m < length xs) n ns zip.0.within (all_within xs ns ts zip.1)
 
--- what a proto returns, and its parameters
-pub record ProtoParts (m : Mentions) (row : ProtoNumbers) : Type 0 where
-  pub return_in : row.return_type < length m.types
-  pub parameters_in : All (λ n. n < length m.types) row.parameters
-
-pub proto_parts : (m : Mentions) (i : ℕ) (row : ProtoNumbers) → ((d : Proto) → DenotesProto m row (slice_index_or m.protos i d)) → ProtoParts m row
-proto_parts m i row encodes =
-    let s = encodes no_proto in
-    record { return_in = s.return_is.within; parameters_in = all_within m.types row.parameters (slice_index_or m.protos i no_proto).parameters s.parameters_are }
-
--- and each of them
-pub parameter_in : (m : Mentions) (row : ProtoNumbers) (numbers : List ℕ) (count k number : ℕ) → ProtoParts m row → numbers ≡ row.parameters → count ≡ length numbers
-    → k < count → number ≡ slice_index numbers k → number < length m.types
-parameter_in m row numbers count k number parts same count_is lt is =
-    let within : k < length row.parameters = rw (sym same) (omega (arith, lt, count_is)) in
-    rw (is, same) (All-get_or (λ n. n < length m.types) row.parameters k 0 within parts.parameters_in)
+-- the types of numbers, one after the other
+pub types_shown : (m : Mentions) (numbers : List ℕ) (texts : List Text) → AllZip (IsAt m.types) numbers texts → flat_map (λ i. shown (type_at m i)) numbers ≡ flat_map shown texts
+types_shown m [] [] zip = refl
+types_shown m [] (t ∷ ts) zip = absurd zip
+types_shown m (n ∷ ns) [] zip = absurd zip
+types_shown m (n ∷ ns) (t ∷ ts) zip = ap (λ s. shown s ++ flat_map (λ i. shown (type_at m i)) ns) (zip.0.is []) ∙ ap (λ r. shown t ++ r) (types_shown m ns ts zip.1)

@@ -1,1 +1,4 @@
+pub mod Listing
 pub mod internal
+unfoldable pub use Listing.*
+unfoldable pub use internal.Known.*

@@ -1,171 +1,179 @@
-//! The lines of classes, of what they declare, and of code.
-//!
-//! Source: the headings "class_def_item", "class_data_item" and "code_item" of the Android page "Dalvik Executable
-//! format", and "Summary of bytecode set" of the page "Dalvik bytecode".
+//! The lines of classes, and of what they declare.
 
-ghost use Rattle.std.specs.Prelude.{◌≡◌, false, All};
-ghost use Rattle.dexcode.specs.Meaning.{IsKnownCode};
-ghost use Rattle.dexmembers.specs.Numbered.{IsKnownField, IsKnownMethod};
+ghost use Rattle.std.specs.Prelude.{◌≡◌, ◌<◌, length, codes, IfSome, All, []};
+ghost use Rattle.std.specs.List.{flat_map};
+ghost use Rattle.std.specs.Option.{option_map, option_map_or};
+ghost use Rattle.dexmembers.specs.Numbered.{IsKnownField, IsKnownMethod, field_in, method_in};
+ghost use Rattle.dexclass.specs.Numbered.{definition_of, text_at, type_at};
 ghost use Rattle.dexclass.specs.Uses.{IsKnownClass};
-ghost use Rattle.dexlisting.specs.internal.Going.{GoesOn};
-ghost use Rattle.dexlisting.specs.internal.Known.{IsKnownKind};
+ghost use Rattle.dexout.specs.Printed.{shown};
+ghost use Rattle.dexlisting.specs.Listing.{field_line, method_lines, own_line, interface_line, source_line, class_lines};
 
-use crate::listing_buffer::Listing;
+use crate::parts::{encode_own_field, encode_own_method, encode_type};
+use crate::pieces::encode_code;
 use dexclass::Class;
-use dexcode::Code;
-use dexhead::{DeviceFault, Sink};
-use dexinsn::{PieceKind, mnemonic};
-use dexmembers::{Fields, Methods};
+use dexhead::{Encode, Output};
+use dexmembers::{Field, Fields, Method, Methods};
+use dexout::encode_quoted;
+use dexpool::Numbering;
 
-impl<W: Sink> Listing<'_, '_, '_, W> {
-    /// Puts the lines of classes, and writes all that is buffered.
-    pub(crate) fn put_classes(&mut self, classes: &[Class<'_>]) -> Result<(), DeviceFault>
-        requires works { W.has_failed self.old.out.now ≡ false }
-        requires known { All (IsKnownClass self.old.numbering.now) classes.now }
-        ensures goes { GoesOn W.has_failed self.old self.new result }
-        ensures writer { self.new.out.ghost_name ≡ self.old.out.ghost_name }
-    {
-        for class in classes {
-            self.put_class(class)?;
-        }
-        self.flush()
-    }
+// Writes the line of a field, after these words.
+#[tactic(auto, unfolding(crate::specs::Listing::field_line))]
+fn encode_field_line<O: Output>(
+    numbering: &Numbering<'_>,
+    words: &[u8],
+    field: &Field<'_>,
+    out: &mut O,
+)
+    requires { IsKnownField numbering.now field.now }
+    ensures { O.gives (field_line words.now (field_in numbering.now field.now)) out.old out.new }
+{
+    out.bytes(words);
+    encode_own_field(numbering, field.number() as usize, out);
+    out.bytes(b" flags=");
+    field.flags().encode(out);
+    out.byte(b'\n');
+}
 
-    // Puts the lines of a class: its own, those of its interfaces and of its source, and those of what it declares, the
-    // methods with their code.
-    fn put_class(&mut self, class: &Class<'_>) -> Result<(), DeviceFault>
-        requires works { W.has_failed self.old.out.now ≡ false }
-        requires known { IsKnownClass self.old.numbering.now class.now }
-        ensures { GoesOn W.has_failed self.old self.new result }
-    {
-        self.put_own_line(class)?;
-        for interface in class.interfaces() {
-            self.put(b"  interface ")?;
-            self.put_type(*interface)?;
-            self.put_byte(b'\n')?;
-        }
-        if let Some(source) = class.source() {
-            self.put(b"  source ")?;
-            self.put_quoted(self.numbering.string(source))?;
-            self.put_byte(b'\n')?;
-        }
-        let members = class.members();
-        self.put_fields(b"  static-field ", &members.static_fields())?;
-        self.put_fields(b"  instance-field ", &members.instance_fields())?;
-        self.put_methods(b"  direct-method ", &members.direct_methods())?;
-        self.put_methods(b"  virtual-method ", &members.virtual_methods())
+// Writes the lines of fields, after these words.
+fn encode_fields<O: Output>(
+    numbering: &Numbering<'_>,
+    words: &[u8],
+    fields: &Fields<'_>,
+    out: &mut O,
+)
+    requires { All (IsKnownField numbering.now) fields.now }
+    ensures { O.gives (flat_map (λ f. field_line words.now (field_in numbering.now f)) fields.now)
+        out.old out.new }
+{
+    for i in 0..fields.len() {
+        encode_field_line(numbering, words, &fields.get(i), out);
     }
+}
 
-    // Puts the line with the name, the flags and the superclass.
-    fn put_own_line(&mut self, class: &Class<'_>) -> Result<(), DeviceFault>
-        requires works { W.has_failed self.old.out.now ≡ false }
-        requires known { IsKnownClass self.old.numbering.now class.now }
-        ensures { GoesOn W.has_failed self.old self.new result }
-    {
-        self.put(b"class ")?;
-        self.put_type(class.name())?;
-        self.put(b" flags=")?;
-        self.put_flags(&class.flags())?;
-        self.put(b" super=")?;
-        match class.superclass() {
-            Some(superclass) => self.put_type(superclass)?,
-            None => self.put_byte(b'-')?,
-        }
-        self.put_byte(b'\n')
+// Writes the lines of a method, after these words.
+fn encode_method_lines<O: Output>(
+    numbering: &Numbering<'_>,
+    words: &[u8],
+    method: &Method<'_, '_>,
+    out: &mut O,
+)
+    requires { IsKnownMethod numbering.now method.now }
+    ensures { O.gives (method_lines words.now (method_in numbering.now method.now)) out.old out.new }
+{
+    out.bytes(words);
+    encode_own_method(numbering, method.number() as usize, out);
+    out.bytes(b" flags=");
+    method.flags().encode(out);
+    out.byte(b'\n');
+    if let Some(code) = method.code() {
+        encode_code(numbering, code, out);
     }
+}
 
-    // Puts the lines of fields, which begin with these words.
-    fn put_fields(&mut self, words: &[u8], fields: &Fields<'_>) -> Result<(), DeviceFault>
-        requires works { W.has_failed self.old.out.now ≡ false }
-        requires known { All (IsKnownField self.old.numbering.now) fields.now }
-        ensures { GoesOn W.has_failed self.old self.new result }
-    {
-        for i in 0..fields.len() {
-            let field = fields.get(i);
-            self.put(words)?;
-            self.put_own_field(field.number() as usize)?;
-            self.put(b" flags=")?;
-            self.put_flags(&field.flags())?;
-            self.put_byte(b'\n')?;
-        }
-        Ok(())
+// Writes the lines of methods, after these words.
+fn encode_methods<O: Output>(
+    numbering: &Numbering<'_>,
+    words: &[u8],
+    methods: &Methods<'_, '_>,
+    out: &mut O,
+)
+    requires { All (IsKnownMethod numbering.now) methods.now }
+    ensures { O.gives (flat_map (λ m. method_lines words.now (method_in numbering.now m)) methods.now)
+        out.old out.new }
+{
+    for i in 0..methods.len() {
+        encode_method_lines(numbering, words, &methods.get(i), out);
     }
+}
 
-    // Puts the lines of methods, which begin with these words, each with those of its code.
-    fn put_methods(&mut self, words: &[u8], methods: &Methods<'_, '_>) -> Result<(), DeviceFault>
-        requires works { W.has_failed self.old.out.now ≡ false }
-        requires known { All (IsKnownMethod self.old.numbering.now) methods.now }
-        ensures { GoesOn W.has_failed self.old self.new result }
-    {
-        for i in 0..methods.len() {
-            let method = methods.get(i);
-            self.put(words)?;
-            self.put_own_method(method.number() as usize)?;
-            self.put(b" flags=")?;
-            self.put_flags(&method.flags())?;
-            self.put_byte(b'\n')?;
-            if let Some(code) = method.code() {
-                self.put_code(code)?;
-            }
-        }
-        Ok(())
+// Writes the name of the superclass, or a dash.
+fn encode_superclass<O: Output>(numbering: &Numbering<'_>, superclass: Option<usize>, out: &mut O)
+    requires { IfSome superclass (λ i. i < length numbering.now.types) }
+    ensures { O.gives (option_map_or shown (option_map (type_at numbering.now) superclass)
+        (codes "-")) out.old out.new }
+{
+    match superclass {
+        Some(typ) => encode_type(numbering, typ, out),
+        None => out.byte(b'-'),
     }
+}
 
-    // Puts the lines of code: that of the whole, what it has how many of, and one for each instruction or payload, with
-    // the unit at which it begins.
-    fn put_code(&mut self, code: &Code<'_>) -> Result<(), DeviceFault>
-        requires works { W.has_failed self.old.out.now ≡ false }
-        requires known { IsKnownCode self.old.numbering.now code.now }
-        ensures { GoesOn W.has_failed self.old self.new result }
-    {
-        let pieces = code.pieces();
-        self.put_count(b"    code registers=", usize::from(pieces.registers()))?;
-        self.put_count(b" ins=", usize::from(pieces.ins()))?;
-        self.put_count(b" outs=", usize::from(pieces.outs()))?;
-        self.put_count(b" units=", pieces.units() as usize)?;
-        self.put_count(b" tries=", code.tries().tries().len())?;
-        self.put_byte(b'\n')?;
-        for piece in pieces.iter() {
-            self.put(b"    ")?;
-            self.put_hexadecimal(piece.unit)?;
-            self.put(b": ")?;
-            self.put_kind(piece.kind)?;
-            self.put_byte(b'\n')?;
-        }
-        Ok(())
-    }
+// Writes the line with the name, the flags and the superclass.
+fn encode_own_line<O: Output>(numbering: &Numbering<'_>, class: &Class<'_>, out: &mut O)
+    requires { IsKnownClass numbering.now class.now }
+    ensures { O.gives (own_line (definition_of numbering.now class.now)) out.old out.new }
+{
+    out.bytes(b"class ");
+    encode_type(numbering, class.name(), out);
+    out.bytes(b" flags=");
+    class.flags().encode(out);
+    out.bytes(b" super=");
+    encode_superclass(numbering, class.superclass(), out);
+    out.byte(b'\n');
+}
 
-    // Puts what an instruction or payload is.
-    fn put_kind(&mut self, kind: PieceKind) -> Result<(), DeviceFault>
-        requires works { W.has_failed self.old.out.now ≡ false }
-        requires known { IsKnownKind self.old.numbering.now kind }
-        ensures { GoesOn W.has_failed self.old self.new result }
-    {
-        match kind {
-            PieceKind::Instruction(opcode, None) => self.put_mnemonic(opcode),
-            PieceKind::Instruction(opcode, Some((kind, number))) => {
-                self.put_mnemonic(opcode)?;
-                self.put_byte(b' ')?;
-                self.put_symbol(kind, number)
-            }
-            PieceKind::PackedSwitch(size) => {
-                self.put_count(b"packed-switch-payload size=", usize::from(size))
-            }
-            PieceKind::SparseSwitch(size) => {
-                self.put_count(b"sparse-switch-payload size=", usize::from(size))
-            }
-            PieceKind::ArrayData(width, size) => {
-                self.put_count(b"fill-array-data-payload width=", usize::from(width))?;
-                self.put_count(b" size=", size as usize)
-            }
-        }
-    }
+// Writes the line of an interface.
+#[tactic(auto, unfolding(crate::specs::Listing::interface_line))]
+fn encode_interface<O: Output>(numbering: &Numbering<'_>, interface: usize, out: &mut O)
+    requires { interface < length numbering.now.types }
+    ensures { O.gives (interface_line (type_at numbering.now interface)) out.old out.new }
+{
+    out.bytes(b"  interface ");
+    encode_type(numbering, interface, out);
+    out.byte(b'\n');
+}
 
-    // Puts the mnemonic of an opcode. Each opcode that was read has one.
-    fn put_mnemonic(&mut self, opcode: u8) -> Result<(), DeviceFault>
-        requires { W.has_failed self.old.out.now ≡ false }
-        ensures { GoesOn W.has_failed self.old self.new result }
-    {
-        self.put(mnemonic(opcode).unwrap_or("").as_bytes())
+// Writes the lines of interfaces.
+fn encode_interfaces<O: Output>(numbering: &Numbering<'_>, interfaces: &[usize], out: &mut O)
+    requires { All (λ i. i < length numbering.now.types) interfaces.now }
+    ensures { O.gives (flat_map (λ i. interface_line (type_at numbering.now i)) interfaces.now)
+        out.old out.new }
+{
+    for interface in interfaces {
+        encode_interface(numbering, *interface, out);
     }
+}
+
+// Writes the line of the source text, if there is one.
+fn encode_source<O: Output>(numbering: &Numbering<'_>, source: Option<usize>, out: &mut O)
+    requires { IfSome source (λ i. i < length numbering.now.texts) }
+    ensures { O.gives (option_map_or source_line (option_map (text_at numbering.now) source) [])
+        out.old out.new }
+{
+    if let Some(text) = source {
+        out.bytes(b"  source ");
+        encode_quoted(numbering.string(text), out);
+        out.byte(b'\n');
+    }
+}
+
+/// Writes the lines of a class.
+pub(crate) fn encode_class<O: Output>(numbering: &Numbering<'_>, class: &Class<'_>, out: &mut O)
+    requires { IsKnownClass numbering.now class.now }
+    ensures { O.gives (class_lines (definition_of numbering.now class.now)) out.old out.new }
+{
+    encode_own_line(numbering, class, out);
+    encode_interfaces(numbering, class.interfaces(), out);
+    encode_source(numbering, class.source(), out);
+    let members = class.members();
+    encode_fields(numbering, b"  static-field ", &members.static_fields(), out);
+    encode_fields(
+        numbering,
+        b"  instance-field ",
+        &members.instance_fields(),
+        out,
+    );
+    encode_methods(
+        numbering,
+        b"  direct-method ",
+        &members.direct_methods(),
+        out,
+    );
+    encode_methods(
+        numbering,
+        b"  virtual-method ",
+        &members.virtual_methods(),
+        out,
+    );
 }

@@ -1,0 +1,8 @@
+use Rattle.std.proofs.Common.{take}
+use Rattle.std.specs.List.{flat_map}
+use Rattle.dexlisting.specs.Listing.{interface_line}
+use Rattle.dexclass.specs.Numbered.{type_at}
+use Rattle.dexlisting.proofs.lines.encode_interfaces.Given as goal
+
+abbrev pub invariant-loop-interface : goal.invariant-loop-interface
+invariant-loop-interface g l = g.O.Output.gives (flat_map (λ i. interface_line (type_at l.numbering i)) (take l.interface-index l.interfaces)) l.initial.out l.out

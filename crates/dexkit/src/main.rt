@@ -2,15 +2,18 @@
 //! classes.
 //!
 //! Its arguments are those of `dexargs`, with lists of arguments expanded, and what it does for them is `run_job` of
-//! `dexcmd`. The exit status is 0 if all was done, or help or the version was asked for, 1 if a file or a merge was
-//! refused, 2 for a usage error, 3 if input or output failed, and 4 if it ran out of memory.
+//! `dexcmd`, over the devices of the job's names. The exit status is 0 if all was done, or help or the version was asked
+//! for, 1 if a file or a merge was refused, 2 for a usage error, 3 if input or output failed, and 4 if it ran out of
+//! memory.
 #![tactic(auto)]
 
 use clap::Error;
 use clap::error::ErrorKind;
 use dexcmd::{
-    ExitStatus, Report, SystemDevices, expand_arguments, explain_lists, read_words, run_job,
+    ExitStatus, Job, Report, SystemDevices, expand_arguments, explain_argument, explain_lists,
+    explain_output, input_names, output_name, print_report, read_words, run_job,
 };
+use dexhead::Device;
 use std::alloc::{AllocError, Global};
 use std::env::FillError;
 use std::io::Input;
@@ -19,47 +22,47 @@ use std::rt::{Env, Files};
 use std::str::from_utf8;
 use std::{env, io};
 
-// Prints the lines of a report on standard error, and returns its exit status.
-fn print(rt: &impl Eprint, report: &Report) -> u8 {
-    for line in &report.lines {
-        let _ = eprintln!(rt; "{line}");
-    }
-    report.status
-}
-
-// Prints why there is no job, the help, the version or the fault of a usage, and returns the exit status.
-fn explain<R: Print + Eprint>(rt: &R, error: &Error) -> Result<u8, AllocError> {
+// Prints why there is no job: the help, the version or the fault of a usage.
+fn explain<R: Print + Eprint>(rt: &R, alloc: Global, error: &Error) -> Result<Report, AllocError> {
     if error.kind() == ErrorKind::OutOfMemory {
         return Err(AllocError);
     }
     let printed = error.print(rt);
     if error.use_stderr() {
-        return Ok(ExitStatus::Usage as u8);
+        return Ok(Report::of_status(alloc, ExitStatus::Usage));
     }
-    if let Err(error) = printed {
-        if error.kind() != io::ErrorKind::BrokenPipe {
-            let _ = eprintln!(rt; "dexkit: standard output: cannot be written");
-        }
-        return Ok(ExitStatus::Device as u8);
+    match printed {
+        Ok(()) => Ok(Report::of_status(alloc, ExitStatus::Done)),
+        Err(error) => explain_output(alloc, error.kind() == io::ErrorKind::BrokenPipe),
     }
-    Ok(ExitStatus::Done as u8)
 }
 
-// Does what the arguments ask for, and returns the exit status.
+// Does a job over the devices of its names.
+fn run_named<R: Files + Print + Input>(
+    alloc: Global,
+    devices: &SystemDevices<'_, R>,
+    job: &Job,
+) -> Result<Report, AllocError> {
+    let mut inputs = devices.inputs(alloc, input_names(job))?;
+    let mut out = devices.output(output_name(job));
+    run_job(alloc, job, inputs.as_mut_slice(), &mut out)
+}
+
+// Does what the arguments ask for.
 fn start<R: Files + Print + Eprint + Input>(
     rt: &R,
     alloc: Global,
     arguments: &[String],
-) -> Result<u8, AllocError> {
+) -> Result<Report, AllocError> {
     let devices = SystemDevices::new(rt);
     let expanded = match expand_arguments(alloc, &devices, arguments) {
         Ok(expanded) => expanded,
-        Err(fault) => return Ok(print(rt, &explain_lists(alloc, fault)?)),
+        Err(fault) => return explain_lists(alloc, fault),
     };
     let words: Vec<&str> = expanded.iter().map(String::as_str).collect(alloc)?;
     match read_words(alloc, &words) {
-        Ok(job) => Ok(print(rt, &run_job(alloc, &devices, &job)?)),
-        Err(error) => explain(rt, &error),
+        Ok(job) => run_named(alloc, &devices, &job),
+        Err(error) => explain(rt, alloc, &error),
     }
 }
 
@@ -89,29 +92,24 @@ fn first_bad(rt: &impl Env, alloc: Global) -> Result<usize, AllocError> {
     Ok(number)
 }
 
-// Does what the command line asks for, and returns the exit status.
-fn run(rt: &HostRuntime) -> Result<u8, AllocError> {
+// Does what the command line asks for.
+fn run(rt: &HostRuntime) -> Result<Report, AllocError> {
+    let alloc = rt.alloc();
     match env::args(rt) {
         Ok(mut args) => {
             let _name = args.next();
-            let arguments: Vec<String> = args.collect(rt.alloc())?;
-            start(rt, rt.alloc(), arguments.as_slice())
+            let arguments: Vec<String> = args.collect(alloc)?;
+            start(rt, alloc, arguments.as_slice())
         }
         Err(error) if error.kind() == io::ErrorKind::InvalidData => {
-            let number = first_bad(rt, rt.alloc())?;
-            let _ = eprintln!(rt; "dexkit: argument {number} is not UTF-8");
-            Ok(ExitStatus::Usage as u8)
+            explain_argument(alloc, first_bad(rt, alloc)?)
         }
         Err(_) => Err(AllocError),
     }
 }
 
 fn main(rt: HostRuntime) -> ExitCode {
-    match run(&rt) {
-        Ok(status) => ExitCode::from(status),
-        Err(_) => {
-            let _ = eprintln!(rt; "dexkit: out of memory");
-            ExitCode::from(ExitStatus::Memory as u8)
-        }
-    }
+    let report = run(&rt);
+    let mut err = Device::new(rt.stderr());
+    ExitCode::from(print_report(rt.alloc(), &report, &mut err))
 }

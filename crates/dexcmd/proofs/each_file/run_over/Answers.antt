@@ -1,0 +1,39 @@
+use Rattle.std.proofs.Common.{arith, get_or}
+use Rattle.std.proofs.lemmas.Result.{IfErr-weaker}
+use Rattle.dexruns.specs.Inputs.{bytes_read}
+use Rattle.dexcmd.specs.EachFile.{IsFileDigested}
+use Rattle.dexcmd.proofs.Done.{check_named, input_named, ended_named}
+use Rattle.dexcmd.proofs.EachFile.{of_one, one_checked, digest_works}
+use Rattle.dexcmd.proofs.each_file.run_over.Goals as goal
+
+pub returns-in-Check-clause-ran : goal.returns-in-Check-clause-ran
+returns-in-Check-clause-ran g c = rw c.in-Check.is (one_checked g.R.Source.reports g.R.Source.to_come g.R.Source.has_failed g.W.Sink.reports g.W.Sink.taken g.W.Sink.has_failed c.args.file.now c.args.inputs.now c.check_run.new.inputs c.args.out.now c.check_run.new.out c.check_run.result
+    c.requires.one (omega (arith, c.check_run.auto.inputs, c.requires.one))
+    (record {
+      lines = c.check_run.ensures.lines;
+      begun = c.check_run.ensures.begun;
+      no_further = c.check_run.ensures.no_further;
+      goes_on_telling = c.check_run.ensures.reports;
+      readers = c.check_run.ensures.readers;
+      writer = c.check_run.ensures.writer;
+      fault = c.check_run.ensures.fault;
+    }))
+
+pub returns-in-Check-clause-named : goal.returns-in-Check-clause-named
+returns-in-Check-clause-named g c =
+    IfErr-weaker c.check_run.result _ _ (check_named g.R.Source.has_failed c.check_run.new.inputs (g.W.Sink.has_failed c.check_run.new.out) 1 (omega (arith, c.check_run.auto.inputs, c.requires.one))) c.check_run.ensures.fault
+
+pub returns-in-Digest-clause-ran : goal.returns-in-Digest-clause-ran
+returns-in-Digest-clause-ran g c = rw c.in-Digest.is (of_one (λ input left. IsFileDigested g.R.Source.reports g.R.Source.to_come g.R.Source.has_failed g.W.Sink.reports g.W.Sink.taken g.W.Sink.has_failed c.args.file.now input left c.args.out.now c.digest_run.new.out c.done.result)
+    c.args.inputs.now c.index-inputs-0.result c.digest_run.new.input c.requires.one (record {
+      ended = c.digest_run.result;
+      ran = record { accepted = c.digest_run.ensures.accepted; lines = c.digest_run.ensures.written; fault = c.digest_run.ensures.fault; goes_on_telling = c.digest_run.ensures.reports; unwritten = c.digest_run.ensures.left; no_further = c.digest_run.ensures.no_further; read = c.digest_run.ensures.read; write = c.digest_run.ensures.write };
+      is = c.done.ensures;
+    }))
+
+pub returns-in-Digest-clause-named : goal.returns-in-Digest-clause-named
+returns-in-Digest-clause-named g c =
+    ended_named 1 _ (input_named (g.R.Source.reports (get_or c.args.inputs.now 0 c.index-inputs-0.result)) (bytes_read (g.R.Source.to_come (get_or c.args.inputs.now 0 c.index-inputs-0.result)))) c.digest_run.result c.done.result c.done.ensures c.digest_run.ensures.fault
+
+pub returns-in-Digest-clause-works : goal.returns-in-Digest-clause-works
+returns-in-Digest-clause-works g c = rw c.in-Digest.is (digest_works (g.W.Sink.has_failed c.digest_run.new.out) c.digest_run.result c.done.result c.done.ensures c.digest_run.ensures.write)

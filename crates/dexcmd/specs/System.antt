@@ -1,0 +1,51 @@
+-- The devices of the system by their names.
+use Rattle.std.specs.Prelude.{◌≡◌, ◌≢◌, ℕ, ◌==◌, if◌then◌else◌, Bool, true, false, List, Result, Ok, Err, codes}
+use Rattle.dexcmd.specs.declared.system.NamedInput.{NamedInput}
+use Rattle.dexcmd.specs.declared.system.NamedInput.TheVariants as input
+use Rattle.dexcmd.specs.declared.system.Target.{Target}
+use Rattle.dexcmd.specs.declared.system.Target.TheVariants as target
+use Rattle.dexcmd.specs.declared.system.NamedOutput.{NamedOutput}
+use Rattle.dexcmd.specs.declared.system.State.{State}
+use Rattle.dexcmd.specs.declared.system.State.TheVariants.{Working, Broken, Closed}
+use Rattle.dexcmd.specs.Files.{old_path, IsClosed, new_path, IsUnmade}
+
+-- the name of standard input and of standard output
+abbrev pub standard : List ℕ
+standard = codes "-"
+
+-- the input reads the file at the path, which is not opened, or standard input for `-`
+abbrev pub IsNamedInput : {R F D : Type 0} → List ℕ → NamedInput R F D → Type 0
+IsNamedInput name (input.File file) = (old_path file ≡ name) × IsClosed file
+IsNamedInput name (input.Standard rt) = name ≡ standard
+
+-- the target is standard output
+abbrev pub is_standard : {R F D : Type 0} → Target R F D → Bool
+is_standard (target.File file) = false
+is_standard (target.Standard printer) = true
+
+-- the target is the file at the path, which is not made, or standard output for `-`
+abbrev pub IsNamedTarget : {R F D : Type 0} → List ℕ → Target R F D → Type 0
+IsNamedTarget name (target.File file) = (new_path file ≡ name) × IsUnmade file
+IsNamedTarget name (target.Standard printer) = name ≡ standard
+
+-- the output writes to the file at the path, which is not made, or to standard output for `-`, and has not failed
+abbrev pub IsNamedOutput : {R F D : Type 0} → List ℕ → NamedOutput R F D → Type 0
+IsNamedOutput name out = IsNamedTarget name out.target × (out.state ≡ Working)
+
+-- whether a write to an output has failed
+abbrev pub has_failed : State → Bool
+has_failed Working = false
+has_failed Broken = true
+has_failed Closed = true
+
+-- whether the reader of standard output has gone away
+abbrev pub is_closed : State → Bool
+is_closed Working = false
+is_closed Broken = false
+is_closed Closed = true
+
+-- the state after a write: one that takes nothing breaks the output too, and one to a pipe that nobody reads closes it
+abbrev pub IsStateAfter : {E K : Type 0} → (E → K) → K → Bool → Result ℕ E → State → Type 0
+IsStateAfter kind_of broken_pipe _ (Ok n) state = state ≡ (if n == 0 then Broken else Working)
+IsStateAfter kind_of broken_pipe true (Err error) state = (kind_of error ≡ broken_pipe → state ≡ Closed) × (kind_of error ≢ broken_pipe → state ≡ Broken)
+IsStateAfter kind_of broken_pipe false (Err error) state = state ≡ Broken

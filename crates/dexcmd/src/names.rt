@@ -1,0 +1,36 @@
+//! The names of a job: those of its inputs, and that of its output.
+
+ghost use Rattle.std.specs.Prelude.{◌≡◌, map, Some, None, MatchOption, string_bytes};
+ghost use Rattle.dexcmd.specs.Names.{input_names, output_name};
+
+use dexargs::Job;
+use std::slice;
+
+/// The names of the inputs of a job, in the order in which they are read.
+pub fn input_names(job: &Job) -> &[String]
+    ensures { map string_bytes result.now ≡ input_names job.now }
+{
+    match job {
+        Job::Check(files)
+        | Job::Merge(_, _, _, _, files)
+        | Job::KeepChecking(files)
+        | Job::Digest(files)
+        | Job::Count(files) => files.as_slice(),
+        Job::Dump(file) | Job::Normalise(file, _) | Job::Repair(file, _) => slice::from_ref(file),
+    }
+}
+
+/// The name of the output of a job, or `None` for a job that writes to standard output.
+pub fn output_name(job: &Job) -> Option<&str>
+    ensures { MatchOption result (output_name job.now ≡ None)
+        (λ name. output_name job.now ≡ Some name.now) }
+{
+    match job {
+        Job::Normalise(_, out) | Job::Merge(out, _, _, _, _) | Job::Repair(_, out) => {
+            Some(out.as_str())
+        }
+        Job::Check(_) | Job::Dump(_) | Job::KeepChecking(_) | Job::Digest(_) | Job::Count(_) => {
+            None
+        }
+    }
+}

@@ -2,14 +2,22 @@
 
 use crate::system::{Log, System, file};
 use crate::words::words_of;
-use dexcmd::{Report, SystemDevices, read_words, run_job};
+use dexcmd::{Job, Report, SystemDevices, input_names, output_name, read_words, run_job};
 use std::alloc::Global;
+
+// Runs a job over the devices of its names, and returns its report.
+fn run(alloc: Global, system: &System<'_>, job: &Job) -> Option<Report> {
+    let devices = SystemDevices::new(system);
+    let mut inputs = devices.inputs(alloc, input_names(job)).ok()?;
+    let mut out = devices.output(output_name(job));
+    run_job(alloc, job, inputs.as_mut_slice(), &mut out).ok()
+}
 
 // Runs the job that the arguments ask for, and returns its report.
 fn report(alloc: Global, system: &System<'_>, words: &str) -> Option<Report> {
     let words = words_of(alloc, words).ok()?;
     match read_words(alloc, words.as_slice()) {
-        Ok(job) => run_job(alloc, &SystemDevices::new(system), &job).ok(),
+        Ok(job) => run(alloc, system, &job),
         Err(_) => None,
     }
 }

@@ -1,14 +1,17 @@
 -- What a union holds, in numbers.
-use Rattle.dexmerge.proofs.Common.{◌≡◌, ℕ, ◌+◌, ◌-◌, ◌^◌, ◌<◌, ◌≤◌, Bool, false, not, ◌||◌, min, List, [], ◌∷◌, ◌++◌, length, take, map, refl, sym, ap, ◌∙◌, arith, Option, Some, None, All, nat_lt, list_any, ltb-true, ltb-false, lt-ltb, take_more, append-nil, length-map, flat_map-append, rank, Text, text_cmp, Definition, Mentions, mentions, HasShortString, list_any-source, IsAt, Maps, image, KeepOrder, IsGreatest, members_short_strings, renumbered_members, NumberedClass, definition_of, no_class, IsMappedClass, IsKnownClass, not-true, not-false, le-ltb, HasShortString-within}
+use Rattle.dexmerge.proofs.Common.{◌≡◌, ℕ, ◌+◌, ◌-◌, ◌^◌, ◌<◌, ◌≤◌, Bool, false, not, ◌||◌, min, List, [], ◌∷◌, ◌++◌, length, take, map, refl, sym, ap, ◌∙◌, arith, Option, Some, None, All, nat_lt, list_any, ltb-true, ltb-false, lt-ltb, take_more, append-nil, length-map, flat_map-append, rank, Text, text_cmp, Definition, Mentions, mentions, HasShortString, list_any-source, IsAt, Maps, image, KeepOrder, IsGreatest, members_short_strings, renumbered_members, NumberedClass, definition_of, no_class, IsMappedClass, IsKnownClass, not-true, not-false, le-ltb, HasShortString-within, AreSame, IsAcyclic, IsConsistent}
 use Rattle.std.proofs.lemmas.List.Folds.{list_any-append}
 use Rattle.dexmerge.specs.declared.candidates.Candidate.{Candidate}
 use Rattle.dexmerge.specs.declared.measuring.Counts.{Counts}
 use Rattle.dexmerge.specs.internal.Amounts.{short_numbers}
 use Rattle.dexmerge.specs.{classes_of, class_at, AreCounts, AreCountsOver, Decides, above_it, is_from}
 use Rattle.dexmerge.specs.internal.Unions.{AreOnce}
+use Rattle.dexmerge.specs.internal.Cycles.{AreAcyclic}
+use Rattle.dexspec.proofs.merge.DepthGrowth.{IsAcyclic-within}
 use Rattle.dexmerge.proofs.CapLaws.{none_from, weight_is}
 use Rattle.dexmerge.proofs.FarTexts.{few_texts, greatest_decides, none_remapped}
 use Rattle.dexmerge.proofs.MergeLaws.{once_apart, once_own}
+use Rattle.dexmerge.proofs.UnionLaws.{consistent}
 use Rattle.dexmerge.proofs.ShortStrings.{short_named_by, short_denotes_text, rank_is}
 
 -- nothing is not below what is above it
@@ -63,8 +66,17 @@ module _ (m : Mentions) (D : List Definition) (cs : List Candidate) (h : AreOnce
       let f = short_denotes_text m Ks h.copies.members.known n.0 n.1 in
       (f.0, HasShortString-within E D (λ d. (h.copies.members.same d).0) f.0 f.2, omega (arith, rank_in n.0 f.0 f.1, (ltb-false n.0 g (not-true (nat_lt n.0 g) n.2)), (none_from (g + 1) (short_numbers Ks) n.0 (decides (g + 1) ∙ over (Some g)) n.1)))
 
-  pub once_counts : (counts : Counts) → AreCountsOver m Ks counts → AreCounts D counts
-  once_counts counts x = record {
+  same : AreSame E D
+  same = h.copies.members.same
+
+  -- no name has two definitions
+  once_consistent : IsConsistent D
+  once_consistent name one other c d = consistent m h.copies.rising Ks h.copies.members.known h.kept.rise name one other ((same (name, one)).1 c) ((same (name, other)).1 d)
+
+  pub once_counts : (counts : Counts) → AreAcyclic m Ks → AreCountsOver m Ks counts → AreCounts D counts
+  once_counts counts acyclic x = record {
+    consistent = once_consistent;
+    acyclic = IsAcyclic-within D E (λ d. (same d).1) acyclic;
     types = x.types ∙ ap (λ (o : Mentions). length o.types) h.copies.mentions_are;
     protos = x.protos ∙ ap (λ (o : Mentions). length o.protos) h.copies.mentions_are;
     fields = x.fields ∙ ap (λ (o : Mentions). length o.fields) h.copies.mentions_are;
@@ -76,7 +88,7 @@ module _ (m : Mentions) (D : List Definition) (cs : List Candidate) (h : AreOnce
     };
     size = record {
       once = E;
-      same = h.copies.members.same;
+      same = same;
       distinct = once_apart m D cs h;
       classes_are = x.classes ∙ sym (length-map Ks (definition_of m));
       weighs_is = x.weight ∙ ap (λ (w : ℕ). min (2 ^ 64 - 1) w) (sym (weight_is m Ks (once_own m D cs h)));

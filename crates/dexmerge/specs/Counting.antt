@@ -5,7 +5,8 @@ use Rattle.dexspec.specs.Texts.{Text, text_cmp}
 use Rattle.dexspec.specs.Classes.{Definition}
 use Rattle.dexspec.specs.Files.{AreSame}
 use Rattle.dexspec.specs.Mentions.{Mentions, mentions}
-use Rattle.dexspec.specs.Merging.{HasShortString}
+use Rattle.dexspec.specs.Depth.{IsAcyclic}
+use Rattle.dexspec.specs.Merging.{HasShortString, IsConsistent}
 use Rattle.dexspec.specs.Weight.{weight}
 use Rattle.dexclass.specs.Numbered.{NumberedClass}
 use Rattle.dexmerge.specs.declared.measuring.Counts.{Counts}
@@ -38,8 +39,11 @@ pub record IsShortBound (D : List Definition) (bound : ℕ) : Type 0 where
   pub below : (s : Text) → HasShortString D s → rank text_cmp s (mentions D).texts < bound
   pub least : 0 < bound → (s : Text) × HasShortString D s × (rank text_cmp s (mentions D).texts + 1 ≡ bound)
 
--- these are the numbers that the caps compare, and those of the classes and texts
+-- no name has two definitions and each defined name has a depth; these are the numbers that the caps compare, and those
+-- of the classes and texts
 pub record AreCounts (D : List Definition) (counts : Counts) : Type 0 where
+  pub consistent : IsConsistent D
+  pub acyclic : IsAcyclic D
   pub types : counts.types ≡ length (mentions D).types
   pub protos : counts.protos ≡ length (mentions D).protos
   pub fields : counts.fields ≡ length (mentions D).fields

@@ -1,11 +1,13 @@
 //! What a union holds, in numbers.
 
-ghost use Rattle.std.specs.Prelude.{◌≡◌, ◌≤◌, All, IfOk, IfErr};
+ghost use Rattle.std.specs.Prelude.{◌≡◌, ◌≤◌, List, All, IfOk, IfErr};
+ghost use Rattle.dexspec.specs.Classes.{Definition};
 ghost use Rattle.dexclass.specs.Uses.{IsKnownClass};
 ghost use Rattle.dexmerge.specs.Candidates.{IsOfPart, classes_of};
 ghost use Rattle.dexmerge.specs.Counting.{AreCounts, AreCountsOver, above_it};
 ghost use Rattle.dexmerge.specs.Faults.{ReportsUnderAnyCaps};
 ghost use Rattle.dexmerge.specs.Parts.{definitions_in};
+ghost use Rattle.dexmerge.specs.internal.Unions.{AreCopies, AreKeptSoundly, CopiesReport};
 
 use crate::candidates::{Candidate, candidates};
 use crate::faults::MergeFault;
@@ -67,8 +69,24 @@ fn counts_of(numbering: &Numbering<'_>, classes: &[Candidate<'_, '_>]) -> Counts
     }
 }
 
+// One class of each name. None of them is above itself.
+fn sound_classes<'a, 'b>(
+    alloc: Global,
+    numbering: &Numbering<'_>,
+    copies: &[Candidate<'a, 'b>],
+) -> Result<Vec<Candidate<'a, 'b>>, MergeFault>
+    requires { (D : List Definition) × AreCopies numbering.now D copies.now }
+    ensures kept { IfOk result (λ kept. AreKeptSoundly numbering.now copies.now kept.items) }
+    ensures fault { IfErr result (CopiesReport numbering.now copies.now) }
+{
+    let classes = one_of_each(alloc, numbering, copies)?;
+    let _depths = class_depths(alloc, numbering, &classes)?;
+    Ok(classes)
+}
+
 /// What the program of all classes of the parts holds, in any order and with any repeats: the numbers that caps bound,
-/// and those of its classes and strings. No cap is asked.
+/// and those of its classes and strings. No cap is asked. There are counts only where no name has two different classes
+/// and no class is above itself.
 ///
 /// Error: `Conflict` with the least name that has two different classes; else `Cycle` with the least name of a class
 /// that is above itself or below such a class; or `Memory` if an allocation failed. `Cap` is never returned.
@@ -78,7 +96,6 @@ pub fn measure(alloc: Global, parts: &[&Program<'_>]) -> Result<Counts, MergeFau
 {
     let (numbering, remaps) = joined(alloc, parts)?;
     let copies = candidates(alloc, parts, &remaps)?;
-    let classes = one_of_each(alloc, &numbering, &copies)?;
-    let _depths = class_depths(alloc, &numbering, &classes)?;
+    let classes = sound_classes(alloc, &numbering, &copies)?;
     Ok(counts_of(&numbering, &classes))
 }

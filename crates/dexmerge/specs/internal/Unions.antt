@@ -12,7 +12,7 @@ use Rattle.dexclass.specs.Parents.{AreDepthsByName}
 use Rattle.dexmerge.specs.Parts.{definitions_in}
 use Rattle.dexmerge.specs.Candidates.{AreMembers, IsOfPart, classes_of}
 use Rattle.dexmerge.specs.Faults.{Reports}
-use Rattle.dexmerge.specs.internal.Cycles.{AreKept}
+use Rattle.dexmerge.specs.internal.Cycles.{AreKept, AreAcyclic}
 use Rattle.dexmerge.specs.declared.candidates.Candidate.{Candidate}
 use Rattle.dexmerge.specs.declared.faults.MergeFault.{MergeFault}
 
@@ -27,6 +27,15 @@ pub record AreCopies (m : Mentions) (D : List Definition) (cs : List Candidate) 
 pub record AreOnce (m : Mentions) (D : List Definition) (cs : List Candidate) : Type 0 where
   pub copies : AreCopies m D cs
   pub kept : AreKept m (classes_of cs)
+
+-- the same, and no class is above itself
+pub record AreSound (m : Mentions) (D : List Definition) (cs : List Candidate) : Type 0 where
+  pub once : AreOnce m D cs
+  pub acyclic : AreAcyclic m (classes_of cs)
+
+-- the same of those of the copies that are kept
+abbrev pub AreKeptSoundly : Mentions → List Candidate → List Candidate → Type 0
+AreKeptSoundly m copies kept = (D : List Definition) → AreCopies m D copies → AreSound m D kept
 
 -- of each name one of the copies is kept
 abbrev pub AreKeptOnce : Mentions → List Candidate → List Candidate → Type 0

@@ -1,7 +1,7 @@
 use Rattle.dexmerge.proofs.Common.{◌≡◌, List, sym, subst, err_from_is_err_and, Maps}
 use Rattle.dexmerge.specs.{definitions_in, referents}
 use Rattle.dexmerge.specs.declared.candidates.Candidate.{Candidate}
-use Rattle.dexmerge.specs.internal.Unions.{AreCopies, AreOnce, IsJoined}
+use Rattle.dexmerge.specs.internal.Unions.{AreCopies, AreSound, IsJoined}
 use Rattle.dexmerge.proofs.Counting.{once_counts}
 use Rattle.dexmerge.proofs.MergeLaws.{are_copies}
 use Rattle.dexmerge.proofs.measuring.measure.Goals as goal
@@ -14,37 +14,30 @@ copies c l e =
     let m = c.in_ok-numbering.numbering in
     subst (AreCopies m (definitions_in c.args.parts.now)) (sym e) (are_copies Ks m c.deref.result.now c.in_ok-copies.copies.items (subst (λ (r : List Maps). IsJoined Ks m r) (sym c.deref.ensures.value) c.in_ok-numbering.ensures) (c.in_ok-copies.ensures.members m) (c.in_ok-copies.ensures.parts m))
 
--- one class of each name
-once : (c : In_ok-classes) → AreCopies c.in_ok-numbering.numbering (definitions_in c.args.parts.now) c.deref-2.result.now → (l : List Candidate) → l ≡ c.in_ok-classes.classes.items → AreOnce c.in_ok-numbering.numbering (definitions_in c.args.parts.now) l
-once c are l e = subst (AreOnce c.in_ok-numbering.numbering (definitions_in c.args.parts.now)) (sym e) (c.in_ok-classes.ensures.kept (definitions_in c.args.parts.now) are)
+-- one class of each name, none of them above itself
+sound : (c : In_ok-classes) → AreCopies c.in_ok-numbering.numbering (definitions_in c.args.parts.now) c.deref-2.result.now → (l : List Candidate) → l ≡ c.in_ok-classes.classes.items → AreSound c.in_ok-numbering.numbering (definitions_in c.args.parts.now) l
+sound c are l e = subst (AreSound c.in_ok-numbering.numbering (definitions_in c.args.parts.now)) (sym e) (c.in_ok-classes.ensures.kept (definitions_in c.args.parts.now) are)
+
+pub sound_classes-requires : goal.sound_classes-requires
+sound_classes-requires c = (definitions_in c.args.parts.now, copies (goal.at.sound_classes-requires c).In_ok-copies _ c.deref-2.ensures.value)
 
 pub returns-in_err-classes-clause-fault : goal.returns-in_err-classes-clause-fault
 returns-in_err-classes-clause-fault c =
     let p = err_from_is_err_and c.from_residual-in_err-classes.result c.from_residual-in_err-classes.ensures.1 in
     rw (p.1, p.2) (λ caps. c.in_err-classes.ensures.fault caps (definitions_in c.args.parts.now) (copies (goal.at.returns-in_err-classes-clause-fault c).In_ok-copies _ c.deref-2.ensures.value))
 
-pub class_depths-requires : goal.class_depths-requires
-class_depths-requires c =
-    let here = goal.at.class_depths-requires c in
-    (definitions_in c.args.parts.now, once here.In_ok-classes (copies here.In_ok-copies _ c.deref-2.ensures.value) _ c.deref-3.ensures.value)
-
-pub returns-in_err-_depths-clause-fault : goal.returns-in_err-_depths-clause-fault
-returns-in_err-_depths-clause-fault c =
-    let here = goal.at.returns-in_err-_depths-clause-fault c in
-    let p = err_from_is_err_and c.from_residual-in_err-_depths.result c.from_residual-in_err-_depths.ensures.1 in
-    rw (p.1, p.2) (λ caps. c.in_err-_depths.ensures.fault caps (definitions_in c.args.parts.now) (once here.In_ok-classes (copies here.In_ok-copies _ c.deref-2.ensures.value) _ c.deref-3.ensures.value))
-
 pub counts_of-requires-clause-parts : goal.counts_of-requires-clause-parts
 counts_of-requires-clause-parts c =
     let here = goal.at.counts_of-requires-clause-parts c in
-    (once here.In_ok-classes (copies here.In_ok-copies _ c.deref-2.ensures.value) _ c.deref-4.ensures.value).copies.of_parts
+    (sound here.In_ok-classes (copies here.In_ok-copies _ c.deref-2.ensures.value) _ c.deref-3.ensures.value).once.copies.of_parts
 
 pub counts_of-requires-clause-known : goal.counts_of-requires-clause-known
 counts_of-requires-clause-known c =
     let here = goal.at.counts_of-requires-clause-known c in
-    (once here.In_ok-classes (copies here.In_ok-copies _ c.deref-2.ensures.value) _ c.deref-4.ensures.value).copies.members.known
+    (sound here.In_ok-classes (copies here.In_ok-copies _ c.deref-2.ensures.value) _ c.deref-3.ensures.value).once.copies.members.known
 
 pub returns-clause-counts : goal.returns-clause-counts
 returns-clause-counts c =
     let here = goal.at.returns-clause-counts c in
-    once_counts c.in_ok-numbering.numbering (definitions_in c.args.parts.now) c.deref-4.result.now (once here.In_ok-classes (copies here.In_ok-copies _ c.deref-2.ensures.value) _ c.deref-4.ensures.value) c.counts_of.result c.counts_of.ensures
+    let own = sound here.In_ok-classes (copies here.In_ok-copies _ c.deref-2.ensures.value) _ c.deref-3.ensures.value in
+    once_counts c.in_ok-numbering.numbering (definitions_in c.args.parts.now) c.deref-3.result.now own.once c.counts_of.result own.acyclic c.counts_of.ensures

@@ -1,11 +1,13 @@
 -- The faults of class rows as they are read.
 use Rattle.dexclass.proofs.Common.{◌≡◌, ℕ, zero, suc, ◌+◌, ◌*◌, ◌-◌, ◌<◌, ◌≤◌, List, [], ◌∷◌, length, map, refl, sym, ap, subst, arith, inl, inr, ClassDefs, table_size, Definition, class_idx, interfaces_off, Mentions, mentions, weight, mentions_weight, most_weight, Condition, number, HasClass, HoldBelow, AreRows, FailsAt, place, rows_checked, IsRefused, AreReadable, ArePools, ItemFault, Refused, Memory, AreHeavyMembers, IsMembersFault, IsMembersFaultWithin}
+use Rattle.std.proofs.Math.Nat.{eq-or-lt_of_le}
 use Rattle.dexpool.specs.declared.faults.ItemFault.TheVariants as items
 use Rattle.dexpool.specs.declared.faults.ReadFault.{ReadFault}
 use Rattle.dexclass.specs.internal.Rows.{IsClassFault, interface_indices}
 use Rattle.dexclass.specs.internal.Checked.{IsFaultAtRow}
 use Rattle.dexclass.specs.{type_at, definition_of, IsFaultOf}
 use Rattle.dexclass.specs.internal.Reading.{bodies_weight, AreBodies, AreHeavy}
+use Rattle.dexclass.specs.internal.ReadWithin.{IsFaultWithin}
 use Rattle.dexclass.specs.declared.reading.Bodies.{Bodies}
 use Rattle.dexclass.proofs.EmptyPrograms.{nothing_weighs}
 use Rattle.dexclass.proofs.RowClasses.{row_body, row_weight, row_encoded}
@@ -62,6 +64,35 @@ module _ (b : List ℕ) (m : Mentions) (pools : ArePools b m) (h : HoldBelow 17 
   row_fault_within most left items.Memory fault is m = subst (IsFaultOf b) (sym is) tt
   row_fault_within most left (items.Refused n) fault is (inl m) = row_fault b r (items.Refused n) fault is h lt m
   row_fault_within most left (items.Refused n) fault is (inr m) = subst (IsFaultOf b) (sym is) (subst (λ (k : ℕ). IsRefused b k r) (sym m.0) (members_heavy most left m.1))
+
+-- ---- what is read within a weight
+
+-- a fault of the file
+pub file_fault : (b : List ℕ) (limit : ℕ) (fault : ReadFault) → IsFaultOf b fault → IsFaultWithin limit b fault
+file_fault b limit Memory h = h
+file_fault b limit (Refused r) h = inl h
+
+module _ (b : List ℕ) (m : Mentions) (pools : ArePools b m) (h : HoldBelow 17 b) (r : ℕ) (bodies : Bodies) (before : AreBodies b m r bodies) (lt : r < table_size b ClassDefs) (limit : ℕ) where
+  -- the fault of a row of a reader within less
+  early_fault : limit < most_weight → (most : ℕ) (members : ItemFault) (fault : ReadFault) → IsFaultAtRow members r fault → IsMembersFaultWithin b r most members → IsFaultWithin limit b fault
+  early_fault less most items.Memory fault is m = subst (IsFaultWithin limit b) (sym is) tt
+  early_fault less most (items.Refused n) fault is (inl m) = file_fault b limit fault (row_fault b r (items.Refused n) fault is h lt m)
+  early_fault less most (items.Refused n) fault is (inr m) = subst (IsFaultWithin limit b) (sym is) (inr (m.0, less))
+
+  -- the fault of a row
+  pub row_fault_up_to : limit ≤ most_weight → (most : ℕ) → most ≡ limit - bodies.weight - (96 + 2 * length (interface_indices b (interfaces_off b r))) → (members : ItemFault) (fault : ReadFault) → IsFaultAtRow members r fault → IsMembersFaultWithin b r most members
+      → IsFaultWithin limit b fault
+  row_fault_up_to le most left members fault is within = elim (eq-or-lt_of_le le) [
+    | inl same ↦ file_fault b limit fault (row_fault_within b m pools h r bodies before lt most (omega (arith, left, same)) members fault is within)
+    | inr less ↦ early_fault less most members fault is within
+  ]
+
+-- what weighs more than the limit
+pub heavy_within : (b : List ℕ) (r limit heavy : ℕ) → limit ≤ most_weight → limit < heavy → (most_weight < heavy → IsRefused b 23 r) → IsFaultWithin limit b (Refused (record { number = 23; place = r }))
+heavy_within b r limit heavy le more refused = elim (eq-or-lt_of_le le) [
+  | inl same ↦ inl (refused (omega (arith, same, more)))
+  | inr less ↦ inr (refl, less)
+]
 
 -- what weighs too much is of some row
 some_rows : (b : List ℕ) (n : ℕ) (D : List Definition) → AreRows b n D → most_weight < weight D → 0 < n

@@ -3,6 +3,7 @@ pub mod Rows
 pub mod Checked
 pub mod Ordered
 pub mod Reading
+pub mod ReadWithin
 pub mod Stripped
 pub mod Parts
 pub mod Trimming

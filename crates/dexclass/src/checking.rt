@@ -56,9 +56,13 @@ fn are_bytes(bytes: &[u8])
     ensures { All (λ byte. byte < 256) bytes.now }
 {}
 
-// Checks the class rows of a file of which conditions 1 to 16 hold, from row 0 on, until they weigh too much. Returns
-// what they weigh together.
-fn check_rows(alloc: Global, frame: &Frame<'_>, pools: &Pools<'_>) -> Result<u64, ReadFault>
+/// Checks the class rows of a file of which conditions 1 to 16 hold, from row 0 on, until they weigh too much. Returns
+/// what they weigh together.
+pub(crate) fn check_rows(
+    alloc: Global,
+    frame: &Frame<'_>,
+    pools: &Pools<'_>,
+) -> Result<u64, ReadFault>
     requires pools { ArePools frame.now pools.now }
     requires holds { HoldBelow 17 frame.now }
     ensures accepted { IfOk result (HaveBodiesOf frame.now (table_size frame.now ClassDefs)) }

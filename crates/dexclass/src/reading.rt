@@ -1,15 +1,18 @@
 //! Reading a whole file.
 
-ghost use Rattle.std.specs.Prelude.{◌≡◌, ◌+◌, ◌*◌, ◌<◌, All, length, IfOk, IfErr, MatchOption};
+ghost use Rattle.std.specs.Prelude.{◌≡◌, ◌+◌, ◌*◌, ◌<◌, ◌≤◌, All, length, IfOk, IfErr, MatchOption};
 ghost use Rattle.dexspec.specs.Header.{ClassDefs, table_size};
 ghost use Rattle.dexspec.specs.Accepted.{HoldBelow};
+ghost use Rattle.dexspec.specs.Weight.{most_weight};
 ghost use Rattle.dexpool.specs.Pools.{ArePools};
 ghost use Rattle.dexpool.specs.declared.faults.ReadFault.TheVariants.{Refused};
 ghost use Rattle.dexclass.specs.internal.Rows.{HasInterfaceList, interface_indices};
 ghost use Rattle.dexclass.specs.internal.Checked.{IsFaultAtRow};
 ghost use Rattle.dexclass.specs.Programs.{IsReadAs, IsFaultOf};
 ghost use Rattle.dexclass.specs.internal.Reading.{AreBodies, AreHeavy, IsWhole};
+ghost use Rattle.dexclass.specs.internal.ReadWithin.{IsFaultWithin};
 
+use crate::checking::check_rows;
 use crate::class_checks::check_classes;
 use crate::classes::{Class, interfaces_at, number_of};
 use crate::programs::Program;
@@ -23,7 +26,8 @@ use std::alloc::Global;
 /// The most that a program may weigh.
 pub(crate) const MOST_WEIGHT: u64 = 1 << 30;
 
-/// Reads a file: the program of its class definitions.
+/// Reads a file: the program of its class definitions. The classes that are kept before all class rows are checked weigh
+/// at most four times the file's size and 65,536.
 ///
 /// Error: `Refused` with the number of a condition and the row at which it fails, as [`ReadFault`] says; `Memory` if an
 /// allocation failed. Nothing is kept then.
@@ -84,17 +88,19 @@ struct Bodies<'a> {
     weight: u64,
 }
 
-// Reads the class rows, from row 0 on, until the classes weigh too much.
-fn read_bodies<'a>(
+// Reads the class rows, from row 0 on, until the classes weigh more than `most`.
+fn read_bodies_within<'a>(
     alloc: Global,
     frame: &Frame<'a>,
     pools: &Pools<'a>,
+    most: u64,
 ) -> Result<Bodies<'a>, ReadFault>
     requires pools { ArePools frame.now pools.now }
     requires before { HoldBelow 17 frame.now }
+    requires most { most ≤ most_weight }
     ensures accepted { IfOk result
         (AreBodies frame.now pools.now (table_size frame.now ClassDefs)) }
-    ensures refused { IfErr result (IsFaultOf frame.now) }
+    ensures refused { IfErr result (IsFaultWithin most frame.now) }
 {
     pools.numbering().is_numbering();
     let rows = frame.size(Table::ClassDefs);
@@ -106,14 +112,14 @@ fn read_bodies<'a>(
         let row = ClassDef::at(frame, r);
         let count = interface_count(frame, row.interfaces_off);
         let own = row_weight(count);
-        let most = MOST_WEIGHT.saturating_sub(bodies.weight + own) as u32;
-        let (members, weight) = match read_members(alloc, frame, pools, &row, most) {
+        let left = most.saturating_sub(bodies.weight + own) as u32;
+        let (members, weight) = match read_members(alloc, frame, pools, &row, left) {
             Ok(found) => found,
             Err(fault) => return Err(at_row(fault, r)),
         };
         let body = own + u64::from(weight);
         let weight = bodies.weight + body;
-        if weight > MOST_WEIGHT {
+        if weight > most {
             return Err(too_heavy(r));
         }
         let interfaces = interfaces_at(alloc, frame, row.interfaces_off, count)?;
@@ -130,6 +136,41 @@ fn read_bodies<'a>(
         bodies.weight = weight;
     }
     Ok(bodies)
+}
+
+// What classes may weigh before all rows are checked. Those of compilers weigh less.
+fn most_unchecked(frame: &Frame<'_>) -> u64
+    ensures { result ≤ most_weight }
+{
+    let len = frame.bytes().len() as u64;
+    len.saturating_mul(4)
+        .saturating_add(65_536)
+        .min(MOST_WEIGHT)
+}
+
+// Reads the class rows. If the classes weigh much more than the file, as where many rows share an item, all rows are
+// checked before so much is kept.
+fn read_bodies<'a>(
+    alloc: Global,
+    frame: &Frame<'a>,
+    pools: &Pools<'a>,
+) -> Result<Bodies<'a>, ReadFault>
+    requires pools { ArePools frame.now pools.now }
+    requires before { HoldBelow 17 frame.now }
+    ensures accepted { IfOk result
+        (AreBodies frame.now pools.now (table_size frame.now ClassDefs)) }
+    ensures refused { IfErr result (IsFaultOf frame.now) }
+{
+    let refusal = match read_bodies_within(alloc, frame, pools, most_unchecked(frame)) {
+        Ok(bodies) => return Ok(bodies),
+        Err(ReadFault::Memory) => return Err(ReadFault::Memory),
+        Err(ReadFault::Refused(refusal)) => refusal,
+    };
+    if refusal.number != Condition::Weight as u8 {
+        return Err(ReadFault::Refused(refusal));
+    }
+    check_rows(alloc, frame, pools)?;
+    read_bodies_within(alloc, frame, pools, MOST_WEIGHT)
 }
 
 /// The weight of classes with all symbols of a numbering, or `None` if it is too much; `bodies` is that of the classes

@@ -1,5 +1,5 @@
 use Rattle.dexclass.specs.internal.Reading.{AreBodies}
-use Rattle.dexclass.proofs.reading.read_bodies.Given as goal
+use Rattle.dexclass.proofs.reading.read_bodies_within.Given as goal
 
 abbrev pub invariant-loop-r : goal.invariant-loop-r
 invariant-loop-r l = AreBodies l.frame l.pools l.r l.bodies

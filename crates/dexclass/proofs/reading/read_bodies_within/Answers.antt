@@ -1,12 +1,13 @@
 use Rattle.dexclass.proofs.Common.{◌≡◌, ◌<◌, ◌+◌, ◌*◌, ◌∙◌, ℕ, ap, length, refl, sym, subst, arith, interfaces_off, Condition, ClassDefs, table_size}
 use Rattle.dexclass.specs.internal.Reading.{AreBodies}
 use Rattle.dexclass.specs.internal.Rows.{HasInterfaceList, interface_indices}
-use Rattle.dexclass.specs.{class_of_row, number_of, IsFaultOf}
+use Rattle.dexclass.specs.{class_of_row, number_of}
+use Rattle.dexclass.specs.internal.ReadWithin.{IsFaultWithin}
 use Rattle.dexclass.proofs.Interfaces.{row_interfaces}
-use Rattle.dexclass.proofs.RowFaults.{row_fault_within}
+use Rattle.dexclass.proofs.RowFaults.{row_fault_up_to, heavy_within}
 use Rattle.dexclass.proofs.Summing.{class_heavy, class_more}
-use Rattle.dexclass.proofs.reading.read_bodies.Goals as goal
-use Rattle.dexclass.proofs.reading.read_bodies.Goals.{After-row_weight-own}
+use Rattle.dexclass.proofs.reading.read_bodies_within.Goals as goal
+use Rattle.dexclass.proofs.reading.read_bodies_within.Goals.{After-row_weight-own}
 
 -- what the row weighs without its members
 own : (c : After-row_weight-own) → c.row_weight-own.result ≡ 96 + 2 * length (interface_indices c.args.frame.now (interfaces_off c.args.frame.now c.loop-r.r))
@@ -25,18 +26,20 @@ interfaces_at-requires-clause-list c =
 pub returns-in-Err-clause-refused : goal.returns-in-Err-clause-refused
 returns-in-Err-clause-refused c =
     let lt : c.loop-r.r < table_size c.args.frame.now ClassDefs = omega (arith, c.loop-r-test.true, c.size-rows.ensures) in
-    row_fault_within c.args.frame.now c.args.pools.now c.requires.pools c.requires.before c.loop-r.r c.loop-r.bodies c.loop-r.invariant lt c.saturating_sub-most.result
-    (omega (arith, c.saturating_sub-most.ensures, own (goal.at.returns-in-Err-clause-refused c).After-row_weight-own)) c.in-Err.fault c.at_row.result c.at_row.ensures
+    row_fault_up_to c.args.frame.now c.args.pools.now c.requires.pools c.requires.before c.loop-r.r c.loop-r.bodies c.loop-r.invariant lt c.args.most c.requires.most c.saturating_sub-left.result
+    (omega (arith, c.saturating_sub-left.ensures, own (goal.at.returns-in-Err-clause-refused c).After-row_weight-own)) c.in-Err.fault c.at_row.result c.at_row.ensures
     (c.in-Err.ensures.refused c.loop-r.r c.at-row.ensures c.requires.pools (c.requires.before Condition.Classes (omega arith) c.loop-r.r lt))
 
-pub returns-then-weight-gt-MOST_WEIGHT-clause-refused : goal.returns-then-weight-gt-MOST_WEIGHT-clause-refused
-returns-then-weight-gt-MOST_WEIGHT-clause-refused c =
+pub returns-then-weight-most-clause-refused : goal.returns-then-weight-most-clause-refused
+returns-then-weight-most-clause-refused c =
     let b = c.args.frame.now in
     let lt : c.loop-r.r < table_size b ClassDefs = omega (arith, c.loop-r-test.true, c.size-rows.ensures) in
     let read = c.in-Ok.ensures.read c.loop-r.r c.at-row.ensures c.requires.pools (c.requires.before Condition.Classes (omega arith) c.loop-r.r lt) in
-    subst (IsFaultOf b) (sym c.too_heavy.ensures)
-    (class_heavy b c.args.pools.now c.requires.pools c.requires.before c.loop-r.r lt c.saturating_sub-most.result c.in-Ok.found.0 read.0 (c.row_weight-own.result + c.from.result)
-    (omega (arith, own (goal.at.returns-then-weight-gt-MOST_WEIGHT-clause-refused c).After-row_weight-own, c.from.ensures, read.1)) c.loop-r.bodies c.loop-r.invariant c.if-weight-gt-MOST_WEIGHT.true)
+    let w = c.row_weight-own.result + c.from.result in
+    subst (IsFaultWithin c.args.most b) (sym c.too_heavy.ensures)
+    (heavy_within b c.loop-r.r c.args.most (c.loop-r.bodies.weight + w) c.requires.most c.if-weight-most.true
+    (class_heavy b c.args.pools.now c.requires.pools c.requires.before c.loop-r.r lt c.saturating_sub-left.result c.in-Ok.found.0 read.0 (c.row_weight-own.result + c.from.result)
+    (omega (arith, own (goal.at.returns-then-weight-most-clause-refused c).After-row_weight-own, c.from.ensures, read.1)) c.loop-r.bodies c.loop-r.invariant))
 
 pub loop-r-preserved : goal.loop-r-preserved
 loop-r-preserved c =
@@ -50,8 +53,8 @@ loop-r-preserved c =
     let source = c.number_of-in-loop-r.ensures ∙ ap number_of (sym row.source_is) in
     let class : _ ≡ class_of_row b c.loop-r.r c.in-Ok.found.0 w =
     λ i. record { name = sym row.class_is i; flags = sym row.flags_are i; superclass = superclass i; interfaces = interfaces i; source = source i; members = c.in-Ok.found.0; weight = w } in
-    class_more b c.args.pools.now c.requires.pools c.requires.before c.loop-r.r lt c.saturating_sub-most.result c.in-Ok.found.0 read.0 w (omega (arith, own (goal.at.loop-r-preserved c).After-row_weight-own, c.from.ensures, read.1))
-    c.loop-r.bodies c.loop-r.invariant c.if-weight-gt-MOST_WEIGHT.false _ class (record { classes = c.push.new.self; weight = c.loop-r.bodies.weight + w }) c.in_ok-push.ensures.items refl
+    class_more b c.args.pools.now c.requires.pools c.requires.before c.loop-r.r lt c.saturating_sub-left.result c.in-Ok.found.0 read.0 w (omega (arith, own (goal.at.loop-r-preserved c).After-row_weight-own, c.from.ensures, read.1))
+    c.loop-r.bodies c.loop-r.invariant (omega (arith, c.if-weight-most.false, c.requires.most)) _ class (record { classes = c.push.new.self; weight = c.loop-r.bodies.weight + w }) c.in_ok-push.ensures.items refl
 
 pub returns-clause-accepted : goal.returns-clause-accepted
 returns-clause-accepted c =

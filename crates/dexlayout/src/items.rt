@@ -7,6 +7,7 @@ ghost use Rattle.dexspec.specs.Spellings.{offsets_bytes};
 ghost use Rattle.dexlayout.specs.internal.Encoding.{align_next, encode_use, end_item, no_items_from, pass_use};
 ghost use Rattle.dexlayout.specs.internal.Placing.{shared_by};
 
+use crate::item_number::ItemNumber;
 use crate::offsets::{Offsets, padding};
 use crate::sharing::place_shared;
 use dexhead::{Encode, Output};
@@ -173,7 +174,7 @@ impl SharedItems {
     pub(crate) fn of(
         alloc: Global,
         written: Items,
-        numbers: &[Option<usize>],
+        numbers: &[ItemNumber],
     ) -> Result<SharedItems, AllocError>
         requires { All (λ number. IfSome number (λ i. i < length written.places.offsets))
             numbers.now }

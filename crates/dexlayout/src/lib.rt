@@ -10,6 +10,7 @@ mod bodies;
 mod data;
 mod directories;
 mod input;
+mod item_number;
 mod items;
 mod keys;
 mod layout;

@@ -6,6 +6,7 @@ ghost use Rattle.dexlayout.specs.internal.Sharing.{HaveItems};
 ghost use Rattle.dexlayout.specs.internal.Adding.{HasUses, AddsUse, AreOfUses};
 ghost use Rattle.dexlayout.specs.internal.Placing.{shared_places};
 
+use crate::item_number::ItemNumber;
 use crate::offsets::Offsets;
 use indexmap::IndexSet;
 use std::alloc::{AllocError, Global};
@@ -15,7 +16,7 @@ use std::hash::Hash;
 #[derive(Drop)]
 pub(crate) struct Sharing<T: Eq + Hash> {
     items: IndexSet<T>,
-    numbers: Vec<Option<usize>>,
+    numbers: Vec<ItemNumber>,
 }
 
 /// The items that uses share, each once, in the order of their first use, and for each use the number of its item, if
@@ -23,7 +24,7 @@ pub(crate) struct Sharing<T: Eq + Hash> {
 #[derive(Drop)]
 pub(crate) struct Shared<T> {
     pub(crate) written: Vec<T>,
-    pub(crate) numbers: Vec<Option<usize>>,
+    pub(crate) numbers: Vec<ItemNumber>,
 }
 
 impl<T: Eq + Hash + Drop> Sharing<T> {
@@ -46,7 +47,7 @@ impl<T: Eq + Hash + Drop> Sharing<T> {
             Some(item) => Some(self.items.insert_full(item)?.0),
             None => None,
         };
-        self.numbers.push(number)?;
+        self.numbers.push(ItemNumber::of(number)?)?;
         Ok(())
     }
 
@@ -64,7 +65,7 @@ impl<T: Eq + Hash + Drop> Sharing<T> {
 /// The offset of the item of each use, from the numbers of the uses and the offsets of the items that are written.
 pub(crate) fn place_shared(
     alloc: Global,
-    numbers: &[Option<usize>],
+    numbers: &[ItemNumber],
     written: &Offsets,
 ) -> Result<Offsets, AllocError>
     requires { All (λ number. IfSome number (λ i. i < length written.now.offsets)) numbers.now }
@@ -72,7 +73,7 @@ pub(crate) fn place_shared(
 {
     let mut offsets = Vec::with_capacity(alloc, numbers.len())?;
     for number in numbers {
-        offsets.push(number.map_or(0, |number| written.offsets[number]))?;
+        offsets.push(number.get().map_or(0, |number| written.offsets[number]))?;
     }
     Ok(Offsets {
         offsets,

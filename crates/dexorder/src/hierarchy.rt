@@ -1,6 +1,7 @@
 //! Classes, each with its parents.
 
-ghost use Rattle.std.specs.Prelude.{◌≡◌, ◌<◌, ◌↔◌, IsTrue, List, [], ◌∷◌, ◌++◌, length, slice_index_or, IfOk, OnOk, OnErr};
+ghost use Rattle.std.specs.Prelude.{◌≡◌, ◌<◌, ◌↔◌, All, IfSome, IsTrue, List, [], ◌∷◌, ◌++◌, length, slice_index_or, IfOk, OnOk, OnErr};
+ghost use Rattle.dexorder.specs.Spans.{IsPart, IsPartWith};
 
 use std::alloc::{AllocError, Global};
 use std::marker::Model;
@@ -34,6 +35,15 @@ impl Model for Hierarchy {
     ghost view = { λ h. map (part h.parents.items) h.spans.items };
 
     ghost invariant = { λ h. All (IsPart (length h.parents.items)) h.spans.items };
+}
+
+// The last part of a list, if it has these elements.
+fn last_with(spans: &[Span], list: &[usize], elements: &[usize]) -> Option<Span>
+    requires { All (IsPart (length list.now)) spans.now }
+    ensures { IfSome result (IsPartWith list.now elements.now) }
+{
+    let last = *spans.last()?;
+    (&list[last.start..last.end] == elements).then_some(last)
 }
 
 impl Hierarchy {
@@ -73,13 +83,16 @@ impl Hierarchy {
     }
 
     /// Adds a class with these parents. A parent may be the number of a class that is added later. The number of the
-    /// class is the number of classes before it.
+    /// class is the number of classes before it. Classes in a row that have the same parents share one list.
     ///
     /// On error the classes are unchanged.
     pub fn push(&mut self, parents: &[usize]) -> Result<(), AllocError>
         ensures added { OnOk result (self.new ≡ self.old ++ parents.now ∷ []) }
         ensures err { OnErr result (self.new ≡ self.old) }
     {
+        if let Some(span) = last_with(&self.spans, &self.parents, parents) {
+            return Ok(self.spans.push(span)?);
+        }
         let start = self.parents.len();
         self.parents.extend_from_slice(parents)?;
         let end = self.parents.len();

@@ -1,0 +1,3 @@
+pub mod Reading
+pub mod Unmade
+pub mod InMemory

@@ -68,3 +68,55 @@ refused() {
         fail "this ended with status 0: $*"
     fi
 }
+
+# The folder of the library for C, which tools/lib makes. A recipe that needs it is not run if it is not there.
+find_library() {
+    LIBRARY=${LIBRARY:-$examples/../crates/dexkit_c/out/lib}
+    if [ ! -f "$LIBRARY/lib/libdexkit.a" ]; then
+        echo "there is no library $LIBRARY: make it with make lib, or name its folder as LIBRARY=PATH" >&2
+        exit 77
+    fi
+    LIBRARY=$(realpath "$LIBRARY")
+    export PKG_CONFIG_PATH="$LIBRARY/lib/pkgconfig"
+}
+
+# Asks a worker (c/worker.c) for checks, merges, digests and repairs, and compares what it writes with the program and with
+# the reference. The arguments are the command that starts it.
+served_by() {
+    all_files >files
+    all=$(tr '\n' '\t' <files | sed 's/\t$//')
+    cp "dex/guava/$dollar" first.dex
+    cp "$examples/changed/guava/$dollar" other.dex
+    { printf '\377'; tail -c +2 first.dex; } >broken.dex
+    {
+        sed 's/^/check\t/' files
+        printf 'merge\tapp.dex\t-\t0\t0\t%s\n' "$all"
+        printf 'merge\tgrouped.dex\t-\t5\t0\t%s\n' "$all"
+        printf 'merge\tstripped.dex\t-\t0\t1\t%s\n' "$all"
+        printf 'count\tcounts\t%s\n' "$all"
+        printf '%s\tapp.dex\t%s\n' normalise again.dex dump listing digest digests
+        printf 'merge\tboth.dex\t-\t0\t0\tfirst.dex\tother.dex\n'
+        printf 'merge\tsmall.dex\t65535,65535,65536,4,65536,1073741824\t0\t0\t%s\n' "$all"
+        printf 'check\tbroken.dex\n'
+        printf 'repair\tbroken.dex\trepaired.dex\n'
+        printf 'check\tno-such.dex\n'
+    } >requests
+    "$@" <requests >answers
+    xargs -d '\n' "$DEXKIT" check <files | sed 's/^/0\t/' >wanted
+    printf '0\t\n%.0s' 1 2 3 4 5 6 7 >>wanted
+    class='Lcom/google/common/base/MoreObjects$ToStringHelper$ValueHolder;'
+    printf '1\tdexkit: %s\n' "conflict $class" 'cap methods' >>wanted
+    printf '1\tdexkit: broken.dex: refused 2 Magic at 0\n%.0s' 1 2 >>wanted
+    printf '3\tdexkit: no-such.dex: cannot be read\n' >>wanted
+    same answers wanted
+    same_as_reference app.dex app.dex
+    same_as_reference stripped.dex stripped.dex
+    same grouped.dex app.dex
+    same again.dex app.dex
+    xargs -d '\n' "$DEXKIT" count <files >wanted
+    same counts wanted
+    for call in dump:listing digest:digests; do
+        "$DEXKIT" "${call%:*}" app.dex >wanted
+        same "${call#*:}" wanted
+    done
+}

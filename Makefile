@@ -6,6 +6,8 @@
 #                           what is proved is kept, so a run that was interrupted goes on where it was
 #   make check              the gate: proves what it has not passed on this machine, runs all cases, makes each allocation,
 #                           read and write of the proved program fail once, and runs the scripts that tests/gate/run lists
+#   make lib                proves the library for C and makes it in lib/out, a folder to be installed as a prefix
+#   make lib-check          compares it with the program and with right answers, from C, Python and Java, and at its edges
 #   make documents          checks links, sizes, names and versions in the documents, and words in all text and names
 #   make install PREFIX=..  installs the proved program, its manual, completions, documents and examples; PREFIX is
 #                           /usr/local if not given; a program that was not proved from the files of this tree is refused
@@ -29,7 +31,10 @@ VERSION := $(shell sed -n 's/.*const VERSION: &str = "\([^ "]*\).*/\1/p' crates/
 CRATES := $(shell tools/libraries dexkit)
 SOURCES := $(foreach crate,$(CRATES),$(wildcard crates/$(crate)/src/*.rt crates/$(crate)/src/*/*.rt))
 
-.PHONY: all try unproved check documents install dist vectors clean
+# The library for C, once `make lib` has proved and made it.
+LIBRARY = lib/out
+
+.PHONY: all try unproved check lib lib-check documents install dist vectors clean
 
 all:
 	@set -e; number=0; \
@@ -57,6 +62,13 @@ check:
 	@tests/gate/run
 	@tools/proved note
 
+lib:
+	JOBS=$(JOBS) tools/lib $(LIBRARY)
+
+lib-check: lib $(PROGRAM)
+	tests/library/prototypes
+	tests/library/run $(LIBRARY) $(PROGRAM)
+
 documents:
 	tests/documents/run
 	tests/words/run
@@ -83,4 +95,4 @@ vectors:
 	@tools/vectors $(VERSION)
 
 clean:
-	rm -rf crates/*/out dist
+	rm -rf crates/*/out lib/out dist

@@ -1,5 +1,5 @@
 -- Faults of unions, as those of files.
-use Rattle.std.proofs.Common.{◌≡◌, ◌⊎◌, inl, inr, refl, ℕ, Option, List, length, sym, subst}
+use Rattle.std.proofs.Common.{◌≡◌, ℕ, Option, List, length, sym, subst}
 use Rattle.std.proofs.lemmas.Slice.Zip.{AllZip-long}
 use Rattle.dexspec.specs.Files.{Collection}
 use Rattle.dexspec.specs.Merging.{Caps, Plan, IsPlanFor}
@@ -7,30 +7,14 @@ use Rattle.dexlaws.specs.Causes.{GoodHasNoCause}
 use Rattle.dexclass.specs.Programs.{IsReadAs}
 use Rattle.dexmerge.specs.Faults.{IsPlanFault}
 use Rattle.dexmerge.specs.declared.faults.PlanFault.{PlanFault}
-use Rattle.dexpool.specs.declared.faults.ReadFault.{ReadFault}
-use Rattle.dexpool.specs.declared.faults.ReadFault.TheVariants as read
 use Rattle.dexruns.specs.Fans.{IsFanPlan}
-use Rattle.dexruns.specs.Lines.{exit_status}
 use Rattle.dexruns.specs.Merges.{IsUnionFault}
 use Rattle.dexruns.specs.Faults.{fault_of_plan}
 use Rattle.dexruns.proofs.Merged.{fault_of_union}
-use Rattle.dexruns.specs.declared.faults.MergeCause.{MergeCause}
 use Rattle.dexruns.specs.declared.faults.RunFault.{RunFault}
 use Rattle.dexruns.specs.declared.faults.RunFault.TheVariants as run
 use Rattle.dexkit_c.specs.Calls.{AreReadAs}
-use Rattle.dexkit_c.specs.Faults.{IsUnreadFile, IsFaultOfFiles, IsUnmergedBy, fault_of_input}
-
--- why a file was not read is a fault of the files
-pub fault_of_unread : (Unmade : MergeCause → Type 0) (files : List (List ℕ)) (i : ℕ) (why : ReadFault) → IsUnreadFile files i why → IsFaultOfFiles Unmade files (fault_of_input i why)
-fault_of_unread Unmade files i (read.Refused refusal) is = is
-fault_of_unread Unmade files i read.Memory is = tt
-
--- its status is 1, or 4
-pub status_is : (Unmade : MergeCause → Type 0) (files : List (List ℕ)) (why : RunFault) (status : ℕ) → status ≡ exit_status why → IsFaultOfFiles Unmade files why → (status ≡ 1) ⊎ (status ≡ 4)
-status_is Unmade files (run.Input i refusal) status same fault = inl same
-status_is Unmade files (run.Merge reported) status same fault = inl same
-status_is Unmade files run.Memory status same fault = inr same
-status_is Unmade files _ status same fault = absurd fault
+use Rattle.dexkit_c.specs.Faults.{IsFaultOfFiles, IsUnmergedBy}
 
 -- a plan for as many files as collections is one for the collections
 plan_for_collections : (files : List (List ℕ)) (collections : List Collection) (plan : Plan) → AreReadAs files collections → IsPlanFor (length files) plan → IsPlanFor (length collections) plan

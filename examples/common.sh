@@ -71,7 +71,7 @@ refused() {
 
 # The folder of the library for C, which tools/lib makes. A recipe that needs it is not run if it is not there.
 find_library() {
-    LIBRARY=${LIBRARY:-$examples/../crates/dexkit_c/out/lib}
+    LIBRARY=${LIBRARY:-$examples/../lib/out}
     if [ ! -f "$LIBRARY/lib/libdexkit.a" ]; then
         echo "there is no library $LIBRARY: make it with make lib, or name its folder as LIBRARY=PATH" >&2
         exit 77

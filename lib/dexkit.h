@@ -10,7 +10,7 @@
  * State.    There is none: no init, no global, no thread local. Any number of threads may be in any calls at once, also
  *           over the same bytes, while nobody writes these. Not for signal handlers, nor for a forked child of a process
  *           with threads, because of malloc.
- * Stack.    A call needs at most DEXKIT_STACK bytes. That is measured and not proved: 40 KB was the most.
+ * Stack.    A call needs at most DEXKIT_STACK bytes. That is measured and not proved: 33 KB was the most.
  * NULL.     `bytes` may be NULL if `len` is 0, `files` if `count` is 0, `caps` always (the greatest caps), and so may
  *           each out-parameter but a buffer, which is not written then. NULL for a buffer, a function, or for bytes of
  *           which there are some, is DEXKIT_USAGE.

@@ -8,7 +8,10 @@ use Rattle.dexclass.specs.Programs.{IsReadAs, IsFaultOf}
 use Rattle.dexpool.specs.declared.faults.ReadFault.{ReadFault}
 use Rattle.dexpool.specs.declared.faults.ReadFault.TheVariants.{Refused, Memory}
 use Rattle.dexkit_c.specs.Calls.{AreReadAs}
-use Rattle.dexkit_c.specs.Faults.{IsUnreadFile}
+use Rattle.dexruns.specs.declared.faults.MergeCause.{MergeCause}
+use Rattle.dexruns.specs.declared.faults.RunFault.{RunFault}
+use Rattle.dexruns.specs.declared.faults.RunFault.TheVariants as run
+use Rattle.dexkit_c.specs.Faults.{IsUnreadFile, IsFaultOfFiles, fault_of_input}
 
 zip_more : {A B : Type 0} (P : A → B → Type 0) (xs : List A) (ys : List B) (x : A) (y : B) → AllZip P xs ys → P x y → AllZip P (xs ++ x ∷ []) (ys ++ y ∷ [])
 zip_more P [] [] x y all here = (here, tt)
@@ -27,7 +30,7 @@ pub all_read : {R : Type 0} (f : R → List ℕ) (xs : List R) (i : ℕ) (Ks : L
 all_read f xs i Ks end before = subst (λ zs. AllZip IsReadAs zs Ks) (take_all i (map f xs) (omega (arith, end, length-map xs f))) before
 
 -- the files before this one are read, and it is not
-pub unread : {R : Type 0} (f : R → List ℕ) (xs : List R) (i : ℕ) (d : R) (Ks : List Collection) (why : ReadFault) → i < length xs → AreReadAs (take i (map f xs)) Ks → IsFaultOf (f (get_or xs i d)) why → IsUnreadFile (map f xs) i why
+pub unread : {R : Type 0} (f : R → List ℕ) (xs : List R) (i : ℕ) (d : R) (Ks : List Collection) (why : ReadFault) → i < length xs → AreReadAs (take i (map f xs)) Ks → IsFaultOf (f (get_or xs i d)) why → IsUnreadFile (map f xs) (fault_of_input i why)
 unread f xs i d Ks (Refused refusal) lt before is = record {
   within = omega (arith, length-map xs f);
   collections = Ks;
@@ -35,3 +38,9 @@ unread f xs i d Ks (Refused refusal) lt before is = record {
   refused = subst (λ b. IsRefused b refusal.number refusal.place) (sym (get_or-map f xs i d [] lt)) is;
 }
 unread f xs i d Ks Memory lt before is = tt
+
+-- what was not read is a fault of the files
+pub fault_of_unread : (Unmade : MergeCause → Type 0) (files : List (List ℕ)) (why : RunFault) → IsUnreadFile files why → IsFaultOfFiles Unmade files why
+fault_of_unread Unmade files (run.Input i refusal) is = is
+fault_of_unread Unmade files run.Memory is = tt
+fault_of_unread _ _ _ is = absurd is

@@ -37,10 +37,14 @@ pub record IsRefusedFile (files : List (List ℕ)) (i number place : ℕ) : Type
   pub before : AreReadAs (take i files) collections
   pub refused : IsRefused (slice_index_or files i []) number place
 
--- why file number i was not read
-abbrev pub IsUnreadFile : List (List ℕ) → ℕ → ReadFault → Type 0
-IsUnreadFile files i (read.Refused refusal) = IsRefusedFile files i refusal.number refusal.place
-IsUnreadFile files i read.Memory = Unit {0}
+-- why the files were not read
+abbrev pub IsUnreadFile : List (List ℕ) → RunFault → Type 0
+IsUnreadFile files (run.Input i refusal) = IsRefusedFile files i refusal.number refusal.place
+IsUnreadFile files run.Plan = ⊥
+IsUnreadFile files (run.Merge reported) = ⊥
+IsUnreadFile files (run.Read i) = ⊥
+IsUnreadFile files run.Write = ⊥
+IsUnreadFile files run.Memory = Unit {0}
 
 -- why file number i was not read, as a fault of a run
 abbrev pub fault_of_input : ℕ → ReadFault → RunFault

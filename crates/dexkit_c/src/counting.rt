@@ -5,7 +5,7 @@ ghost use Rattle.dexkit_c.specs.Calls.{AreCountsOf, counts_in};
 ghost use Rattle.dexkit_c.specs.Faults.{AreUncountedBy, IsFaultOfFiles, IsFaultSaid};
 
 use crate::faults::{Bytes, DONE, Fault, put};
-use crate::merging::{fault_of, read_each};
+use crate::merging::read_each;
 use dexmerge::Counts;
 use dexruns::{RunFault, counts_of};
 use std::alloc::Global;
@@ -39,10 +39,7 @@ fn counted(alloc: Global, files: &[Bytes<'_>]) -> Result<Counts, RunFault>
         (AreUncountedBy (map (λ file. file.bytes.now) files.now))
         (map (λ file. file.bytes.now) files.now)) }
 {
-    let programs = match read_each(alloc, files) {
-        Ok(programs) => programs,
-        Err((i, why)) => return Err(fault_of(i, why)),
-    };
+    let programs = read_each(alloc, files)?;
     counts_of(alloc, programs.as_slice())
 }
 

@@ -67,9 +67,8 @@ fn put_cause<'a>(alloc: Global, cause: &MergeCause, fault: &mut Fault, text: &mu
             fault.number = u32::from(*number);
         }
     }
-    match cause_text(alloc, cause) {
-        Ok(line) => text.bytes = line.into_bytes().leak(),
-        Err(_) => {}
+    if let Ok(line) = cause_text(alloc, cause) {
+        text.bytes = line.into_bytes().leak();
     }
 }
 

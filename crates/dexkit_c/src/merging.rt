@@ -72,28 +72,24 @@ fn options_of(count: usize, caps: &CapNumbers, fan: usize, flags: u32) -> Option
 pub(crate) fn read_each<'a>(
     alloc: Global,
     files: &[Bytes<'a>],
-) -> Result<Vec<Program<'a>>, (usize, ReadFault)>
+) -> Result<Vec<Program<'a>>, RunFault>
     ensures read { IfOk result (λ programs.
         AreReadAs (map (λ file. file.bytes.now) files.now) programs.items) }
-    ensures fault { IfErr result (λ fault.
-        IsUnreadFile (map (λ file. file.bytes.now) files.now) fault.0 fault.1) }
+    ensures fault { IfErr result (IsUnreadFile (map (λ file. file.bytes.now) files.now)) }
 {
     let mut programs = Vec::new(alloc);
     for i in 0..files.len() {
         let program = match dexclass::read(alloc, files[i].bytes) {
             Ok(program) => program,
-            Err(why) => return Err((i, why)),
+            Err(why) => return Err(fault_of(i, why)),
         };
-        match programs.push(program) {
-            Ok(()) => {}
-            Err(_) => return Err((i, ReadFault::Memory)),
-        }
+        programs.push(program)?;
     }
     Ok(programs)
 }
 
-/// Why a file was not read, as a fault of a run.
-pub(crate) fn fault_of(i: usize, why: ReadFault) -> RunFault
+// Why a file was not read, as a fault of a run.
+fn fault_of(i: usize, why: ReadFault) -> RunFault
     ensures { result ≡ fault_of_input i why }
 {
     match why {
@@ -112,27 +108,12 @@ fn merged(alloc: Global, files: &[Bytes<'_>], options: &Options) -> Result<Vec<u
         (map (λ file. file.bytes.now) files.now)) (map (λ file. file.bytes.now) files.now)) }
 {
     normal_form();
-    let plan = match fan_plan(alloc, files.len(), options.fan) {
-        Ok(plan) => plan,
-        Err(_) => return Err(RunFault::Memory),
-    };
-    let programs = match read_each(alloc, files) {
-        Ok(programs) => programs,
-        Err((i, why)) => return Err(fault_of(i, why)),
-    };
-    let whole = match merge_files(alloc, programs, &plan, &options.caps) {
-        Ok(whole) => whole,
-        Err(why) => return Err(RunFault::from(why)),
-    };
-    let program = match kept(alloc, whole, options.is_stripped) {
-        Ok(program) => program,
-        Err(_) => return Err(RunFault::Memory),
-    };
+    let plan = fan_plan(alloc, files.len(), options.fan)?;
+    let programs = read_each(alloc, files)?;
+    let whole = merge_files(alloc, programs, &plan, &options.caps)?;
+    let program = kept(alloc, whole, options.is_stripped)?;
     program.is_good();
-    match dexcanon::to_bytes(alloc, &program) {
-        Ok(out) => Ok(out),
-        Err(_) => Err(RunFault::Memory),
-    }
+    Ok(dexcanon::to_bytes(alloc, &program)?)
 }
 
 /// Hands out the canonical file of the union of files, merged as `fan` groups them (0: all at once), or of what is left

@@ -65,7 +65,7 @@ check:
 lib:
 	JOBS=$(JOBS) tools/lib $(LIBRARY)
 
-lib-check: lib $(PROGRAM)
+lib-check: lib
 	tests/library/prototypes
 	tests/library/run $(LIBRARY) $(PROGRAM)
 

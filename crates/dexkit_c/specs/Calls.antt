@@ -8,6 +8,7 @@ use Rattle.dexspec.specs.Files.{Collection, definitions}
 use Rattle.dexspec.specs.Canonical.{canonical}
 use Rattle.dexspec.specs.Merging.{Caps, AreCaps, Plan}
 use Rattle.dexhead.specs.Conditions.{condition_name}
+use Rattle.dexout.specs.Printed.{shown}
 use Rattle.dexclass.specs.Programs.{IsReadAs}
 use Rattle.dexmerge.specs.Capping.{caps_of}
 use Rattle.dexmerge.specs.Counting.{AreCounts}
@@ -15,7 +16,6 @@ use Rattle.dexmerge.specs.Faults.{IsPlanned}
 use Rattle.dexmerge.specs.declared.measuring.Counts.{Counts}
 use Rattle.dexcanon.specs.Digests.{class_digests}
 use Rattle.dexruns.specs.Fans.{IsFanPlan}
-use Rattle.dexruns.specs.Lines.{class_text}
 use Rattle.dexruns.specs.Merges.{IsFileOf, kept}
 use Rattle.dexkit_c.specs.declared.counting.Numbers.{Numbers}
 use Rattle.dexkit_c.specs.declared.merging.CapNumbers.{CapNumbers}
@@ -83,7 +83,7 @@ pub record AreCountsOf (files : List (List ℕ)) (counts : Counts) : Type 0 wher
 
 -- a name as it is printed, with a 0 after it
 abbrev pub ended_name : List ℕ → List ℕ
-ended_name units = class_text units ++ (0 ∷ [])
+ended_name units = shown units ++ (0 ∷ [])
 
 -- the names of the classes of a collection, in the order of a canonical file
 abbrev pub ended_names : Collection → List ℕ

@@ -2,7 +2,9 @@
 
 ghost use Rattle.std.specs.Prelude.{◌≡◌, ◌⊎◌, OnOk, IfOk, IfErr};
 ghost use Rattle.dexspec.specs.Accepted.{IsAccepted, IsRefused};
+ghost use Rattle.dexspec.specs.Files.{Collection, Denotes};
 ghost use Rattle.dexclass.specs.Programs.{IsFaultOf};
+ghost use Rattle.dexlisting.specs.Listing.{listing};
 ghost use Rattle.dexruns.specs.Inputs.{bytes_read};
 ghost use Rattle.dexruns.specs.Repairs.{AreEqualButForSums, repaired};
 ghost use Rattle.dexkit_c.specs.Calls.{IsNormalOf};
@@ -109,6 +111,8 @@ pub extern "C" fn dexkit_c_repair<'a>(
 
 // The listing of a file.
 fn listed(alloc: Global, file: &[u8]) -> Result<Vec<u8>, RunFault>
+    ensures listing { IfOk result (λ out. (K : Collection) → Denotes (bytes_read file.now) K
+        → out.items ≡ listing K) }
     ensures accepted { OnOk result (IsAccepted (bytes_read file.now)) }
     ensures fault { IfErr result (IsOfFile (bytes_read file.now)) }
 {
@@ -131,6 +135,8 @@ pub extern "C" fn dexkit_c_dump<'a>(
     out: &mut Bytes<'a>,
     fault: &mut Fault,
 ) -> u32
+    ensures listing { result ≡ 0 → (K : Collection) → Denotes (bytes_read file.now) K
+        → out.new.bytes.now ≡ listing K }
     ensures accepted { result ≡ 0 → IsAccepted (bytes_read file.now) }
     ensures refused { result ≡ 1
         → IsRefused (bytes_read file.now) fault.new.number fault.new.place }

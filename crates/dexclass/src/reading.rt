@@ -149,7 +149,7 @@ fn most_unchecked(frame: &Frame<'_>) -> u64
 }
 
 // Reads the class rows. If the classes weigh much more than the file, as where many rows share an item, all rows are
-// checked before so much is kept.
+// checked before more of them is kept.
 fn read_bodies<'a>(
     alloc: Global,
     frame: &Frame<'a>,

@@ -9,9 +9,10 @@ from typing import Callable, List, NamedTuple, Optional
 PR_CAPBSET_DROP = 24
 CAP_DAC_OVERRIDE, CAP_DAC_READ_SEARCH = 1, 2
 FULL = "/dev/full"
+MOST_OPEN = 64
 
 
-class Answer(NamedTuple):
+class Outcome(NamedTuple):
     """What a call returned and printed. The status is -N if signal N ended it."""
 
     status: int
@@ -20,8 +21,8 @@ class Answer(NamedTuple):
 
 
 class Streams(NamedTuple):
-    """What the standard streams of a call are, if not files of nothing and pipes that are read: `closed`; for output
-    `full`, a device without room, or `gone`, a pipe that nobody reads."""
+    """The standard streams of a call. An output that is `read` is a pipe; others are `closed`, `full`, which is a device
+    without room, or `gone`, which is a pipe without a reader. Without privileges modes of files are enforced, for root too."""
 
     stdin: bytes = b""
     has_stdin: bool = True
@@ -43,7 +44,7 @@ class Program:
         self.calls = 0
         self.environment = dict(os.environ, LC_ALL="C")
 
-    def call(self, words: List[bytes], folder: str, streams: Streams = Streams()) -> Answer:
+    def call(self, words: List[bytes], folder: str, streams: Streams = Streams()) -> Outcome:
         """Calls the program in a folder with these arguments."""
         self.calls += 1
         open_ends: List[int] = []
@@ -59,7 +60,7 @@ class Program:
                 start_new_session=True,
             )
         except subprocess.SubprocessError as error:
-            raise OSError(f"what comes before the program failed: {error}") from None
+            raise OSError(f"the process could not be prepared: {error}") from None
         finally:
             for end in open_ends:
                 os.close(end)
@@ -69,11 +70,11 @@ class Program:
             os.killpg(process.pid, signal.SIGKILL)
             process.communicate()
             raise Hang(f"it did not end in {self.seconds:g} seconds") from None
-        return Answer(process.returncode, stdout or b"", stderr or b"")
+        return Outcome(process.returncode, stdout or b"", stderr or b"")
 
 
 def target(stream: str, open_ends: List[int]) -> int:
-    """Returns what an output of a process is to be, and adds what is to be closed once it has begun."""
+    """Returns the output of a process for a stream, and adds what is to be closed once the process has begun."""
     if stream == "full":
         open_ends.append(os.open(FULL, os.O_WRONLY))
         return open_ends[-1]
@@ -86,7 +87,7 @@ def target(stream: str, open_ends: List[int]) -> int:
 
 
 def preparation(streams: Streams) -> Optional[Callable[[], None]]:
-    """Returns what a process does before it becomes the program."""
+    """Returns what is done in the process before the program is executed, or None."""
     closed = [number for number, is_closed in enumerate(
         (not streams.has_stdin, streams.stdout == "closed", streams.stderr == "closed")) if is_closed]
     drops = streams.is_unprivileged and os.geteuid() == 0
@@ -103,13 +104,14 @@ def preparation(streams: Streams) -> Optional[Callable[[], None]]:
 
 
 def drop_overrides() -> None:
-    """Takes from what root becomes the right to pass over the permissions of files."""
+    """Drops the capabilities by which root reads and writes files whatever their modes."""
     libc = ctypes.CDLL(None, use_errno=True)
     for capability in (CAP_DAC_OVERRIDE, CAP_DAC_READ_SEARCH):
         if libc.prctl(PR_CAPBSET_DROP, capability, 0, 0, 0):
-            raise OSError(ctypes.get_errno(), "root cannot give up to pass over permissions")
+            raise OSError(ctypes.get_errno(), "root cannot drop its capabilities")
 
 
-def no_core() -> None:
-    """Lets no call leave a core file."""
-    resource.setrlimit(resource.RLIMIT_CORE, (0, resource.getrlimit(resource.RLIMIT_CORE)[1]))
+def set_limits() -> None:
+    """Lets no call leave a core file, or have many files open at a time."""
+    for limit, most in ((resource.RLIMIT_CORE, 0), (resource.RLIMIT_NOFILE, MOST_OPEN)):
+        resource.setrlimit(limit, (most, resource.getrlimit(limit)[1]))

@@ -1,4 +1,4 @@
-"""Command lines with what is right of them: the files `*.cases` of the data, whose form is in README.md."""
+"""Cases: the files `*.cases` of the data, in the form that README.md describes."""
 import os
 import re
 import shutil
@@ -15,7 +15,7 @@ COLUMN = re.compile(rb"\$([A-Z]+)")
 
 
 class Output:
-    """What is right of an output: its bytes, or what they are like."""
+    """What is expected of an output: its bytes, or patterns that are found in it."""
 
     def __init__(self) -> None:
         self.exact = bytearray()
@@ -32,13 +32,13 @@ class Output:
 
 
 def shown(some: bytes) -> str:
-    """Returns the beginning of some bytes, to be printed."""
+    """Returns the first of some bytes, to be printed."""
     dots = f".. ({len(some)} bytes)" if len(some) > MOST_SHOWN else ""
     return repr(some[:MOST_SHOWN])[1:] + dots
 
 
 def difference(name: str, right: bytes, got: bytes) -> Optional[str]:
-    """Returns how these bytes are not the right ones, or None."""
+    """Returns how bytes differ from those that are expected, or None."""
     if right == got:
         return None
     at = next((i for i, (a, b) in enumerate(zip(right, got)) if a != b), min(len(right), len(got)))
@@ -50,7 +50,7 @@ def difference(name: str, right: bytes, got: bytes) -> Optional[str]:
 
 
 class Case:
-    """A command line, what is there before, and what is right then."""
+    """A command line, the files that are there before, and what is expected."""
 
     def __init__(self, path: str, line: int, title: bytes):
         self.path, self.line, self.title = path, line, title
@@ -188,12 +188,12 @@ class Reader:
                 add_new(case.written, name, source)
         elif kind in (b"untouched", b"absent"):
             if any((name in case.files) != (kind == b"untouched") for name in words(rest)):
-                raise ValueError("what is untouched is a file of the case that stands above, what is absent is none")
+                raise ValueError("only a file that a line before names is untouched, and only one that none names is absent")
         else:
             raise ValueError(f"`{kind.decode(errors='replace')}` begins no line of a case")
 
     def named(self, rest: bytes) -> Iterator[Tuple[bytes, bytes]]:
-        """Returns the name and the bytes that `NAME = SOURCE` stands for."""
+        """Returns the names and bytes of `NAME = SOURCE`."""
         name, equals, source = rest.partition(b" = ")
         if not equals:
             raise ValueError("it is `NAME = SOURCE`")
@@ -252,20 +252,20 @@ class Run(NamedTuple):
         for name, mode in case.modes:
             os.chmod(os.path.join(folder, name), mode)
         assert case.words is not None
-        answer = self.program.call(case.words, os.fsdecode(folder), case.streams)
+        outcome = self.program.call(case.words, os.fsdecode(folder), case.streams)
         for name, mode in case.modes:
             os.chmod(os.path.join(folder, name), mode | 0o700)
-        troubles = [] if answer.status == case.status else [f"status {answer.status}, not {case.status}"]
+        troubles = [] if outcome.status == case.status else [f"status {outcome.status}, not {case.status}"]
         troubles += [
-            case.outputs[b"stdout"].trouble("standard output", answer.stdout),
-            case.outputs[b"stderr"].trouble("standard error", answer.stderr),
+            case.outputs[b"stdout"].trouble("standard output", outcome.stdout),
+            case.outputs[b"stderr"].trouble("standard error", outcome.stderr),
             folder_trouble(folder, {**case.files, **case.written}),
         ]
         return "; ".join(each for each in troubles if each) or None
 
 
 def folder_trouble(folder: bytes, right: Dict[bytes, bytes]) -> Optional[str]:
-    """Returns how the files of a folder are not these, or None."""
+    """Returns how the files of a folder differ from those that are expected, or None."""
     found = set()
     for at, _, names in os.walk(folder):
         for name in names:

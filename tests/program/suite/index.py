@@ -1,9 +1,9 @@
-"""The lines of the index files, as command lines: which ones, and how, is in README.md."""
+"""The command lines of the lines of index files, as README.md has them."""
 import os
 import re
-from typing import Dict, Iterator, List, NamedTuple, Optional, Tuple, Union
+from typing import Callable, Dict, Iterator, List, NamedTuple, Optional, Tuple, Union
 
-from suite.calls import Answer
+from suite.calls import Outcome
 from suite.sources import Sources
 from suite.text import DataFault
 
@@ -26,7 +26,7 @@ Plan = Union[int, List["Plan"]]
 
 
 class Line(NamedTuple):
-    """A line of an index: the folder of its files, where it stands, and what it says."""
+    """A line of an index, and the folder from which its files are named."""
 
     folder: str
     path: str
@@ -39,16 +39,16 @@ class Line(NamedTuple):
 
 
 class Ask(NamedTuple):
-    """A command line, and its right answers; each has the bytes of OUT, or None where it is not made. The output may also
-    be right by a part: `part` returns what is to be compared of standard output."""
+    """A command line, and its expected outcomes, any one of which is right; each with the bytes of OUT, or None if it is not
+    made. If `part` is given, a part of standard output is compared, see `part_of`."""
 
     words: List[bytes]
-    rights: List[Tuple[Answer, Optional[bytes]]]
+    expected: List[Tuple[Outcome, Optional[bytes]]]
     part: str = ""
 
 
 class Unsaid(Exception):
-    """No command line says this line."""
+    """No command line asks what this line does."""
 
 
 def lines_of(data: str, path: str) -> List[Line]:
@@ -100,16 +100,18 @@ def verdicts(rest: str) -> List[str]:
     return ["refused " + refusal(one) for one in each]
 
 
-def done(stdout: bytes = b"", out: Optional[bytes] = None) -> List[Tuple[Answer, Optional[bytes]]]:
-    return [(Answer(0, stdout, b""), out)]
+def done(stdout: bytes = b"", out: Optional[bytes] = None) -> List[Tuple[Outcome, Optional[bytes]]]:
+    """Returns the expected outcomes of a run that prints and writes this, and ends with 0."""
+    return [(Outcome(0, stdout, b""), out)]
 
 
-def faults(causes: str, files: List[str]) -> List[Tuple[Answer, Optional[bytes]]]:
-    """Returns the right answers of a run that is refused for one of these causes."""
-    return [(Answer(1, b"", f"dexkit: {fault(cause, files)}\n".encode()), None) for cause in causes.split(" | ")]
+def faults(causes: str, files: List[str]) -> List[Tuple[Outcome, Optional[bytes]]]:
+    """Returns the expected outcomes of a run that is refused for any one of these causes."""
+    return [(Outcome(1, b"", f"dexkit: {fault(cause, files)}\n".encode()), None) for cause in causes.split(" | ")]
 
 
 def fault(cause: str, files: List[str]) -> str:
+    """Returns what is printed of a cause after `dexkit: `."""
     kind, _, rest = cause.partition(" ")
     match = re.fullmatch(f"({NUMBER}) refused (.*)", rest)
     if kind == "input" and match:
@@ -124,24 +126,42 @@ class Asks:
 
     def __init__(self, sources: Sources):
         self.sources = sources
+        # What is called with a line, its first word and the rest.
+        self.kinds: Dict[str, Callable[[Line, str, str], Iterator[Ask]]] = {
+            "checkrun": self.checkrun,
+            "class": self.class_line,
+            "countrun": self.measure,
+            "digestrun": self.digestrun,
+            "dump": self.dump,
+            "measure": self.measure,
+            "merge": self.merge,
+            "mergestrip": self.mergestrip,
+            "normalise": self.normalise,
+            "regroup": self.regroup,
+            "repairrun": self.repairrun,
+            "slices": self.slices,
+            "strip": self.strip,
+            "weight": self.weight,
+        }
 
     def file(self, line: Line, name: str) -> bytes:
         return self.sources.file(os.path.normpath(os.path.join(line.folder, name)).encode())
 
     def of(self, line: Line) -> List[Ask]:
-        """Returns the command lines of a line that is not asked together with others. Raises Unsaid if there are none,
-        and DataFault if the line is broken."""
-        if line.kind in ("symbol", "join"):
+        """Returns the command lines of a line that is run alone. Raises Unsaid if there are none, and DataFault if the line
+        is broken."""
+        if line.kind not in self.kinds:
             raise Unsaid("of calls that no command makes alone")
         try:
-            return list(getattr(self, line.kind)(line, *line.rest.split(" ", 1)))
-        except (ValueError, IndexError, TypeError) as error:
+            first, _, rest = line.rest.partition(" ")
+            return list(self.kinds[line.kind](line, first, rest))
+        except (ValueError, IndexError) as error:
             raise DataFault(line.path, line.number, str(error)) from None
 
     def checkrun(self, line: Line, name: str, rest: str) -> Iterator[Ask]:
         status, text = rest.split(" ", 1)
         self.file(line, name)
-        yield Ask([b"check", name.encode()], [(Answer(int(status), text.encode() + b"\n", b""), None)])
+        yield Ask([b"check", name.encode()], [(Outcome(int(status), text.encode() + b"\n", b""), None)])
 
     def dump(self, line: Line, name: str, listing: str) -> Iterator[Ask]:
         yield Ask([b"dump", name.encode()], done(self.file(line, listing)))
@@ -159,8 +179,8 @@ class Asks:
     def repairrun(self, line: Line, name: str, rest: str) -> Iterator[Ask]:
         self.file(line, name)
         kind, right = rest.split(" ", 1)
-        rights = done(out=self.file(line, right)) if kind == "ok" else faults(fault_words(rest), [name])
-        yield Ask([b"repair", name.encode(), OUT], rights)
+        expected = done(out=self.file(line, right)) if kind == "ok" else faults(fault_words(rest), [name])
+        yield Ask([b"repair", name.encode(), OUT], expected)
 
     def digestrun(self, line: Line, name: str, rest: str) -> Iterator[Ask]:
         self.file(line, name)
@@ -175,11 +195,13 @@ class Asks:
 
     def weight(self, line: Line, name: str, weight: str) -> Iterator[Ask]:
         self.file(line, name)
+        if not re.fullmatch(NUMBER, weight):
+            raise ValueError(f"`{weight}` is no weight")
         if int(weight) > MOST_WEIGHT:
-            raise Unsaid("the file would be held in memory")
-        yield Ask([b"count", name.encode()], done(f"weight {int(weight)} of 1073741824\n".encode()), "weight ")
+            raise Unsaid("a file that takes a gigabyte of memory")
+        yield Ask([b"count", name.encode()], done(f"weight {weight} of 1073741824\n".encode()), "weight ")
 
-    def klass(self, line: Line, name: str, rest: str) -> Iterator[Ask]:
+    def class_line(self, line: Line, name: str, rest: str) -> Iterator[Ask]:
         row, text, superclass = rest.split(" ")
         self.file(line, name)
         yield Ask([b"dump", name.encode()], done(f"{row} {text} super={superclass}\n".encode()), "class ")
@@ -189,14 +211,13 @@ class Asks:
         files = self.files(line, word, names)
         if re.fullmatch(f"{NUMBER}( {NUMBER}){{7}}", right):
             greatest = [f" of {most}" for most in GREATEST] + ["", ""]
-            rights = done("".join(f"{kind} {count}{most}\n" for kind, count, most in zip(COUNTED, right.split(), greatest)).encode())
+            expected = done("".join(f"{kind} {count}{most}\n" for kind, count, most in zip(COUNTED, right.split(), greatest)).encode())
         else:
-            rights = faults(right, files)
-        yield Ask([b"count"] + [name.encode() for name in files], rights)
-
-    countrun = measure
+            expected = faults(right, files)
+        yield Ask([b"count"] + [name.encode() for name in files], expected)
 
     def files(self, line: Line, word: str, names: str) -> List[str]:
+        """Returns the names of files after the word `files`."""
         if word != "files":
             raise ValueError("no word `files`")
         if names == "-":
@@ -215,24 +236,24 @@ class Asks:
         plan_text, rest = line.rest.split(" caps ", 1)
         if rest.endswith(" badplan"):
             raise Unsaid("a bad plan, which the program never makes")
-        options, files, rights = self.merge_parts(line, rest, options)
-        order, fan = plan_of(plan_text, rights[0][0].status == 0)
-        if len(rights) > 1 and not fan:
+        options, files, expected = self.merge_parts(line, rest, options)
+        order, fan = plan_of(plan_text, expected[0][0].status == 0)
+        if len(expected) > 1 and not fan:
             raise ValueError("a flat merge has one cause that is right")
         names = [files[number].encode() for number in order]
-        yield Ask([b"merge", b"-o", OUT] + fan + options + names, rights)
+        yield Ask([b"merge", b"-o", OUT] + fan + options + names, expected)
 
     def regroup(self, line: Line, rounds: str, rest: str) -> Iterator[Ask]:
-        """Some of the groupings: in order and in reverse, with each file twice, and two at a time."""
+        """Some groupings: the files in order; in reverse order and again in order; in reverse order, two at a time."""
         if int(rounds) < 1 or not rest.startswith("caps "):
             raise ValueError("no rounds, or no caps")
-        options, files, rights = self.merge_parts(line, rest[5:], [])
+        options, files, expected = self.merge_parts(line, rest[5:], [])
         names = [name.encode() for name in files]
         for words in (names, names[::-1] + names, [b"--fan", b"2"] + names[::-1]):
-            yield Ask([b"merge", b"--out", OUT] + options + words, rights)
+            yield Ask([b"merge", b"--out", OUT] + options + words, expected)
 
     def merge_parts(self, line: Line, rest: str, options: List[bytes]) -> Tuple[List[bytes], List[str], List]:
-        """Returns the options, the files and the right answers of what stands after `caps`."""
+        """Returns the options, the files and the expected outcomes of what follows `caps`."""
         caps_text, rest = rest.split(" files ", 1)
         match = re.fullmatch(r"(.*?) (ok (?P<canon>\S+)|fault (?P<causes>.*))", rest)
         if not match:
@@ -246,12 +267,8 @@ class Asks:
             raise Unsaid("a cap on short strings, for which there is no option")
         words = [word for kind, cap, most in zip(CAPS, caps, GREATEST) if cap != most and kind != "short-strings"
                  for word in (f"--max-{kind}".encode(), str(cap).encode())]
-        rights = faults(causes, files) if causes else done(out=self.file(line, match.group("canon")))
-        return options + words, files, rights
-
-
-# `class` is a word of Python.
-setattr(Asks, "class", Asks.klass)
+        expected = faults(causes, files) if causes else done(out=self.file(line, match.group("canon")))
+        return options + words, files, expected
 
 
 def fault_words(rest: str) -> str:
@@ -261,7 +278,7 @@ def fault_words(rest: str) -> str:
 
 
 def parsed(text: str) -> Plan:
-    """Returns the plan that a text of numbers and brackets says."""
+    """Returns the plan that a text of numbers and brackets denotes."""
     open_lists: List[List[Plan]] = [[]]
     for token in re.findall(r"\d+|[()]|\S", text):
         if token == "(":
@@ -289,8 +306,8 @@ def fan_plan(order: List[int], fan: int) -> Plan:
 
 
 def plan_of(text: str, is_ok: bool) -> Tuple[List[int], List[bytes]]:
-    """Returns the files in their order and the option `--fan` that a plan asks for. A plan of another shape is asked for
-    without one if the merge is right, since grouping changes no bytes."""
+    """Returns the files of a plan in their order, and the option `--fan` that makes it. A plan that none makes is taken as a
+    flat one if the merge is not refused, since grouping does not change the bytes."""
     plan = parsed(text)
     order = leaves(plan)
     if plan == order:
@@ -300,16 +317,16 @@ def plan_of(text: str, is_ok: bool) -> Tuple[List[int], List[bytes]]:
             return order, [b"--fan", str(fan).encode()]
     if is_ok and order:
         return order, []
-    raise Unsaid("a plan that no fan makes, whose causes may be others than those of a flat merge")
+    raise Unsaid("refused by a plan that no --fan makes: a flat merge may report another cause")
 
 
-def part_of(ask: Ask, answer: Answer) -> Answer:
-    """Returns what is to be compared of an answer: with a part, the line of `count` that begins so, or the line of `dump`
-    of the class with the number in the right answer, without its flags."""
-    if not ask.part or answer.status:
-        return answer
-    lines = [line for line in answer.stdout.decode(errors="replace").split("\n") if line.startswith(ask.part)]
+def part_of(ask: Ask, outcome: Outcome) -> Outcome:
+    """Returns what is compared of an outcome: all, or with a part the line that begins with it. Of `dump` it is the line of
+    the class with the row that is expected, after that row and without its flags."""
+    if not ask.part or outcome.status:
+        return outcome
+    lines = [line for line in outcome.stdout.decode(errors="replace").split("\n") if line.startswith(ask.part)]
     if ask.part == "class ":
-        row = int(ask.rights[0][0].stdout.split()[0])
+        row = int(ask.expected[0][0].stdout.split()[0])
         lines = [re.sub(r"^class (\S+) flags=\S+", rf"{row} \1", line) for line in lines[row : row + 1]]
-    return answer._replace(stdout="".join(line + "\n" for line in lines).encode())
+    return outcome._replace(stdout="".join(line + "\n" for line in lines).encode())

@@ -1,4 +1,4 @@
-"""Where bytes of files and right outputs come from: see "Sources" in README.md."""
+"""The sources of bytes of files and of expected outputs, which README.md lists."""
 import os
 from typing import Callable, Dict, List
 

@@ -1,4 +1,4 @@
-"""The words of the data: escapes, and words that stand for many."""
+"""The words of the data: escapes and ranges."""
 import re
 from typing import List
 
@@ -29,8 +29,8 @@ def unescaped(word: bytes) -> bytes:
 
 
 def expanded(word: bytes) -> List[bytes]:
-    """Returns what a word or a line stands for: with `{A-B}`, itself once for each number from A to B, and with `{A-BxN}`
-    N times these. All ranges of a word go on together. A number that begins with 0 gives all their width."""
+    """Returns the words or lines that replace one with ranges: with `{A-B}` one for each number from A to B, and with
+    `{A-BxN}` N times these. All its ranges advance together. If A begins with 0, all numbers have its width."""
     ranges = [numbers(match) for match in RANGE.finditer(word)]
     if not ranges:
         return [word]

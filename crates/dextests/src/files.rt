@@ -95,7 +95,11 @@ pub(crate) fn final_a(alloc: Global) -> Option<Vec<u8>> {
 
 /// Returns the file of `LA;` with zeros as checksum and signature.
 pub(crate) fn unsigned_a(alloc: Global) -> Option<Vec<u8>> {
-    let mut file = letter_a(alloc)?;
+    unsigned(letter_a(alloc)?)
+}
+
+/// Returns a file with zeros as checksum and signature.
+pub(crate) fn unsigned(mut file: Vec<u8>) -> Option<Vec<u8>> {
     if file.len() < 32 {
         return None;
     }

@@ -2,7 +2,10 @@
 
 use crate::system::{Log, System, file};
 use crate::words::words_of;
-use dexcmd::{Job, Report, SystemDevices, input_names, output_name, read_words, run_job};
+use dexcmd::{
+    Job, ListsFault, Report, SystemDevices, expand_arguments, explain_lists, input_names,
+    output_name, read_words, run_job,
+};
 use std::alloc::Global;
 
 // Runs a job over the devices of its names, and returns its report.
@@ -43,13 +46,28 @@ fn have_outcome(alloc: Global, words: &str, outcome: &str, written: &str) -> Opt
     Some(line.as_str() == outcome && are_bytes(alloc, bytes.as_slice(), written))
 }
 
+const LISTING: &str = "class LA; flags=0x1(public) super=Ljava/lang/Object;\n";
+
+const DIGESTS: &str = "9c62f0a840d5e9ec28ed4ee1ded1977522fda2c3\tLA;\ta\n\
+    5fde63fa4bb0be2a47ec1d96f990c83301061a18\tLB;\tb\n";
+
+const COUNTS: &str = "types 3 of 65535\nprotos 0 of 65535\nfields 0 of 65536\nmethods 0 of 65536\n\
+    short-strings 0 of 65536\nweight 1330 of 1073741824\nclasses 2\nstrings 3\n";
+
 #[test]
 fn jobs_read_and_write_the_files_of_their_names(rt: HostRuntime) {
     for (words, outcome, written) in [
         ("normalise unused o", "0 [] opened 1 made 1", "a"),
         ("normalise o o", "0 [] opened 1 made 1", "a"),
         ("normalise - -", "0 [] opened 0 made 0", "a"),
+        ("repair unused o", "0 [] opened 1 made 1", "unused"),
         ("merge -o o a b a", "0 [] opened 3 made 1", "both"),
+        ("merge -o o --fan 2 a b a", "0 [] opened 3 made 1", "both"),
+        (
+            "merge -o o --max-types 3 --max-protos 0 --max-fields 0 --max-methods 0 --max-weight 1330 a b",
+            "0 [] opened 2 made 1",
+            "both",
+        ),
         ("merge -o o source", "0 [] opened 1 made 1", "source"),
         ("merge -o o --strip source", "0 [] opened 1 made 1", "a"),
         (
@@ -57,6 +75,19 @@ fn jobs_read_and_write_the_files_of_their_names(rt: HostRuntime) {
             "1 [] opened 3 made 0",
             "a: ok classes=1\ncut: refused 4 Lengths at 0\nb: ok classes=1\n",
         ),
+        (
+            "check a missing b",
+            "3 [\"dexkit: missing: cannot be read\"] opened 2 made 0",
+            "a: ok classes=1\n",
+        ),
+        (
+            "check --keep-going a missing b",
+            "3 [\"dexkit: missing: cannot be read\"] opened 3 made 0",
+            "a: ok classes=1\nb: ok classes=1\n",
+        ),
+        ("dump a", "0 [] opened 1 made 0", LISTING),
+        ("digest a b", "0 [] opened 2 made 0", DIGESTS),
+        ("count a b", "0 [] opened 2 made 0", COUNTS),
     ] {
         assert!(rt;
             have_outcome(rt.alloc(), words, outcome, written) == Some(true),
@@ -89,12 +120,55 @@ fn jobs_that_fail_leave_the_output_alone(rt: HostRuntime) {
             "1 [\"dexkit: cap types\"] opened 2 made 0",
         ),
         (
+            "merge -o o --max-weight 1329 a b",
+            "1 [\"dexkit: cap weight\"] opened 2 made 0",
+        ),
+        (
             "merge -o o a source",
             "1 [\"dexkit: conflict LA;\"] opened 2 made 0",
         ),
     ] {
         assert!(rt;
             have_outcome(rt.alloc(), words, outcome, "") == Some(true),
+            "{words}"
+        );
+    }
+}
+
+// Returns what arguments expand to, or what the program reports instead.
+fn expanded(alloc: Global, words: &str) -> Option<String> {
+    let log = Log::new(alloc);
+    let system = System { alloc, log: &log };
+    let mut arguments = Vec::new(alloc);
+    for word in words_of(alloc, words).ok()? {
+        arguments.push(String::from_str(alloc, word).ok()?).ok()?;
+    }
+    let devices = SystemDevices::new(&system);
+    match expand_arguments(alloc, &devices, &arguments) {
+        Ok(all) => format!(in alloc; "{all:?}").ok(),
+        Err(fault) => reported(alloc, fault),
+    }
+}
+
+// Returns what the program reports of a list.
+fn reported(alloc: Global, fault: ListsFault<'_>) -> Option<String> {
+    let report = explain_lists(alloc, fault).ok()?;
+    let (status, lines) = (report.status, &report.lines);
+    format!(in alloc; "{status} {lines:?}").ok()
+}
+
+#[test]
+fn lists_are_replaced_by_their_lines(rt: HostRuntime) {
+    for (words, right) in [
+        ("check @list a", "[\"check\", \"a\", \"@list\", \"a\"]"),
+        ("@empty", "[]"),
+        ("@", "[\"@\"]"),
+        ("a @missing", "3 [\"dexkit: missing: cannot be read\"]"),
+        ("@list @cut", "2 [\"dexkit: cut: not UTF-8\"]"),
+    ] {
+        let expanded = expanded(rt.alloc(), words);
+        assert!(rt;
+            expanded.is_some_and(|expanded| expanded.as_str() == right),
             "{words}"
         );
     }

@@ -1,7 +1,8 @@
 //! Runs that normalise, list, check, merge, repair, count and digest, over devices that move few bytes a call or fail.
 
 use crate::files::{
-    cut_a, final_a, letter_a, letter_b, letters_a_and_b, source_of_a, unsigned_a, unused_beside_a,
+    cut_a, final_a, letter_a, letter_b, letters_a_and_b, source_of_a, unsigned, unsigned_a,
+    unused_beside_a,
 };
 use crate::scripts::{Script, Scripted, WHOLE, by, failing};
 use dexcmd::{
@@ -397,11 +398,21 @@ fn calls_for(alloc: Global, expected: usize) -> Option<usize> {
     }
 }
 
-// The last call finds the end. The cases expect the exact length, a greater one, one byte too few, and lengths so small
-// that the buffer is doubled, as for an unknown length.
+// The exact length is expected, a greater one, or one byte too few.
 #[test]
-fn a_file_of_known_length_is_read_in_one_call(rt: HostRuntime) {
-    for (expected, calls) in [(10000, 2), (12345, 2), (9999, 2), (9998, 3), (1, 5), (0, 4)] {
+fn one_call_reads_a_file_of_known_length_and_one_finds_its_end(rt: HostRuntime) {
+    for expected in [10000, 12345, 9999] {
+        assert!(rt;
+            calls_for(rt.alloc(), expected) == Some(2),
+            "expected {expected}"
+        );
+    }
+}
+
+// The buffer is doubled until the file is in it.
+#[test]
+fn few_calls_read_a_file_that_is_longer_than_expected(rt: HostRuntime) {
+    for (expected, calls) in [(9998, 3), (1, 5), (0, 4)] {
         assert!(rt;
             calls_for(rt.alloc(), expected) == Some(calls),
             "expected {expected}"
@@ -548,8 +559,21 @@ fn is_beyond_repair(alloc: Global) -> Option<bool> {
 }
 
 #[test]
-fn a_repair_sets_sums_alone_right(rt: HostRuntime) {
+fn a_file_beyond_repair_is_refused(rt: HostRuntime) {
     assert!(rt; is_beyond_repair(rt.alloc()) == Some(true));
+}
+
+// Returns whether a file that is not canonical, with wrong sums, is repaired to the same file with the right ones.
+fn is_repaired(alloc: Global) -> Option<bool> {
+    let right = unused_beside_a(alloc)?;
+    let file = unsigned(unused_beside_a(alloc)?)?;
+    let ran = over_file(alloc, FileRun::Repair, &file, WHOLE, WHOLE);
+    Some(is_done(&ran, &right))
+}
+
+#[test]
+fn a_repair_sets_sums_alone_right(rt: HostRuntime) {
+    assert!(rt; is_repaired(rt.alloc()) == Some(true));
 }
 
 // Returns whether a count refuses two different classes of one name, and a cut file.
@@ -567,8 +591,24 @@ fn are_uncounted(alloc: Global, first: &[u8], second: &[u8], cut: &[u8]) -> Opti
 }
 
 #[test]
-fn a_count_is_of_a_union(rt: HostRuntime) {
+fn files_without_a_union_are_not_counted(rt: HostRuntime) {
     assert!(rt; is_uncounted(rt.alloc()) == Some(true));
+}
+
+const COUNTS_OF_BOTH: &[u8] =
+    b"types 3 of 65535\nprotos 0 of 65535\nfields 0 of 65536\nmethods 0 of 65536\nshort-strings 0 of 65536\n\
+    weight 1330 of 1073741824\nclasses 2\nstrings 3\n";
+
+// Returns whether the types, the classes and the strings of two files are counted once, though both have a type.
+fn is_counted(alloc: Global) -> Option<bool> {
+    let (first, second) = (letter_a(alloc)?, letter_b(alloc)?);
+    let files = [(first.as_slice(), WHOLE), (second.as_slice(), WHOLE)];
+    Some(is_done(&counted(alloc, files, WHOLE)?, COUNTS_OF_BOTH))
+}
+
+#[test]
+fn a_count_is_of_a_union(rt: HostRuntime) {
+    assert!(rt; is_counted(rt.alloc()) == Some(true));
 }
 
 // Returns whether a refused file has no digests.

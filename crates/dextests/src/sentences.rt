@@ -96,6 +96,46 @@ fn fan(case: u8) -> (usize, Option<usize>, &'static str)
     }
 }
 
+// Returns whether a plan has its files in their order, from `first` on, and the number after its last file.
+fn files_after(plan: &Plan, first: usize) -> Option<usize> {
+    match plan {
+        Plan::Leaf(file) => (*file == first).then_some(first.saturating_add(1)),
+        Plan::Node(parts) => {
+            let mut next = first;
+            for part in parts {
+                next = files_after(part, next)?;
+            }
+            Some(next)
+        }
+    }
+}
+
+// Returns whether the plan of a fan over `files` files has each of them once, in their order.
+fn is_in_order(alloc: Global, files: usize, fan: Option<usize>) -> bool
+    requires files { 1 ≤ files }
+    requires fan { IfSome fan (λ fan. 2 ≤ fan) }
+{
+    match fan_plan(alloc, files, fan) {
+        Ok(plan) => files_after(&plan, 0) == Some(files),
+        Err(_) => false,
+    }
+}
+
+#[test]
+fn a_fan_has_each_file_in_its_order(rt: HostRuntime) {
+    for files in 1..2_001 {
+        assert!(rt; is_in_order(rt.alloc(), files, None), "{files} files");
+        assert!(rt;
+            is_in_order(rt.alloc(), files, Some(2)),
+            "{files} files by twos"
+        );
+        assert!(rt;
+            is_in_order(rt.alloc(), files, Some(255)),
+            "{files} files by 255"
+        );
+    }
+}
+
 #[test]
 fn a_fan_makes_a_plan(rt: HostRuntime) {
     for case in 0..8 {

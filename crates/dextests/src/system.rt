@@ -65,6 +65,8 @@ pub(crate) fn file(alloc: Global, path: &str) -> Option<Vec<u8>> {
         "cut" => cut_a(alloc),
         "source" => source_of_a(alloc),
         "unused" | OUT | STANDARD => unused_beside_a(alloc),
+        "list" => Vec::from_slice(alloc, b"a\n@list\n").ok(),
+        "empty" => Some(Vec::new(alloc)),
         _ => None,
     }
 }

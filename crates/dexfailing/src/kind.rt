@@ -1,6 +1,6 @@
 //! The kinds of lines: `bytes FILE COUNT`, the number of bytes of a file.
 
-use dextest_cases::{CaseFault, Cases, Folder, Outcome, first_word};
+use dextest_cases::{CaseFault, Cases, Folder, Outcome, first_word, number};
 use std::fmt;
 use std::rt::Files;
 
@@ -40,6 +40,7 @@ impl Cases for Kind {
         match self {
             Kind::Bytes => {
                 let (name, right) = first_word(case)?;
+                let right = number(right)?;
                 let bytes = folder.read(name)?;
                 let count = bytes.len();
                 Ok(Outcome::of(format!(in folder.alloc(); "{count}")?, right))

@@ -1,5 +1,5 @@
 //! Files checked: `check FILE ok CLASSES`, or `check FILE refused NUMBER PLACE | NUMBER PLACE ..`, of which any is
-//! right. The file is read as a program, and then checked without keeping one.
+//! right; of conditions before 17 one alone is. The file is read as a program, and then checked without keeping one.
 
 ghost use Rattle.std.specs.Prelude.{◌≡◌, IfOk, IsTrue};
 ghost use Rattle.dextest_calls.specs.Reported.{Agree, IsRight, IsReported};
@@ -7,7 +7,7 @@ ghost use Rattle.dextest_calls.specs.Reported.{Agree, IsRight, IsReported};
 use dexclass::{check, read};
 use dexhead::Refusal;
 use dexpool::ReadFault;
-use dextest_cases::{CaseFault, Outcome, first_word};
+use dextest_cases::{CaseFault, FIRST_OF_CLASSES, Outcome, first_word, number};
 use std::alloc::{AllocError, Global};
 
 /// What is right: a number of classes, or one of these refusals.
@@ -84,7 +84,7 @@ fn agree(right: &RightAnswer, reported: Answer) -> bool
 // Parses what is right.
 fn right_in(alloc: Global, right: &str) -> Result<RightAnswer, CaseFault> {
     if let Some(classes) = right.strip_prefix("ok ") {
-        return Ok(RightAnswer::Accepted(classes.parse()?));
+        return Ok(RightAnswer::Accepted(number(classes)?.parse()?));
     }
     match right.strip_prefix("refused ") {
         Some(listed) => Ok(RightAnswer::Refused(refusals_in(alloc, listed)?)),
@@ -92,21 +92,26 @@ fn right_in(alloc: Global, right: &str) -> Result<RightAnswer, CaseFault> {
     }
 }
 
-// Parses refusals.
+// Parses refusals: one, or several different ones of conditions on classes.
 fn refusals_in(alloc: Global, listed: &str) -> Result<Vec<Refusal>, CaseFault> {
+    let is_single = listed.split_once(" | ").is_none();
     let mut refusals = Vec::new(alloc);
     for one in listed.split(" | ") {
-        refusals.push(refusal_in(one)?)?;
+        let refusal = refusal_in(one)?;
+        if refusals.contains(&refusal) || !is_single && refusal.number < FIRST_OF_CLASSES {
+            return Err(CaseFault::Form);
+        }
+        refusals.push(refusal)?;
     }
     Ok(refusals)
 }
 
 // Parses a refusal.
 fn refusal_in(words: &str) -> Result<Refusal, CaseFault> {
-    let (number, place) = first_word(words)?;
+    let (condition, place) = first_word(words)?;
     Ok(Refusal {
-        number: number.parse()?,
-        place: place.parse()?,
+        number: number(condition)?.parse()?,
+        place: number(place)?.parse()?,
     })
 }
 

@@ -3,13 +3,13 @@
 
 use dexhead::Device;
 use dexruns::{RunFault, check_run};
-use dextest_cases::{CaseFault, Outcome, first_word};
+use dextest_cases::{CaseFault, Outcome, first_word, number};
 use std::alloc::Global;
 
 /// Runs a line, given the name of the file and its bytes. `right` is the text after the name.
 pub fn run(alloc: Global, name: &str, bytes: &[u8], right: &str) -> Result<Outcome, CaseFault> {
     let (status, line) = first_word(right)?;
-    if is_checked_as(alloc, name, bytes, status.parse()?, line)? {
+    if is_checked_as(alloc, name, bytes, number(status)?.parse()?, line)? {
         return Ok(Outcome::Passed);
     }
     Err(CaseFault::failed(alloc, "another line or status"))

@@ -11,14 +11,14 @@ use dexcode::code_kept_law;
 use dexmembers::members_cut_law;
 use dexpool::{Marks, Numbering, SymbolKind};
 use dexstr::Text;
-use dextest_cases::{CaseFault, Outcome, Printed, first_word};
+use dextest_cases::{CaseFault, Outcome, Printed, first_word, number};
 use std::alloc::{AllocError, Global};
 
 /// Runs a line. `asked` is the text after the file's name.
 pub fn run(alloc: Global, bytes: &[u8], asked: &str) -> Result<Outcome, CaseFault> {
     let (i, right) = first_word(asked)?;
     let program = program_of(alloc, bytes)?;
-    let i: usize = i.parse()?;
+    let i: usize = number(i)?.parse()?;
     if i >= program.len() {
         return Err(CaseFault::failed(alloc, "no class"));
     }

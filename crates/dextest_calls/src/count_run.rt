@@ -8,7 +8,7 @@ use crate::run_answer::RunAnswer;
 use dexhead::Device;
 use dexruns::count_run;
 use dextest_cases::{CaseFault, Folder, Outcome, Printed};
-use std::alloc::{AllocError, Global};
+use std::alloc::Global;
 use std::rt::Files;
 
 // The text before and after the number of each line.
@@ -44,20 +44,23 @@ pub fn run_over(alloc: Global, files: &[Vec<u8>], right: &str) -> Result<Outcome
 }
 
 // Parses what is right.
-fn answer_in(alloc: Global, right: &str) -> Result<RunAnswer<'_>, AllocError> {
+fn answer_in(alloc: Global, right: &str) -> Result<RunAnswer<'_>, CaseFault> {
     if right.starts_with(|letter: char| letter.is_ascii_digit()) {
         return Ok(RunAnswer::Written(lines_of(alloc, right)?.into_bytes()));
     }
     Ok(RunAnswer::Cause(right))
 }
 
-// Returns the lines of these numbers.
-fn lines_of(alloc: Global, counts: &str) -> Result<String, AllocError> {
+// Returns the lines of these numbers, one for each.
+fn lines_of(alloc: Global, counts: &str) -> Result<String, CaseFault> {
+    if counts.split(' ').count() != LINES.len() {
+        return Err(CaseFault::Form);
+    }
     let mut lines = Printed::new(alloc);
     for ((name, cap), count) in LINES.iter().zip(counts.split(' ')) {
         lines.add(name);
         lines.add(count);
         lines.add(cap);
     }
-    lines.finish()
+    Ok(lines.finish()?)
 }

@@ -4,7 +4,7 @@
 
 use crate::check;
 use dexhead::set_sums;
-use dextest_cases::{CaseFault, Outcome, first_word};
+use dextest_cases::{CaseFault, Outcome, first_word, number};
 use std::alloc::Global;
 use std::ops::RangeInclusive;
 
@@ -57,7 +57,7 @@ pub fn run(alloc: Global, bytes: &[u8], case: &str) -> Result<Outcome, CaseFault
     let (first, rest) = first_word(case)?;
     let (last, rest) = first_word(rest)?;
     let (mended, right) = first_word(rest)?;
-    let lens = first.parse()?..=last.parse()?;
+    let lens = number(first)?.parse()?..=number(last)?.parse()?;
     let mended = Mended::of_word(mended).ok_or(CaseFault::Form)?;
     if lens.is_empty() {
         return Err(CaseFault::Form);

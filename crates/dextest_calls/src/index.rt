@@ -1,16 +1,45 @@
-//! Lines of an index: cases over the files in its folder.
+//! Lines of an index: cases over the files in its folder. `wrong LINE returns TEXT` is a line that must fail: what is
+//! printed of it is TEXT.
 
 use crate::kind::Kind;
 use crate::{
     check, check_run, class, count_run, cuts, digest_run, dump, join, measure, merge, normalise,
     regroup, repair_run, slices, strip, symbol, weight,
 };
-use dextest_cases::{CaseFault, Folder, Outcome, first_word};
+use dextest_cases::{CaseFault, Cases, Folder, Outcome, first_word};
 use std::alloc::Global;
 use std::rt::Files;
 
 /// Runs a line of the index of a folder. `case` is the text after the word of its kind.
 pub fn run_case<R: Files + AllocGlobal>(
+    folder: Folder<'_, R>,
+    kind: Kind,
+    case: &str,
+) -> Result<Outcome, CaseFault> {
+    match kind {
+        Kind::Wrong => run_wrong(folder, case),
+        _ => run_right(folder, kind, case),
+    }
+}
+
+// Runs a line that must fail.
+fn run_wrong<R: Files + AllocGlobal>(
+    folder: Folder<'_, R>,
+    case: &str,
+) -> Result<Outcome, CaseFault> {
+    let (line, right) = case.split_once(" returns ").ok_or(CaseFault::Form)?;
+    let (word, case) = first_word(line)?;
+    let answered = match run_right(folder, Kind::of_case(word), case) {
+        Err(CaseFault::Form) => String::from_str(folder.alloc(), "not a line of this kind")?,
+        Ok(Outcome::Failed(answered)) | Err(CaseFault::Failed(answered)) => answered,
+        Ok(Outcome::Passed) => String::from_str(folder.alloc(), "nothing: it passed")?,
+        Err(fault) => return Err(fault),
+    };
+    Ok(Outcome::of(answered, right))
+}
+
+// Runs a line that must pass.
+fn run_right<R: Files + AllocGlobal>(
     folder: Folder<'_, R>,
     kind: Kind,
     case: &str,
@@ -24,7 +53,7 @@ pub fn run_case<R: Files + AllocGlobal>(
         Kind::Join => join::run(folder, case),
         Kind::Regroup => regroup::run(folder, case),
         Kind::Slices => slices::run(folder, case),
-        Kind::Unknown => Err(CaseFault::Form),
+        Kind::Wrong | Kind::Unknown => Err(CaseFault::Form),
         _ => run_over_file(folder, kind, case),
     }
 }

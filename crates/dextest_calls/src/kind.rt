@@ -63,6 +63,8 @@ pub enum Kind {
     DigestRun,
     /// The file with its sums set right.
     RepairRun,
+    /// A line that must fail.
+    Wrong,
     /// A kind that this program does not know.
     Unknown,
 }
@@ -81,7 +83,7 @@ const CALLS: [(&str, Kind); 9] = [
 ];
 
 // The kinds of lines of an index, each with the first word of the line.
-const CASES: [(&str, Kind); 18] = [
+const CASES: [(&str, Kind); 19] = [
     ("symbol", Kind::Symbol),
     ("class", Kind::Class),
     ("join", Kind::Join),
@@ -100,6 +102,7 @@ const CASES: [(&str, Kind); 18] = [
     ("countrun", Kind::CountRun),
     ("digestrun", Kind::DigestRun),
     ("repairrun", Kind::RepairRun),
+    ("wrong", Kind::Wrong),
 ];
 
 // Returns the kind with this name in a list.

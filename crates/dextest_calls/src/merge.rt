@@ -1,6 +1,9 @@
 //! Files merged: `merge PLAN caps T P F M S W files FILE.. ok CANON`, `.. fault CAUSE | CAUSE ..`, of which any is
-//! right, or `.. badplan`. `-` denotes no files. The programs are merged, and then devices over the files. For
-//! `mergestrip` devices are merged and stripped, and CANON is the stripped file.
+//! right, or `.. badplan`. Where the plan is a file or a node of files, one cause alone is right. `-` denotes no files.
+//! The programs are merged, and then devices over the files: the line that the program prints of a cause has that cause.
+//! For `mergestrip` devices are merged and stripped, and CANON is the stripped file.
+
+ghost use Rattle.dexruns.specs.Lines.{HasName};
 
 use crate::devices::devices;
 use crate::files::files_of;
@@ -11,7 +14,7 @@ use crate::words::print_name;
 use dexclass::Program;
 use dexhead::Device;
 use dexmerge::{Caps, MergeFault, Plan, PlanFault, merge_files, merge_plan};
-use dexruns::{MergeCause, RunFault, merge_run, merge_strip_run};
+use dexruns::{MergeCause, RunFault, explain, merge_run, merge_strip_run};
 use dexstr::Name;
 use dextest_cases::{CaseFault, Folder, Outcome, Printed};
 use std::alloc::{AllocError, Global};
@@ -63,7 +66,20 @@ fn planned<'a, R: Files + AllocGlobal>(
     case: &'a str,
 ) -> Result<(Plan, Merge<'a>), CaseFault> {
     let (plan, rest) = case.split_once(" caps ").ok_or(CaseFault::Form)?;
-    Ok((plan_in(folder.alloc(), plan)?, Merge::of(folder, rest)?))
+    let plan = plan_in(folder.alloc(), plan)?;
+    let merge = Merge::of(folder, rest)?;
+    if is_flat(&plan) && merge.has_causes() {
+        return Err(CaseFault::Form);
+    }
+    Ok((plan, merge))
+}
+
+// Returns whether the plan is a file or a node of files.
+fn is_flat(plan: &Plan) -> bool {
+    match plan {
+        Plan::Leaf(_) => true,
+        Plan::Node(parts) => parts.iter().all(|part| matches!(part, Plan::Leaf(_))),
+    }
 }
 
 impl<'a> Merge<'a> {
@@ -77,6 +93,14 @@ impl<'a> Merge<'a> {
         let (names, right) = answer_in(folder, rest)?;
         let files = files_of(folder, names)?;
         Ok(Merge { files, caps, right })
+    }
+
+    // Returns whether one of several causes is right.
+    fn has_causes(&self) -> bool {
+        match self.right {
+            RightAnswer::Causes(causes) => causes.split_once(" | ").is_some(),
+            _ => false,
+        }
     }
 
     // Fails the line unless the merge of the programs gives what is right, both for borrowed and for owned programs.
@@ -115,9 +139,19 @@ impl<'a> Merge<'a> {
             Ok(()) => self.check_written(alloc, written),
             Err(RunFault::Memory) => Err(CaseFault::Memory),
             Err(_) if !written.is_empty() => Err(CaseFault::failed(alloc, "bytes and a fault")),
-            Err(RunFault::Plan) => self.check_bad_plan(alloc),
-            Err(RunFault::Merge(cause)) => self.check_cause(alloc, &cause),
-            Err(_) => Err(CaseFault::failed(alloc, "a file is refused, or a device fails")),
+            Err(fault) => self.check_fault(alloc, &fault),
+        }
+    }
+
+    // Fails the line unless this fault of a run is right, and is reported as the program reports it.
+    fn check_fault(&self, alloc: Global, fault: &RunFault) -> Result<(), CaseFault> {
+        match fault {
+            RunFault::Plan => self.check_bad_plan(alloc),
+            RunFault::Merge(cause) => {
+                self.check_cause(alloc, cause)?;
+                check_reported(alloc, fault, cause)
+            }
+            _ => Err(CaseFault::failed(alloc, "a file is refused, or a device fails")),
         }
     }
 
@@ -187,6 +221,18 @@ impl<'a> Merge<'a> {
         }
         Err(CaseFault::Failed(cause))
     }
+}
+
+// Fails the line unless a fault is reported with status 1 and a line that has this cause.
+fn check_reported(alloc: Global, fault: &RunFault, cause: &MergeCause) -> Result<(), CaseFault>
+    requires { HasName 0 fault.now }
+{
+    let (status, line) = explain(alloc, fault, &[], "out")?;
+    let cause = cause_text(alloc, cause)?;
+    if status == 1 && line.as_str().strip_prefix("dexkit: ") == Some(cause.as_str()) {
+        return Ok(());
+    }
+    Err(CaseFault::Failed(line))
 }
 
 /// Reads the programs of files. A line with a refused file fails.

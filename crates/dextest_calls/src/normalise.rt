@@ -1,5 +1,5 @@
 //! Files normalised: `normalise FILE CANON`. The canonical file is built in memory, a copy of the program is written to
-//! a device, and the length is that of the layout.
+//! a device, the length is that of the layout, and the run over devices writes the same file.
 
 ghost use Rattle.std.specs.Prelude.{◌≡◌, IfOk, IsTrue};
 ghost use Rattle.dexspec.specs.Canonical.{canonical};
@@ -9,6 +9,7 @@ use crate::program::program_of;
 use dexcanon::{Layout, StoreFault, to_bytes, write_to};
 use dexclass::Program;
 use dexhead::Device;
+use dexruns::{RunFault, normalise_run};
 use dextest_cases::{CaseFault, Outcome};
 use std::alloc::{AllocError, Global};
 
@@ -16,11 +17,32 @@ use std::alloc::{AllocError, Global};
 pub fn run(alloc: Global, bytes: &[u8], right: &[u8]) -> Result<Outcome, CaseFault>
     ensures { IfOk result (λ outcome. outcome ≡ Outcome.Passed → Normalises bytes.now right.now) }
 {
+    if is_written_by_the_run(alloc, bytes, right)? {
+        return built(alloc, bytes, right);
+    }
+    Err(CaseFault::failed(alloc, "other bytes by the run"))
+}
+
+// Returns the outcome of a line whose run writes the right bytes: it passes if the program is built and written as them.
+fn built(alloc: Global, bytes: &[u8], right: &[u8]) -> Result<Outcome, CaseFault>
+    ensures { IfOk result (λ outcome. outcome ≡ Outcome.Passed → Normalises bytes.now right.now) }
+{
     let program = program_of(alloc, bytes)?;
     if is_canonical(alloc, &program, right)? {
         return Ok(Outcome::Passed);
     }
     Err(CaseFault::failed(alloc, "other bytes"))
+}
+
+// Returns whether the run over devices writes these bytes for a file.
+fn is_written_by_the_run(alloc: Global, bytes: &[u8], right: &[u8]) -> Result<bool, CaseFault> {
+    let mut input = Device::new(bytes);
+    let mut out = Device::new(Vec::new(alloc));
+    match normalise_run(alloc, &mut input, &mut out) {
+        Ok(()) => Ok(out.into_inner().as_slice() == right),
+        Err(RunFault::Memory) => Err(CaseFault::Memory),
+        Err(_) => Ok(false),
+    }
 }
 
 // Returns whether a copy of the program is written to a device as these bytes, and the program is built as them.

@@ -2,7 +2,7 @@
 
 use crate::open_plan::OpenPlan;
 use dexmerge::{Caps, Plan};
-use dextest_cases::CaseFault;
+use dextest_cases::{CaseFault, number};
 use std::alloc::Global;
 
 /// Returns the plan that a text such as `((0 1) 2)` denotes.
@@ -17,6 +17,9 @@ fn read_parts(alloc: Global, words: &str, plan: &mut OpenPlan) -> Result<(), Cas
     let mut number: Option<usize> = None;
     for letter in words.chars() {
         if let Some(digit) = letter.to_digit(10) {
+            if number == Some(0) {
+                return Err(CaseFault::Form);
+            }
             let more = number.unwrap_or(0).saturating_mul(10);
             number = Some(more.saturating_add(digit as usize));
             continue;
@@ -51,7 +54,7 @@ fn read_mark(alloc: Global, mark: char, plan: &mut OpenPlan) -> Result<(), CaseF
 pub fn caps_in(alloc: Global, words: &str) -> Result<Caps, CaseFault> {
     let mut numbers = Vec::new(alloc);
     for word in words.split(' ') {
-        numbers.push(word.parse()?)?;
+        numbers.push(number(word)?.parse()?)?;
     }
     match numbers.as_slice() {
         [types, protos, fields, methods, short_strings, weight] => {

@@ -7,7 +7,7 @@ use crate::open_plan::OpenPlan;
 use crate::random::Random;
 use dexclass::Program;
 use dexmerge::Plan;
-use dextest_cases::{CaseFault, Folder, Outcome};
+use dextest_cases::{CaseFault, Folder, Outcome, number};
 use std::alloc::{AllocError, Global};
 use std::rt::Files;
 
@@ -27,7 +27,7 @@ pub fn run<R: Files + AllocGlobal>(
 
 // Runs the number of rounds that a word denotes.
 fn run_rounds(alloc: Global, rounds: &str, merge: &Merge<'_>) -> Result<(), CaseFault> {
-    let rounds: u32 = rounds.parse()?;
+    let rounds: u32 = number(rounds)?.parse()?;
     if rounds == 0 {
         return Err(CaseFault::Form);
     }

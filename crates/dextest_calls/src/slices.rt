@@ -7,8 +7,8 @@ use crate::program::program_of;
 use dexcanon::{StoreFault, write_to};
 use dexclass::Program;
 use dexhead::{DeviceFault, Sink};
-use dextest_cases::{CaseFault, Folder, Outcome, first_word};
-use std::alloc::{AllocError, Global};
+use dextest_cases::{CaseFault, Folder, Outcome, first_word, number};
+use std::alloc::Global;
 use std::rt::Files;
 
 // A writer that compares the slices with the right bytes.
@@ -65,7 +65,7 @@ pub fn run<R: Files + AllocGlobal>(
     let (name, rest) = first_word(case)?;
     let (most, rest) = first_word(rest)?;
     let (count, right) = first_word(rest)?;
-    let (most, count) = (most.parse()?, count.parse()?);
+    let (most, count) = (number(most)?.parse()?, number(count)?.parse()?);
     let bytes = folder.read(name)?;
     let right = folder.read(right)?;
     let slices = slices_of(folder.alloc(), &bytes, &right)?;
@@ -93,19 +93,20 @@ fn reported(
 // Writes the canonical file of a file, and returns its slices, compared with the right bytes.
 fn slices_of<'a>(alloc: Global, bytes: &[u8], right: &'a [u8]) -> Result<Slices<'a>, CaseFault> {
     let program = program_of(alloc, bytes)?;
-    Ok(written(alloc, &program, right)?)
+    written(alloc, &program, right)
 }
 
-// Writes the canonical file of a program, and returns its slices, compared with the right bytes.
+// Writes the canonical file of a program, and returns its slices, compared with the right bytes. The line fails if the
+// writer is said to have failed, which it never does.
 fn written<'a>(
     alloc: Global,
     program: &Program<'_>,
     right: &'a [u8],
-) -> Result<Slices<'a>, AllocError> {
+) -> Result<Slices<'a>, CaseFault> {
     let mut out = Slices::of(right);
     match write_to(alloc, program, &mut out) {
         Ok(()) => Ok(out),
-        Err(StoreFault::Memory) => Err(AllocError),
-        Err(StoreFault::Io) => Ok(out),
+        Err(StoreFault::Memory) => Err(CaseFault::Memory),
+        Err(StoreFault::Io) => Err(CaseFault::failed(alloc, "a fault of the writer")),
     }
 }

@@ -6,7 +6,7 @@ use crate::pools::{frame_of, pools_of};
 use crate::words::print_name;
 use dexpool::{Numbering, Pools, ProtoSymbol, Symbol, SymbolKind};
 use dexstr::Name;
-use dextest_cases::{CaseFault, Outcome, Printed, first_word};
+use dextest_cases::{CaseFault, Outcome, Printed, first_word, number};
 use std::alloc::{AllocError, Global};
 
 /// Runs a line. `asked` is the text after the file's name.
@@ -14,7 +14,7 @@ pub fn run(alloc: Global, bytes: &[u8], asked: &str) -> Result<Outcome, CaseFaul
     let (pool, rest) = first_word(asked)?;
     let (row, right) = first_word(rest)?;
     let kind = kind_of(pool).ok_or(CaseFault::Form)?;
-    let answered = named_in(alloc, bytes, kind, row.parse()?)?;
+    let answered = named_in(alloc, bytes, kind, number(row)?.parse()?)?;
     Ok(Outcome::of(answered, right))
 }
 

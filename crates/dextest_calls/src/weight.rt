@@ -7,12 +7,12 @@ ghost use Rattle.dextest_calls.specs.Reported.{Weighs};
 
 use crate::program::program_of;
 use dexclass::Program;
-use dextest_cases::{CaseFault, Outcome};
+use dextest_cases::{CaseFault, Outcome, number};
 use std::alloc::Global;
 
 /// Runs a line. `right` is the text after the file's name.
 pub fn run(alloc: Global, bytes: &[u8], right: &str) -> Result<Outcome, CaseFault> {
-    weighed(alloc, bytes, right.parse()?)
+    weighed(alloc, bytes, number(right)?.parse()?)
 }
 
 // Returns the outcome of a line: it passes if the classes of its file have this weight.

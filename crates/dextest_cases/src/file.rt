@@ -5,7 +5,7 @@ use crate::fault::CaseFault;
 use crate::folder::Folder;
 use crate::outcome::Outcome;
 use crate::tally::Tally;
-use std::collections::BTreeMap;
+use std::collections::{BTreeMap, BTreeSet};
 use std::path::Path;
 use std::rt::Files;
 use std::{fs, io};
@@ -44,8 +44,8 @@ impl<'a, K: Cases> Source<'a, K> {
 }
 
 /// Runs each line of a file, prints the lines that failed and, for each kind of line, how many passed and failed, and
-/// returns the totals. Skips lines that begin with `#`. Prints a file that cannot be read or has no case, and counts it
-/// as one failure.
+/// returns the totals. Skips lines that begin with `#`. A line that is the same as one above fails. Prints a file that cannot be read
+/// or has no case, and counts it as one failure.
 pub fn run_file<K: Cases, R: Files + Print + AllocGlobal>(
     rt: &R,
     name: &str,
@@ -76,24 +76,29 @@ fn run_text<K: Cases, R: Files + Print + AllocGlobal>(
     text: &str,
 ) -> Result<Tally, CaseFault> {
     let mut tallies: BTreeMap<K, Tally> = BTreeMap::new(rt.alloc());
+    let mut above: BTreeSet<&str> = BTreeSet::new(rt.alloc());
     for (number, line) in (1u64..).zip(text.lines()) {
         if !line.starts_with('#') {
-            count_line(rt, name, source, number, line, &mut tallies)?;
+            let is_new = above.insert(line)?;
+            count_line(rt, name, source, (number, line, is_new), &mut tallies)?;
         }
     }
     print_tallies(rt, &tallies)
 }
 
-// Runs a line, prints it if it failed, and counts it.
+// Runs a line, given by its number, its text and whether no line above is the same, prints it if it failed, and counts it.
 fn count_line<K: Cases, R: Files + Print + AllocGlobal>(
     rt: &R,
     name: &str,
     source: &Source<'_, K>,
-    number: u64,
-    line: &str,
+    (number, line, is_new): (u64, &str, bool),
     tallies: &mut BTreeMap<K, Tally>,
 ) -> Result<(), CaseFault> {
-    let (kind, outcome) = run_line(rt, source, line)?;
+    let (kind, outcome) = if is_new {
+        run_line(rt, source, line)?
+    } else {
+        repeated(rt, source, line)?
+    };
     if let Outcome::Failed(answered) = &outcome {
         print_failed(rt, name, number, line, answered.as_str())?;
     }
@@ -127,6 +132,16 @@ fn print_failed<R: Print>(
 ) -> io::Result<()> {
     println!(rt; "  {name}:{number}: {line}")?;
     println!(rt; "    returned: {answered}")
+}
+
+// Returns the kind of a line that is the same as one above, and that it fails.
+fn repeated<K: Cases, R: AllocGlobal>(
+    rt: &R,
+    source: &Source<'_, K>,
+    line: &str,
+) -> Result<(K, Outcome), CaseFault> {
+    let (kind, _) = source.kind_of(line);
+    Ok((kind, Outcome::failed(rt.alloc(), "the same line is above")?))
 }
 
 // Runs a line, and returns the kind under which it is counted, and its outcome.

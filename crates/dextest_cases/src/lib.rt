@@ -3,7 +3,8 @@
 //! The arguments are the names of such files. Each line of a file asks for calls and says what they must return; a line
 //! that begins with `#` is a comment. A program implements [`Cases`], which says what its lines ask for. [`run`] reads
 //! the files, prints each line that failed with its file, its number and what was returned, counts the lines by kind,
-//! and returns the status. A file that cannot be read, or that has no case, counts as a failure.
+//! and returns the status. A file that cannot be read, or that has no case, counts as a failure, and so does a line that
+//! its file has twice.
 #![tactic(auto)]
 
 pub use cases::Cases;
@@ -13,7 +14,7 @@ pub use outcome::Outcome;
 pub use printing::Printed;
 pub use program::run;
 pub use tally::Tally;
-pub use words::first_word;
+pub use words::{FIRST_OF_CLASSES, first_word, number};
 
 mod cases;
 mod fault;

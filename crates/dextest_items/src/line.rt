@@ -1,7 +1,7 @@
 //! Splits lines into words.
 
 use crate::item_kind::ItemKind;
-use dextest_cases::{CaseFault, first_word};
+use dextest_cases::{CaseFault, first_word, number};
 
 /// A line: `FILE PLACE ..`, after a word for the item if the kind of the line does not name it.
 #[derive(Clone, Copy)]
@@ -29,7 +29,7 @@ impl<'l> Line<'l> {
         Ok(Line {
             word,
             file,
-            place: place.parse()?,
+            place: number(place)?.parse()?,
             rest,
         })
     }

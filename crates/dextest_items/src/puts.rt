@@ -11,7 +11,7 @@ use crate::item_kind::ItemKind;
 use crate::line::Line;
 use dexcode::{Code, put_code, put_debug};
 use dexpool::Numbering;
-use dextest_cases::{CaseFault, Outcome, first_word};
+use dextest_cases::{CaseFault, Outcome, first_word, number};
 use dexval::{AnnotationSet, counts_law, put_annotation, put_set, put_statics, put_value};
 use std::alloc::{AllocError, Global};
 
@@ -39,7 +39,7 @@ impl Put {
             "code" | "set" => first_word(line.rest)?,
             _ => ("0", line.rest),
         };
-        let operand = operand.parse()?;
+        let operand = number(operand)?.parse()?;
         Ok((Put::of_word(line.word, operand)?, right))
     }
 

@@ -18,7 +18,7 @@ use crate::offsets::number_after;
 use crate::shown::print_item;
 use dexinsn::{Pieces, put_pieces, read_pieces, renumber};
 use dexpool::{ItemFault, Numbering, Remap};
-use dextest_cases::{CaseFault, Outcome, Printed};
+use dextest_cases::{CaseFault, FIRST_OF_CLASSES, Outcome, Printed};
 use std::alloc::{AllocError, Global};
 
 /// Runs a line.
@@ -52,24 +52,21 @@ fn check_item(
 }
 
 /// Returns the outcome of a line whose item is refused: it passes if `right` is `refused NUMBER | NUMBER ..` with this
-/// number.
+/// number; a number below 17 must be the only one.
 pub fn refused(alloc: Global, number: u8, right: &str) -> Result<Outcome, CaseFault> {
-    if is_listed(number, right.strip_prefix("refused ").unwrap_or("")) {
+    if is_listed(alloc, number, right.strip_prefix("refused ").unwrap_or(""))? {
         return Ok(Outcome::Passed);
     }
     Ok(Outcome::Failed(format!(in alloc; "refused {number}")?))
 }
 
 // Returns whether a line lists this number.
-fn is_listed(number: u8, listed: &str) -> bool {
-    for one in listed.split(" | ") {
-        if let Ok(one) = one.parse::<u8>() {
-            if one == number {
-                return true;
-            }
-        }
+fn is_listed(alloc: Global, number: u8, listed: &str) -> Result<bool, AllocError> {
+    if number < FIRST_OF_CLASSES && listed.split_once(" | ").is_some() {
+        return Ok(false);
     }
-    false
+    let word = format!(in alloc; "{number}")?;
+    Ok(listed.split(" | ").any(|one| one == word.as_str()))
 }
 
 // Returns the text of an item, after a word.

@@ -8,7 +8,7 @@ use crate::dex_file::DexFile;
 use crate::item::Item;
 use crate::likeness::Likeness;
 use crate::line::Line;
-use dextest_cases::{CaseFault, Outcome, first_word};
+use dextest_cases::{CaseFault, Outcome, first_word, number};
 use std::alloc::Global;
 
 /// Runs a line.
@@ -16,7 +16,7 @@ pub fn run(alloc: Global, file: &DexFile<'_>, line: Line<'_>) -> Result<Outcome,
     requires { ArePools file.now.frame file.now.pools }
 {
     let (place, right) = first_word(line.rest)?;
-    let likeness = likeness_at(alloc, file, line, place.parse()?)?;
+    let likeness = likeness_at(alloc, file, line, number(place)?.parse()?)?;
     Ok(Outcome::of(String::from_str(alloc, likeness.word())?, right))
 }
 

@@ -11,7 +11,7 @@ use crate::item::{Item, members_at};
 use crate::line::Line;
 use dexhead::Condition;
 use dexpool::ItemFault;
-use dextest_cases::{CaseFault, Outcome, Printed};
+use dextest_cases::{CaseFault, Outcome, Printed, number};
 use dexval::{
     AnnotationSet, Directory, annotation_size, read_shared_directory_within, ref_list_size,
 };
@@ -23,7 +23,7 @@ pub fn run(alloc: Global, file: &DexFile<'_>, line: Line<'_>) -> Result<Outcome,
 {
     let answered = text_at(alloc, file, line)?;
     if let "directory" | "members" = line.word {
-        check_within(alloc, file, line, line.rest.parse()?)?;
+        check_within(alloc, file, line, number(line.rest)?.parse()?)?;
     }
     Ok(Outcome::of(answered, line.rest))
 }

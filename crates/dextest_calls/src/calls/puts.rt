@@ -4,16 +4,16 @@ ghost use Rattle.std.specs.Prelude.{◌<◌, ◌^◌, IfOk};
 ghost use Rattle.dexspec.specs.Numbers.{plus_one};
 
 use dexleb::{put_p1, put_s, put_u};
-use dextest_cases::CaseFault;
+use dextest_cases::{CaseFault, number};
 use std::alloc::Global;
 
 /// Returns the bytes that a call puts for a number, in hexadecimal.
-pub fn reported(alloc: Global, call: &str, number: &str) -> Result<String, CaseFault> {
+pub fn reported(alloc: Global, call: &str, word: &str) -> Result<String, CaseFault> {
     let mut bytes = Vec::new(alloc);
     match call {
-        "u" => put_u(number.parse()?, &mut bytes)?,
-        "s" => put_s(number.parse()?, &mut bytes)?,
-        "p1" => put_p1(number_or_none(number)?, &mut bytes)?,
+        "u" => put_u(number(word)?.parse()?, &mut bytes)?,
+        "s" => put_s(number(word)?.parse()?, &mut bytes)?,
+        "p1" => put_p1(number_or_none(word)?, &mut bytes)?,
         _ => return Err(CaseFault::Form),
     }
     Ok(hex::encode(alloc, bytes.as_slice())?)
@@ -26,8 +26,8 @@ fn number_or_none(word: &str) -> Result<Option<u32>, CaseFault>
     if word == "none" {
         return Ok(None);
     }
-    match word.parse()? {
+    match number(word)?.parse()? {
         u32::MAX => Err(CaseFault::Form),
-        number => Ok(Some(number)),
+        index => Ok(Some(index)),
     }
 }

@@ -1,4 +1,4 @@
-use Rattle.dextest_calls.proofs.normalise.run.Goals as goal
+use Rattle.dextest_calls.proofs.normalise.built.Goals as goal
 
 pub returns-then-branch : goal.returns-then-branch
 returns-then-branch c = λ _. record {

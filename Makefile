@@ -31,9 +31,6 @@ VERSION := $(shell sed -n 's/.*const VERSION: &str = "\([^ "]*\).*/\1/p' crates/
 CRATES := $(shell tools/libraries dexkit)
 SOURCES := $(foreach crate,$(CRATES),$(wildcard crates/$(crate)/src/*.rt crates/$(crate)/src/*/*.rt))
 
-# The library for C, once `make lib` has proved and made it.
-LIBRARY = lib/out
-
 .PHONY: all try unproved check lib lib-check documents install dist vectors clean
 
 all:
@@ -63,11 +60,10 @@ check:
 	@tools/proved note
 
 lib:
-	JOBS=$(JOBS) tools/lib $(LIBRARY)
+	JOBS=$(JOBS) tools/lib lib/out
 
-lib-check: lib
-	tests/library/prototypes
-	tests/library/run $(LIBRARY) $(PROGRAM)
+lib-check:
+	JOBS=$(JOBS) tests/library/check $(PROGRAM)
 
 documents:
 	tests/documents/run

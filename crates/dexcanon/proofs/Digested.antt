@@ -7,6 +7,9 @@ use Rattle.dexspec.proofs.merge.Absorption.{IsGood-within}
 use Rattle.dexspec.proofs.merge.Collections.{collection-is, collection-one, collection-consistent, definitions-same}
 use Rattle.dexspec.proofs.lists.Members.{Contains-nil, Contains-first, Contains-cons_cases}
 use Rattle.dexspec.proofs.layout.Sums.{length-sha1}
+use Rattle.std.proofs.Common.{◌⊎◌, refl}
+use Rattle.dexspec.proofs.lists.Decided.{text_same_or_not}
+use Rattle.dexcanon.specs.Digests.{summed_file, IsCollision}
 use Rattle.dexcanon.proofs.WholeFile.{after_signature}
 
 -- ---- signatures
@@ -74,3 +77,19 @@ one_consistent d name x y c e = ap (λ (z : Definition). z.1) (sym (only_member 
 pub one_file : (d e : Definition) → IsFileAlone d → IsFileAlone e → canonical (class_alone d) ≡ canonical (class_alone e) → d ≡ e
 one_file d e first second same =
     sym (only_member e d ((collection-is (e ∷ []) (one_consistent e) d.0 d.1).0 ((second.denotes d.0 d.1).1 (subst (λ b. Defines b d.0 d.1) same ((first.denotes d.0 d.1).0 ((collection-is (d ∷ []) (one_consistent d) d.0 d.1).1 (Contains-first d [])))))))
+
+-- ---- digests that are equal
+
+digest_is : (d : Definition) → class_digest d ≡ sha1 (summed_file d)
+unfolding class_digest canonical
+digest_is d = signature_is (summed_file d)
+
+file_is : (d : Definition) → canonical (class_alone d) ≡ with_sums (summed_file d)
+unfolding canonical
+file_is d = refl
+
+pub equal_digests : (d e : Definition) → IsFileAlone d → IsFileAlone e → class_digest d ≡ class_digest e → (d ≡ e) ⊎ IsCollision (summed_file d) (summed_file e)
+equal_digests d e first second same = elim (text_same_or_not (summed_file d) (summed_file e)) [
+  | inl equal ↦ inl (one_file d e first second (file_is d ∙ ap with_sums equal ∙ sym (file_is e)))
+  | inr unequal ↦ inr (record { unequal = unequal; same = sym (digest_is d) ∙ same ∙ digest_is e })
+]

@@ -5,7 +5,7 @@ ghost use Rattle.std.specs.List.{Contains};
 ghost use Rattle.dexspec.specs.Classes.{Definition};
 ghost use Rattle.dexspec.specs.Files.{definitions};
 ghost use Rattle.dexspec.specs.Canonical.{canonical};
-ghost use Rattle.dexcanon.specs.Digests.{class_digest, IsFileAlone, class_digests, EqualByFiles};
+ghost use Rattle.dexcanon.specs.Digests.{class_digest, IsFileAlone, class_digests, EqualByFiles, EqualByDigests};
 
 use crate::contents::Contents;
 use crate::files::write_signed;
@@ -22,17 +22,19 @@ const WAYS: usize = 8;
 
 /// The digest of each class, in the order of [`Program::classes`]: the signature of the canonical file of the class
 /// alone. This file is accepted, and denotes the class alone. Equal definitions have equal digests in whatever program
-/// they are. Different ones have different files; that their digests differ too rests on SHA-1 alone.
+/// they are. Different ones have different files, and their digests differ too unless these files are a collision of
+/// SHA-1.
 ///
 /// The classes are split into parts, these into parts again, and so on, each over the numbering of just what its
 /// classes mention: no class costs tables as long as the program's.
 ///
 /// Source: "header_item", the field `signature`; the digest is this project's rule.
-#[tactic(auto, using(crate::proofs::Digested::one_file))]
+#[tactic(auto, using(crate::proofs::Digested::one_file, crate::proofs::Digested::equal_digests))]
 pub fn digests(alloc: Global, program: &Program<'_>) -> Result<Vec<[u8; 20]>, AllocError>
     ensures digests { IfOk result (λ digests. digests.items ≡ class_digests program.now) }
     ensures files { (d : Definition) → Contains (definitions program.now) d → IsFileAlone d }
     ensures one { EqualByFiles }
+    ensures apart { EqualByDigests }
 {
     dexlaws::normal::normal_form();
     program.is_good();

@@ -9,14 +9,22 @@
 #   make lib                proves the library for C and makes it in lib/out, a folder to be installed as a prefix
 #   make lib-check          compares it with the program and with right answers, from C, Python and Java, and at its edges
 #   make documents          checks links, sizes, names and versions in the documents, and words in all text and names
-#   make install PREFIX=..  installs the proved program, its manual, completions, documents and examples; PREFIX is
-#                           /usr/local if not given; a program that was not proved from the files of this tree is refused
-#   make dist               packs them as a tar file and a Debian package in dist/, with the same condition
+#   make install PREFIX=..  installs the proved program with manual, completions, documents and examples, and the library if
+#                           make lib has made it, in LIBDIR (lib); PREFIX is /usr/local if not given; what was not proved
+#                           from the files of this tree is refused
+#   make dist               packs both as a tar file and as Debian packages in dist/, with the same condition
 #   make vectors            packs tests/program with its data, for programs of others, in dist/
 #   make clean              removes what checks and builds keep
 
 PREFIX ?= /usr/local
 DESTDIR ?=
+LIBDIR ?= lib
+
+# Installs a page of the manual, with the version in its foot.
+define manual
+	install -D -m 644 docs/dexkit.$(1) $(DESTDIR)$(PREFIX)/share/man/man$(1)/dexkit.$(1)
+	sed -i 's/^\(\.TH DEXKIT .*\)"dexkit[^"]*"/\1"dexkit $(VERSION)"/' $(DESTDIR)$(PREFIX)/share/man/man$(1)/dexkit.$(1)
+endef
 
 # How many tasks a check may have at a time.
 JOBS ?= $(shell nproc)
@@ -31,7 +39,7 @@ VERSION := $(shell sed -n 's/.*const VERSION: &str = "\([^ "]*\).*/\1/p' crates/
 CRATES := $(shell tools/libraries dexkit)
 SOURCES := $(foreach crate,$(CRATES),$(wildcard crates/$(crate)/src/*.rt crates/$(crate)/src/*/*.rt))
 
-.PHONY: all try unproved check lib lib-check documents install dist vectors clean
+.PHONY: all try unproved check lib lib-check documents install install-program install-library dist vectors clean
 
 all:
 	@set -e; number=0; \
@@ -42,7 +50,7 @@ all:
 		if [ $$crate = dexkit ]; then rt run --jobs $(JOBS) -- --version; else rt lib --jobs $(JOBS); fi; \
 		cd ../..; \
 	done
-	@tools/proved note
+	@tools/proved note program
 
 try: $(UNPROVED)
 	@tools/try $(UNPROVED)
@@ -57,10 +65,11 @@ $(UNPROVED): $(SOURCES)
 # `rt ci`, and then the scripts that need nothing but this machine: the last line is that of `rt ci`.
 check:
 	@tests/gate/run
-	@tools/proved note
+	@tools/proved note program
 
 lib:
 	JOBS=$(JOBS) tools/lib lib/out
+	@tools/proved note library
 
 lib-check:
 	JOBS=$(JOBS) tests/library/check $(PROGRAM)
@@ -70,20 +79,34 @@ documents:
 	tests/words/run
 	[ ! -x tests/cases/run ] || tests/cases/run
 
-install:
-	@tools/proved ask
+install: install-program
+	@if [ -d lib/out ]; then $(MAKE) -s install-library; else echo "the library for C was not made with make lib"; fi
+
+install-program:
+	@tools/proved ask program
 	install -D -m 755 $(PROGRAM) $(DESTDIR)$(PREFIX)/bin/dexkit
-	install -D -m 644 docs/dexkit.1 $(DESTDIR)$(PREFIX)/share/man/man1/dexkit.1
-	sed -i 's/^\(\.TH DEXKIT .*\)"dexkit[^"]*"/\1"dexkit $(VERSION)"/' $(DESTDIR)$(PREFIX)/share/man/man1/dexkit.1
+	$(call manual,1)
 	install -D -m 644 docs/completions/dexkit.bash $(DESTDIR)$(PREFIX)/share/bash-completion/completions/dexkit
 	install -D -m 644 docs/completions/_dexkit $(DESTDIR)$(PREFIX)/share/zsh/site-functions/_dexkit
 	install -D -m 644 docs/completions/dexkit.fish $(DESTDIR)$(PREFIX)/share/fish/vendor_completions.d/dexkit.fish
 	tools/documents $(DESTDIR)$(PREFIX)/share/doc/dexkit
 
+install-library:
+	@tools/proved ask library
+	install -D -m 644 lib/out/include/dexkit.h $(DESTDIR)$(PREFIX)/include/dexkit.h
+	install -D -m 644 lib/out/lib/libdexkit.a $(DESTDIR)$(PREFIX)/$(LIBDIR)/libdexkit.a
+	install -D -m 644 lib/out/lib/libdexkit.so.1 $(DESTDIR)$(PREFIX)/$(LIBDIR)/libdexkit.so.1
+	ln -sf libdexkit.so.1 $(DESTDIR)$(PREFIX)/$(LIBDIR)/libdexkit.so
+	install -d $(DESTDIR)$(PREFIX)/$(LIBDIR)/pkgconfig
+	sed 's|^prefix=.*|prefix=$${libdir}/$(shell echo $(LIBDIR) | sed "s|[^/][^/]*|..|g")|' lib/out/lib/pkgconfig/dexkit.pc \
+		>$(DESTDIR)$(PREFIX)/$(LIBDIR)/pkgconfig/dexkit.pc
+	$(call manual,3)
+
 dist:
-	@tools/proved ask
+	@tools/proved ask program
+	@tools/proved ask library
 	@rm -rf dist/stage
-	@umask 022; $(MAKE) -s install DESTDIR=dist/stage PREFIX=/usr
+	@umask 022; $(MAKE) -s install DESTDIR=dist/stage PREFIX=/usr LIBDIR=lib/x86_64-linux-gnu
 	@tools/dist dist/stage $(VERSION)
 	@rm -rf dist/stage
 

@@ -7,6 +7,8 @@
 //! memory.
 #![tactic(auto)]
 
+ghost use Rattle.dexargs.specs.Words.{IsSound};
+
 use clap::Error;
 use clap::error::ErrorKind;
 use dexcmd::{
@@ -37,12 +39,14 @@ fn explain<R: Print + Eprint>(rt: &R, alloc: Global, error: &Error) -> Result<Re
     }
 }
 
-// Does a job over the devices of its names.
+// Does a job that arguments ask for over the devices of its names.
 fn run_named<R: Files + Print + Input>(
     alloc: Global,
     devices: &SystemDevices<'_, R>,
     job: &Job,
-) -> Result<Report, AllocError> {
+) -> Result<Report, AllocError>
+    requires { IsSound job.now }
+{
     let mut inputs = devices.inputs(alloc, input_names(job))?;
     let mut out = devices.output(output_name(job));
     run_job(alloc, job, inputs.as_mut_slice(), &mut out)

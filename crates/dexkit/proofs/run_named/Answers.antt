@@ -1,4 +1,4 @@
-use Rattle.std.proofs.Common.{◌≡◌, false, ◌<◌, List, [], ◌∷◌, length, map, string_bytes, sym, subst, ap, ◌∙◌}
+use Rattle.std.proofs.Common.{◌≡◌, false, ◌<◌, List, [], ◌∷◌, suc, refl, length, map, string_bytes, sym, subst, ap, ◌∙◌}
 use Rattle.std.specs.Prelude.{All}
 use Rattle.std.specs.List.{AllZip}
 use Rattle.std.proofs.lemmas.List.Elements.{All-get_or}

@@ -1,26 +1,30 @@
 //! The jobs of the program over a system in memory.
 
+ghost use Rattle.dexargs.specs.Words.{IsSound};
+
 use crate::system::{Log, System, file};
 use crate::words::words_of;
 use dexcmd::{
     Job, ListsFault, Report, SystemDevices, expand_arguments, explain_lists, input_names,
     output_name, read_words, run_job,
 };
-use std::alloc::Global;
+use std::alloc::{AllocError, Global};
 
-// Runs a job over the devices of its names, and returns its report.
-fn run(alloc: Global, system: &System<'_>, job: &Job) -> Option<Report> {
+// Runs a job that arguments ask for over the devices of its names, and returns its report.
+fn run(alloc: Global, system: &System<'_>, job: &Job) -> Result<Report, AllocError>
+    requires { IsSound job.now }
+{
     let devices = SystemDevices::new(system);
-    let mut inputs = devices.inputs(alloc, input_names(job)).ok()?;
+    let mut inputs = devices.inputs(alloc, input_names(job))?;
     let mut out = devices.output(output_name(job));
-    run_job(alloc, job, inputs.as_mut_slice(), &mut out).ok()
+    run_job(alloc, job, inputs.as_mut_slice(), &mut out)
 }
 
 // Runs the job that the arguments ask for, and returns its report.
 fn report(alloc: Global, system: &System<'_>, words: &str) -> Option<Report> {
     let words = words_of(alloc, words).ok()?;
     match read_words(alloc, words.as_slice()) {
-        Ok(job) => run(alloc, system, &job),
+        Ok(job) => run(alloc, system, &job).ok(),
         Err(_) => None,
     }
 }

@@ -5,7 +5,7 @@ from typing import Iterator, List, NamedTuple, Tuple
 # A text in quotes, a character or a comment. A lifetime has no second quote.
 NO_CODE = re.compile(r'"(?:[^"\\]|\\.)*"|\'(?:[^\'\\\n]|\\(?:x[0-9a-f]{2}|u\{[0-9a-f]+\}|.))\'|//[^\n]*', re.S | re.I)
 OWNER = re.compile(r"^[ \t]*(?:pub(?:\([^)]*\))? )?(?:impl\b|trait \w)", re.M)
-FUNCTION = re.compile(r"^[ \t]*(pub(?:\([^)]*\))? )?(?:const )?fn (\w+)", re.M)
+FUNCTION = re.compile(r'^[ \t]*(pub(?:\([^)]*\))? )?(?:const |extern +(?:"C")? *)?fn (\w+)', re.M)
 CLAUSE = re.compile(r"\s*(requires|ensures)\b\s*([^{]*?)\s*(?=\{)")
 
 

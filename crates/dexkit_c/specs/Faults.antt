@@ -8,7 +8,7 @@ use Rattle.dexpool.specs.declared.faults.ReadFault.{ReadFault}
 use Rattle.dexpool.specs.declared.faults.ReadFault.TheVariants as read
 use Rattle.dexruns.specs.Counts.{IsCauseUnderAnyCaps}
 use Rattle.dexruns.specs.Fans.{IsFanPlan}
-use Rattle.dexruns.specs.Lines.{cause_text}
+use Rattle.dexruns.specs.Lines.{cause_text, exit_status}
 use Rattle.dexruns.specs.Merges.{IsTrueCause}
 use Rattle.dexruns.specs.declared.faults.MergeCause.{MergeCause}
 use Rattle.dexruns.specs.declared.faults.MergeCause.TheVariants as cause
@@ -18,6 +18,12 @@ use Rattle.dexkit_c.specs.Calls.{AreReadAs}
 use Rattle.dexkit_c.specs.declared.faults.Fault.{Fault}
 
 -- ---- of one file
+
+-- the fault says to the caller that the only file is refused, and it is
+pub record IsRefusalSaid (file : List ℕ) (fault : Fault) : Type 0 where
+  pub kind : fault.kind ≡ 1
+  pub input : fault.input ≡ 0
+  pub refused : IsRefused file fault.number fault.place
 
 -- a fault of a run over one file in memory: it is refused, or memory lacked (so the writer failed)
 abbrev pub IsOfFile : List ℕ → RunFault → Type 0
@@ -100,9 +106,10 @@ SaysInText (run.Read i) text = ⊥
 SaysInText run.Write text = ⊥
 SaysInText run.Memory text = ⊥
 
--- what the fault and the text say is true of the files; the text may be left out
+-- what the fault and the text say is true of the files: one is refused, or all are read and the cause is true of them; the text may be left out
 pub record IsFaultSaid (Unmade : MergeCause → Type 0) (files : List (List ℕ)) (fault : Fault) (IsTextLeft : Type 0) (text : List ℕ) : Type 0 where
   pub why : RunFault
+  pub status : exit_status why ≡ 1
   pub is : IsFaultOfFiles Unmade files why
   pub says : Says why fault
   pub says_text : IsTextLeft ⊎ SaysInText why text

@@ -1,8 +1,8 @@
 //! Checks.
 
 ghost use Rattle.std.specs.Prelude.{◌≡◌, ◌⊎◌};
-ghost use Rattle.dexspec.specs.Accepted.{IsRefused};
 ghost use Rattle.dexclass.specs.Checking.{IsCheckedAs};
+ghost use Rattle.dexkit_c.specs.Faults.{IsRefusalSaid};
 
 use crate::faults::{DONE, Fault, MEMORY, REFUSED, put_refusal};
 use dexpool::ReadFault;
@@ -20,7 +20,7 @@ pub extern "C" fn dexkit_c_check(
     fault: &mut Fault,
 ) -> u32
     ensures accepted { result ≡ 0 → IsCheckedAs file.now classes.new }
-    ensures refused { result ≡ 1 → IsRefused file.now fault.new.number fault.new.place }
+    ensures refused { result ≡ 1 → IsRefusalSaid file.now fault.new }
     ensures no_other { (result ≡ 0) ⊎ ((result ≡ 1) ⊎ (result ≡ 4)) }
     ensures classes_left { (result ≡ 0) ⊎ (classes.new ≡ classes.old) }
     ensures fault_left { (result ≡ 1) ⊎ (fault.new ≡ fault.old) }

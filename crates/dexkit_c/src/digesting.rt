@@ -2,10 +2,10 @@
 
 ghost use Rattle.std.specs.Prelude.{◌≡◌, ◌⊎◌, IfOk, IfErr, string_bytes};
 ghost use Rattle.std.specs.List.{flat_map};
-ghost use Rattle.dexspec.specs.Accepted.{IsRefused};
 ghost use Rattle.dexclass.specs.Programs.{IsFaultOf};
 ghost use Rattle.dexcanon.specs.Digests.{class_digests};
 ghost use Rattle.dexkit_c.specs.Calls.{ended_name, ended_names, AreDigestsOf};
+ghost use Rattle.dexkit_c.specs.Faults.{IsRefusalSaid};
 
 use crate::faults::{DONE, Fault, MEMORY, REFUSED, put_refusal};
 use dexcanon::into_digests;
@@ -76,7 +76,7 @@ pub extern "C" fn dexkit_c_digests<'a>(
     fault: &mut Fault,
 ) -> u32
     ensures digests { result ≡ 0 → AreDigestsOf file.now out.new.digests.now out.new.names.now }
-    ensures refused { result ≡ 1 → IsRefused file.now fault.new.number fault.new.place }
+    ensures refused { result ≡ 1 → IsRefusalSaid file.now fault.new }
     ensures no_other { (result ≡ 0) ⊎ ((result ≡ 1) ⊎ (result ≡ 4)) }
     ensures out_left { (result ≡ 0) ⊎ (out.new ≡ out.old) }
     ensures fault_left { (result ≡ 1) ⊎ (fault.new ≡ fault.old) }

@@ -1,14 +1,14 @@
 //! What is made of one file: its canonical file, its repaired file, and its listing.
 
 ghost use Rattle.std.specs.Prelude.{◌≡◌, ◌⊎◌, OnOk, IfOk, IfErr};
-ghost use Rattle.dexspec.specs.Accepted.{IsAccepted, IsRefused};
+ghost use Rattle.dexspec.specs.Accepted.{IsAccepted};
 ghost use Rattle.dexspec.specs.Files.{Collection, Denotes};
 ghost use Rattle.dexclass.specs.Programs.{IsFaultOf};
 ghost use Rattle.dexlisting.specs.Listing.{listing};
 ghost use Rattle.dexruns.specs.Inputs.{bytes_read};
 ghost use Rattle.dexruns.specs.Repairs.{AreEqualButForSums, repaired};
 ghost use Rattle.dexkit_c.specs.Calls.{IsNormalOf};
-ghost use Rattle.dexkit_c.specs.Faults.{IsOfFile};
+ghost use Rattle.dexkit_c.specs.Faults.{IsOfFile, IsRefusalSaid};
 
 use crate::faults::{Bytes, DONE, Fault, MEMORY, REFUSED, put_refusal};
 use dexhead::Device;
@@ -42,7 +42,7 @@ pub extern "C" fn dexkit_c_normalise<'a>(
     fault: &mut Fault,
 ) -> u32
     ensures normal { result ≡ 0 → IsNormalOf file.now out.new.bytes.now }
-    ensures refused { result ≡ 1 → IsRefused file.now fault.new.number fault.new.place }
+    ensures refused { result ≡ 1 → IsRefusalSaid file.now fault.new }
     ensures no_other { (result ≡ 0) ⊎ ((result ≡ 1) ⊎ (result ≡ 4)) }
     ensures out_left { (result ≡ 0) ⊎ (out.new ≡ out.old) }
     ensures fault_left { (result ≡ 1) ⊎ (fault.new ≡ fault.old) }
@@ -90,8 +90,7 @@ pub extern "C" fn dexkit_c_repair<'a>(
     ensures repaired { result ≡ 0 → out.new.bytes.now ≡ repaired (bytes_read file.now) }
     ensures accepted { result ≡ 0 → IsAccepted (repaired (bytes_read file.now)) }
     ensures only_sums { AreEqualButForSums (bytes_read file.now) (repaired (bytes_read file.now)) }
-    ensures refused { result ≡ 1
-        → IsRefused (repaired (bytes_read file.now)) fault.new.number fault.new.place }
+    ensures refused { result ≡ 1 → IsRefusalSaid (repaired (bytes_read file.now)) fault.new }
     ensures no_other { (result ≡ 0) ⊎ ((result ≡ 1) ⊎ (result ≡ 4)) }
     ensures out_left { (result ≡ 0) ⊎ (out.new ≡ out.old) }
     ensures fault_left { (result ≡ 1) ⊎ (fault.new ≡ fault.old) }
@@ -138,8 +137,7 @@ pub extern "C" fn dexkit_c_dump<'a>(
     ensures listing { result ≡ 0 → (K : Collection) → Denotes (bytes_read file.now) K
         → out.new.bytes.now ≡ listing K }
     ensures accepted { result ≡ 0 → IsAccepted (bytes_read file.now) }
-    ensures refused { result ≡ 1
-        → IsRefused (bytes_read file.now) fault.new.number fault.new.place }
+    ensures refused { result ≡ 1 → IsRefusalSaid (bytes_read file.now) fault.new }
     ensures no_other { (result ≡ 0) ⊎ ((result ≡ 1) ⊎ (result ≡ 4)) }
     ensures out_left { (result ≡ 0) ⊎ (out.new ≡ out.old) }
     ensures fault_left { (result ≡ 1) ⊎ (fault.new ≡ fault.old) }

@@ -2,7 +2,7 @@
 
 _dexkit() {
     local word=${COMP_WORDS[COMP_CWORD]} before=${COMP_WORDS[COMP_CWORD - 1]}
-    local commands='check merge normalise digest count dump repair help'
+    local commands='check merge normalise digest conflicts diff count dump repair help'
     COMPREPLY=()
     if ((COMP_CWORD == 1)); then
         mapfile -t COMPREPLY < <(compgen -W "$commands --help --version" -- "$word")
@@ -22,6 +22,8 @@ _dexkit() {
         local options=--help
         case ${COMP_WORDS[1]} in
             check) options+=' --keep-going' ;;
+            conflicts) options+=' --strip' ;;
+            diff) options+=' --strip --from --to' ;;
             merge) options+=' -o --out --strip --fan --max-types --max-protos --max-fields --max-methods --max-weight' ;;
         esac
         mapfile -t COMPREPLY < <(compgen -W "$options" -- "$word")

@@ -7,18 +7,24 @@ complete -c dexkit -n __fish_use_subcommand -a check -d 'Report of each file whe
 complete -c dexkit -n __fish_use_subcommand -a merge -d 'Write the canonical form of all classes of the files'
 complete -c dexkit -n __fish_use_subcommand -a normalise -d 'Write the canonical form of a file'
 complete -c dexkit -n __fish_use_subcommand -a digest -d 'Print a digest of each class of the files'
+complete -c dexkit -n __fish_use_subcommand -a conflicts -d 'List the classes of which not all copies are equal'
+complete -c dexkit -n __fish_use_subcommand -a diff -d 'List the classes that changed from old files to new ones'
 complete -c dexkit -n __fish_use_subcommand -a count -d 'Count what a merge of the files would have'
 complete -c dexkit -n __fish_use_subcommand -a dump -d 'List the classes of a file'
 complete -c dexkit -n __fish_use_subcommand -a repair -d 'Write a file with its checksum and signature set right'
 complete -c dexkit -n __fish_use_subcommand -a help -d 'Print the use of the program or of a command'
 
-set -l files check merge normalise normalize digest count dump repair
+set -l files check merge normalise normalize digest conflicts diff count dump repair
 complete -c dexkit -n "__fish_seen_subcommand_from $files" -k -a '(__fish_complete_suffix .dex)'
 # After `@` comes the name of a list of arguments.
 complete -c dexkit -n "__fish_seen_subcommand_from $files; and string match -q '@*' -- (commandline -ct)" \
     -a '@(__fish_complete_path (string sub -s 2 -- (commandline -ct)))'
 complete -c dexkit -n "__fish_seen_subcommand_from $files" -l help -d 'Print the use'
 complete -c dexkit -n '__fish_seen_subcommand_from check' -l keep-going -d 'Go on after a file that cannot be read'
+complete -c dexkit -n '__fish_seen_subcommand_from conflicts diff' -l strip \
+    -d 'Compare without debug programs and source texts'
+complete -c dexkit -n '__fish_seen_subcommand_from diff' -l from -r -F -d 'The old files'
+complete -c dexkit -n '__fish_seen_subcommand_from diff' -l to -r -F -d 'The new files'
 complete -c dexkit -n '__fish_seen_subcommand_from merge' -s o -l out -r -F -d 'The file that is written'
 complete -c dexkit -n '__fish_seen_subcommand_from merge' -l strip -d 'Leave out debug programs and source texts'
 complete -c dexkit -n '__fish_seen_subcommand_from merge' -l fan -x -d 'Merge N files at a time'
@@ -27,4 +33,4 @@ complete -c dexkit -n '__fish_seen_subcommand_from merge' -l max-protos -x -d 'A
 complete -c dexkit -n '__fish_seen_subcommand_from merge' -l max-fields -x -d 'At most N fields'
 complete -c dexkit -n '__fish_seen_subcommand_from merge' -l max-methods -x -d 'At most N methods'
 complete -c dexkit -n '__fish_seen_subcommand_from merge' -l max-weight -x -d 'A weight of at most N'
-complete -c dexkit -n '__fish_seen_subcommand_from help' -a 'check merge normalise digest count dump repair'
+complete -c dexkit -n '__fish_seen_subcommand_from help' -a 'check merge normalise digest conflicts diff count dump repair'

@@ -12,6 +12,8 @@ Examples:
   dexkit merge -o app.dex a.dex b.dex     The same bytes in any order
   dexkit normalise a.dex normal.dex       The one form of a.dex's classes
   dexkit digest a.dex b.dex | sort        Which classes are equal?
+  dexkit conflicts a.dex b.dex            Which copies of a class differ?
+  dexkit diff old.dex new.dex             What has changed?
   dexkit count a.dex b.dex                How near is the 64K limit?
   dexkit dump a.dex                       Classes, members, instructions
   dexkit repair a.dex whole.dex           Sets checksum and signature right
@@ -23,7 +25,7 @@ and as OUT, standard output; ./- is a file named -.
 
 Exit statuses:
   0  done, or help or the version was printed
-  1  a file or a merge was refused
+  1  a file or a merge was refused; or conflicts or changes were found
   2  usage error, or an argument or a list that is not UTF-8
   3  a file cannot be read, or the output cannot be written
   4  out of memory
@@ -137,6 +139,33 @@ in order and its classes in canonical order. DIGEST is the signature (a SHA-1)
 of the canonical file of that class alone: equal classes have equal digests in
 whatever file they are. It goes on after a refused file, with status 1 at the
 end.";
+
+pub(crate) const CONFLICTS: &str = "Lists the classes of which not all copies are equal";
+
+pub(crate) const CONFLICTS_LONG: &str = "\
+Prints a line `CLASS<tab>DIGEST<tab>FILE` for each copy of the classes of which
+not all copies in the files are equal: by class, then in the order of the files.
+The status is 1 if there is one, and 0 if there is none. DIGEST is that of
+`digest`.";
+
+pub(crate) const DIFF: &str = "Lists the classes that changed from old files to new ones";
+
+pub(crate) const DIFF_LONG: &str = "\
+Prints a line `CHANGE<tab>CLASS` for each class that differs between OLD and
+NEW, by class. CHANGE is `added` if no OLD has it, `removed` if no NEW has it,
+and `changed` if both have it and not all copies are equal. The status is 1 if
+there is one, and 0 if there is none. For several files on a side, name both
+sides by options, as in `dexkit diff --from @old --to @new`.";
+
+pub(crate) const STRIP_COMPARED: &str = "Compares without debug programs and source texts";
+
+pub(crate) const FROM: &str = "The old files, instead of one OLD";
+
+pub(crate) const TO: &str = "The new files, instead of one NEW";
+
+pub(crate) const OLD: &str = "The old DEX file";
+
+pub(crate) const NEW: &str = "The new DEX file";
 
 pub(crate) const COUNT: &str = "Counts what a merge of the files would have";
 

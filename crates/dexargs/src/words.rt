@@ -30,6 +30,12 @@ pub enum Job {
     KeepChecking(Vec<String>),
     /// Prints the digest of each class of these files.
     Digest(Vec<String>),
+    /// Prints the copies of each class of these files of which not all copies are equal. Compares them without debug
+    /// programs and source texts if the flag is set.
+    Conflicts(bool, Vec<String>),
+    /// Prints the classes that differ between the first files, of which there is this number, and the others. Compares
+    /// them without debug programs and source texts if the flag is set.
+    Diff(usize, bool, Vec<String>),
     /// Prints the counts of a merge of these files, beside the greatest caps.
     Count(Vec<String>),
     /// Writes the first file to the second, with its checksum and signature set right.
@@ -96,6 +102,52 @@ fn merge<'a>(alloc: Global) -> Result<Command<'a>, AllocError> {
     command.arg(files(alloc))
 }
 
+fn conflicts<'a>(alloc: Global) -> Result<Command<'a>, AllocError> {
+    described(alloc, "conflicts", help::CONFLICTS, help::CONFLICTS_LONG)
+        .arg(flag(alloc, "strip", help::STRIP_COMPARED))?
+        .arg(files(alloc))
+}
+
+// Returns one of the two files of a comparison, in place of which an option names several.
+fn side<'a>(
+    alloc: Global,
+    id: &'a str,
+    name: &'a str,
+    help: &'a str,
+) -> Result<Arg<'a>, AllocError> {
+    Arg::new(alloc, id)
+        .value_name(name)
+        .help(help)
+        .required_unless_present("from")?
+        .conflicts_with_all(&["from", "to"])
+}
+
+// Returns the option that names the files of a side of a comparison, with the option of the other side.
+fn sides<'a>(
+    alloc: Global,
+    id: &'a str,
+    name: &'a str,
+    other: &'a str,
+    help: &'a str,
+) -> Result<Arg<'a>, AllocError> {
+    Arg::new(alloc, id)
+        .long(id)
+        .value_name(name)
+        .num_args(1..)
+        .action(ArgAction::Append)
+        .help(help)
+        .requires_arg(other)
+}
+
+fn diff<'a>(alloc: Global) -> Result<Command<'a>, AllocError> {
+    described(alloc, "diff", help::DIFF, help::DIFF_LONG)
+        .arg(flag(alloc, "strip", help::STRIP_COMPARED))?
+        .arg(sides(alloc, "from", "OLD", "to", help::FROM)?)?
+        .arg(sides(alloc, "to", "NEW", "from", help::TO)?)?
+        .arg(side(alloc, "old", "OLD", help::OLD)?)?
+        .arg(side(alloc, "new", "NEW", help::NEW)?)
+}
+
 // Adds the names of the file that a command reads and of the file that it writes.
 fn file_and_out<'a>(alloc: Global, command: Command<'a>) -> Result<Command<'a>, AllocError> {
     command
@@ -133,6 +185,8 @@ fn command<'a>(alloc: Global) -> Result<Command<'a>, AllocError> {
         merge(alloc),
         normalise(alloc),
         described(alloc, "digest", help::DIGEST, help::DIGEST_LONG).arg(files(alloc)),
+        conflicts(alloc),
+        diff(alloc),
         described(alloc, "count", help::COUNT, help::COUNT_LONG).arg(files(alloc)),
         dump(alloc),
         file_and_out(
@@ -149,14 +203,19 @@ fn text_of(alloc: Global, matches: &ArgMatches<'_>, id: &str) -> Result<String, 
     String::from_str(alloc, matches.get_str(id).unwrap_or(""))
 }
 
+// Returns the values of an argument.
+fn texts_of(alloc: Global, matches: &ArgMatches<'_>, id: &str) -> Result<Vec<String>, AllocError> {
+    let texts = matches.get_strs(id).unwrap_or(&[]).iter();
+    texts
+        .map(|text| String::from_str(alloc, text))
+        .try_collect(alloc)
+}
+
 // Returns the files of a command; `None` if there are none.
 fn files_of(alloc: Global, matches: &ArgMatches<'_>) -> Result<Option<Vec<String>>, AllocError>
     ensures { IfOk result (λ files. IfSome files (λ files. 0 < vec_len files)) }
 {
-    let names = matches.get_strs("files").unwrap_or(&[]).iter();
-    let files: Vec<String> = names
-        .map(|name| String::from_str(alloc, name))
-        .try_collect(alloc)?;
+    let files = texts_of(alloc, matches, "files")?;
     Ok((!files.is_empty()).then_some(files))
 }
 
@@ -193,6 +252,44 @@ fn merge_of(alloc: Global, matches: &ArgMatches<'_>) -> Result<Option<Job>, Allo
     Ok(Some(Job::Merge(out, fan, caps, strip, files)))
 }
 
+fn conflicts_of(alloc: Global, matches: &ArgMatches<'_>) -> Result<Option<Job>, AllocError>
+    ensures { IfOk result (λ job. IfSome job IsSound) }
+{
+    let strip = matches.get_flag("strip");
+    let Some(files) = files_of(alloc, matches)? else {
+        return Ok(None);
+    };
+    Ok(Some(Job::Conflicts(strip, files)))
+}
+
+// Appends the files of a side of a comparison: of an argument and an option, one has them.
+fn append_side(
+    alloc: Global,
+    matches: &ArgMatches<'_>,
+    ids: [&str; 2],
+    files: &mut Vec<String>,
+) -> Result<(), AllocError> {
+    for id in ids {
+        let mut side = texts_of(alloc, matches, id)?;
+        files.append(&mut side)?;
+    }
+    Ok(())
+}
+
+fn diff_of(alloc: Global, matches: &ArgMatches<'_>) -> Result<Option<Job>, AllocError>
+    ensures { IfOk result (λ job. IfSome job IsSound) }
+{
+    let strip = matches.get_flag("strip");
+    let mut files = Vec::new(alloc);
+    append_side(alloc, matches, ["old", "from"], &mut files)?;
+    let old = files.len();
+    append_side(alloc, matches, ["new", "to"], &mut files)?;
+    if old == 0 || files.len() <= old {
+        return Ok(None);
+    }
+    Ok(Some(Job::Diff(old, strip, files)))
+}
+
 fn job_of(alloc: Global, matches: &ArgMatches<'_>) -> Result<Option<Job>, AllocError>
     ensures { IfOk result (λ job. IfSome job IsSound) }
 {
@@ -208,6 +305,8 @@ fn job_of(alloc: Global, matches: &ArgMatches<'_>) -> Result<Option<Job>, AllocE
         "merge" => merge_of(alloc, found),
         "normalise" => Ok(Some(Job::Normalise(text("file")?, text("out")?))),
         "digest" => Ok(files_of(alloc, found)?.map(Job::Digest)),
+        "conflicts" => conflicts_of(alloc, found),
+        "diff" => diff_of(alloc, found),
         "count" => Ok(files_of(alloc, found)?.map(Job::Count)),
         "dump" => Ok(Some(Job::Dump(text("file")?))),
         "repair" => Ok(Some(Job::Repair(text("file")?, text("out")?))),

@@ -1,7 +1,7 @@
 -- The names of a job: those of its inputs, and that of its output.
 use Rattle.std.specs.Prelude.{ℕ, List, [], ◌∷◌, map, Option, Some, None, string_bytes}
 use Rattle.dexargs.specs.declared.words.Job.{Job}
-use Rattle.dexargs.specs.declared.words.Job.TheVariants.{Check, Dump, Normalise, Merge, KeepChecking, Digest, Count, Repair}
+use Rattle.dexargs.specs.declared.words.Job.TheVariants.{Check, Dump, Normalise, Merge, KeepChecking, Digest, Conflicts, Diff, Count, Repair}
 
 -- the names of the inputs, in the order in which they are read
 abbrev pub input_names : Job → List (List ℕ)
@@ -11,6 +11,8 @@ input_names (Normalise file out) = string_bytes file ∷ []
 input_names (Merge out fan caps is_stripped files) = map string_bytes files.items
 input_names (KeepChecking files) = map string_bytes files.items
 input_names (Digest files) = map string_bytes files.items
+input_names (Conflicts is_stripped files) = map string_bytes files.items
+input_names (Diff old is_stripped files) = map string_bytes files.items
 input_names (Count files) = map string_bytes files.items
 input_names (Repair file out) = string_bytes file ∷ []
 
@@ -22,5 +24,7 @@ output_name (Normalise file out) = Some (string_bytes out)
 output_name (Merge out fan caps is_stripped files) = Some (string_bytes out)
 output_name (KeepChecking files) = None
 output_name (Digest files) = None
+output_name (Conflicts is_stripped files) = None
+output_name (Diff old is_stripped files) = None
 output_name (Count files) = None
 output_name (Repair file out) = Some (string_bytes out)

@@ -15,6 +15,8 @@ pub fn input_names(job: &Job) -> &[String]
         | Job::Merge(_, _, _, _, files)
         | Job::KeepChecking(files)
         | Job::Digest(files)
+        | Job::Conflicts(_, files)
+        | Job::Diff(_, _, files)
         | Job::Count(files) => files.as_slice(),
         Job::Dump(file) | Job::Normalise(file, _) | Job::Repair(file, _) => slice::from_ref(file),
     }
@@ -29,8 +31,12 @@ pub fn output_name(job: &Job) -> Option<&str>
         Job::Normalise(_, out) | Job::Merge(out, _, _, _, _) | Job::Repair(_, out) => {
             Some(out.as_str())
         }
-        Job::Check(_) | Job::Dump(_) | Job::KeepChecking(_) | Job::Digest(_) | Job::Count(_) => {
-            None
-        }
+        Job::Check(_)
+        | Job::Dump(_)
+        | Job::KeepChecking(_)
+        | Job::Digest(_)
+        | Job::Conflicts(_, _)
+        | Job::Diff(_, _, _)
+        | Job::Count(_) => None,
     }
 }

@@ -20,8 +20,8 @@ Examples:
   dexkit help check                       What each refusal means
 
 In any command an argument @LIST is replaced by the lines of the file LIST, one
-argument a line; ./@LIST is a file named @LIST. As FILE, - is standard input,
-and as OUT, standard output; ./- is a file named -.
+argument a line; ./@LIST is a file named @LIST, and so is @LIST after --. As
+FILE, - is standard input, and as OUT, standard output; ./- is a file named -.
 
 Exit statuses:
   0  done, or help or the version was printed

@@ -168,7 +168,8 @@ fn lists_are_replaced_by_their_lines(rt: HostRuntime) {
         ("@empty", "[]"),
         ("@", "[\"@\"]"),
         ("a @missing", "3 [\"dexkit: missing: cannot be read\"]"),
-        ("@list @cut", "2 [\"dexkit: cut: not UTF-8\"]"),
+        ("@list @cut", "2 [\"dexkit: cut: line 2 is not UTF-8\"]"),
+        ("@list -- @list", "[\"a\", \"@list\", \"--\", \"@list\"]"),
     ] {
         let expanded = expanded(rt.alloc(), words);
         assert!(rt;

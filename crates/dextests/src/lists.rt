@@ -31,9 +31,9 @@ fn list_files_denote_their_lines(rt: HostRuntime) {
 
 #[test]
 fn lists_that_are_not_text_are_refused(rt: HostRuntime) {
-    for bytes in [b"a\n\xff", b"\xc0\x80a", b"\xed\xa0\x80"] {
+    for (bytes, line) in [(b"a\n\xff", 2), (b"\xc0\x80a", 1), (b"\xed\xa0\x80", 1)] {
         let fault = arguments_in(rt.alloc(), bytes).err();
-        assert!(rt; fault == Some(ListFault::NotUtf8), "{bytes:?}");
+        assert!(rt; fault == Some(ListFault::NotUtf8(line)), "{bytes:?}");
     }
 }
 

@@ -24,7 +24,8 @@ _dexkit() {
             check) options+=' --keep-going' ;;
             conflicts) options+=' --strip' ;;
             diff) options+=' --strip --from --to' ;;
-            merge) options+=' -o --out --strip --fan --max-types --max-protos --max-fields --max-methods --max-weight' ;;
+            normalise | normalize | repair) options+=' --atomic' ;;
+            merge) options+=' -o --out --atomic --strip --fan --max-types --max-protos --max-fields --max-methods --max-weight' ;;
         esac
         mapfile -t COMPREPLY < <(compgen -W "$options" -- "$word")
         return

@@ -26,6 +26,8 @@ complete -c dexkit -n '__fish_seen_subcommand_from conflicts diff' -l strip \
 complete -c dexkit -n '__fish_seen_subcommand_from diff' -l from -r -F -d 'The old files'
 complete -c dexkit -n '__fish_seen_subcommand_from diff' -l to -r -F -d 'The new files'
 complete -c dexkit -n '__fish_seen_subcommand_from merge' -s o -l out -r -F -d 'The file that is written'
+complete -c dexkit -n '__fish_seen_subcommand_from merge normalise normalize repair' -l atomic \
+    -d 'Move the output into its place when it is whole'
 complete -c dexkit -n '__fish_seen_subcommand_from merge' -l strip -d 'Leave out debug programs and source texts'
 complete -c dexkit -n '__fish_seen_subcommand_from merge' -l fan -x -d 'Merge N files at a time'
 complete -c dexkit -n '__fish_seen_subcommand_from merge' -l max-types -x -d 'At most N types'

@@ -10,6 +10,7 @@ def _merged(ctx, name, files):
     out = ctx.actions.declare_file(name)
     arguments = ctx.actions.args()
     arguments.add("merge")
+    arguments.add("--atomic")
     arguments.add("--out", out)
 
     # The names of the files go into a separate file, one a line: there may be more than a command line takes. Names

@@ -32,7 +32,8 @@ Exit statuses:
 
 Faults are lines on standard error. OUT is made or emptied at the first write:
 what is refused leaves it alone, and it may be one of the files that are read.
-A write that fails may leave OUT cut. A file has at most 1073741824 bytes.";
+A write that fails may leave OUT cut; with --atomic it is then as it was. A file
+has at most 1073741824 bytes.";
 
 pub(crate) const CHECK: &str = "Reports of each file whether it is accepted";
 
@@ -107,6 +108,13 @@ exceeded, that is reported, and nothing is written.";
 pub(crate) const FAN: &str = "\
 Merges N files or results at a time, 2 to 65535: the
 same bytes [default: all files at once]";
+
+pub(crate) const ATOMIC: &str = "\
+Moves OUT into its place when it is whole: what fails
+leaves it as it was";
+
+// The fault of arguments that clap lets pass and that ask for no job.
+pub(crate) const NO_JOB: &str = "--atomic cannot be used with standard output as OUT";
 
 pub(crate) const STRIP: &str = "\
 Leaves out debug programs and source texts (the files

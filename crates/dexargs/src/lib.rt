@@ -8,4 +8,4 @@ mod lists;
 mod words;
 
 pub use lists::{ListFault, arguments_in, is_separator, list_name};
-pub use words::{Job, read_words};
+pub use words::{Job, Placing, read_words};

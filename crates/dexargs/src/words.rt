@@ -1,8 +1,8 @@
 //! The commands of the program, and the job that its arguments ask for.
 
-ghost use Rattle.std.specs.Prelude.{◌<◌, vec_len, IfOk, IfSome};
+ghost use Rattle.std.specs.Prelude.{◌<◌, vec_len, string_bytes, IfOk, IfSome};
 ghost use Rattle.dexspec.specs.Merging.{AreCaps};
-ghost use Rattle.dexargs.specs.Words.{IsSound};
+ghost use Rattle.dexargs.specs.Words.{IsSound, IsSoundOut};
 
 use crate::help;
 use clap::error::ErrorKind;
@@ -14,6 +14,18 @@ const LEAST_FAN: u32 = 2;
 
 const GREATEST_FAN: u32 = 65_535;
 
+// The name of standard output.
+const STANDARD: &str = "-";
+
+/// How the output of a job comes under its name.
+#[derive(Clone, Copy, Debug, PartialEq, Eq)]
+pub enum Placing {
+    /// It is written under its name.
+    InPlace,
+    /// It is written under another name, and moved to its own when it is whole.
+    Atomic,
+}
+
 /// What the arguments ask for. File names are as in the arguments.
 #[derive(Debug, Drop)]
 pub enum Job {
@@ -22,10 +34,10 @@ pub enum Job {
     /// Lists the classes of this file.
     Dump(String),
     /// Writes the canonical file of the first file to the second.
-    Normalise(String, String),
+    Normalise(String, String, Placing),
     /// Writes the merged file to the first name. Merges the given number of files at a time, or all at once, under the
     /// caps. Leaves out debug programs and source texts if the flag is set.
-    Merge(String, Option<usize>, Caps, bool, Vec<String>),
+    Merge(String, Placing, Option<usize>, Caps, bool, Vec<String>),
     /// Reports for each of these files whether it is accepted, and continues after files that cannot be read.
     KeepChecking(Vec<String>),
     /// Prints the digest of each class of these files.
@@ -39,7 +51,7 @@ pub enum Job {
     /// Prints the counts of a merge of these files, beside the greatest caps.
     Count(Vec<String>),
     /// Writes the first file to the second, with its checksum and signature set right.
-    Repair(String, String),
+    Repair(String, String, Placing),
 }
 
 fn one<'a>(alloc: Global, id: &'a str, name: &'a str, help: &'a str) -> Arg<'a> {
@@ -87,6 +99,7 @@ fn check<'a>(alloc: Global) -> Result<Command<'a>, AllocError> {
 fn merge<'a>(alloc: Global) -> Result<Command<'a>, AllocError> {
     let mut command = described(alloc, "merge", help::MERGE, help::MERGE_LONG)
         .arg(one(alloc, "out", "OUT", help::OUT).short('o').long("out"))?
+        .arg(flag(alloc, "atomic", help::ATOMIC))?
         .arg(flag(alloc, "strip", help::STRIP))?;
     let caps = Caps::greatest();
     for (id, least, greatest, help) in [
@@ -148,9 +161,10 @@ fn diff<'a>(alloc: Global) -> Result<Command<'a>, AllocError> {
         .arg(side(alloc, "new", "NEW", help::NEW)?)
 }
 
-// Adds the names of the file that a command reads and of the file that it writes.
+// Adds the names of the file that a command reads and of the file that it writes, and how it is written.
 fn file_and_out<'a>(alloc: Global, command: Command<'a>) -> Result<Command<'a>, AllocError> {
     command
+        .arg(flag(alloc, "atomic", help::ATOMIC))?
         .arg(one(alloc, "file", "FILE", help::FILE))?
         .arg(one(alloc, "out", "OUT", help::OUT))
 }
@@ -211,6 +225,20 @@ fn texts_of(alloc: Global, matches: &ArgMatches<'_>, id: &str) -> Result<Vec<Str
         .try_collect(alloc)
 }
 
+// Returns the output of a command, and how it comes under its name; `None` if standard output is to be moved.
+fn out_of(alloc: Global, matches: &ArgMatches<'_>) -> Result<Option<(String, Placing)>, AllocError>
+    ensures { IfOk result (λ out. IfSome out (λ out. IsSoundOut (string_bytes out.0) out.1)) }
+{
+    let out = text_of(alloc, matches, "out")?;
+    if !matches.get_flag("atomic") {
+        return Ok(Some((out, Placing::InPlace)));
+    }
+    if out.as_str() == STANDARD {
+        return Ok(None);
+    }
+    Ok(Some((out, Placing::Atomic)))
+}
+
 // Returns the files of a command; `None` if there are none.
 fn files_of(alloc: Global, matches: &ArgMatches<'_>) -> Result<Option<Vec<String>>, AllocError>
     ensures { IfOk result (λ files. IfSome files (λ files. 0 < vec_len files)) }
@@ -247,9 +275,11 @@ fn merge_of(alloc: Global, matches: &ArgMatches<'_>) -> Result<Option<Job>, Allo
     let Some(files) = files_of(alloc, matches)? else {
         return Ok(None);
     };
-    let out = text_of(alloc, matches, "out")?;
+    let Some((out, placing)) = out_of(alloc, matches)? else {
+        return Ok(None);
+    };
     let strip = matches.get_flag("strip");
-    Ok(Some(Job::Merge(out, fan, caps, strip, files)))
+    Ok(Some(Job::Merge(out, placing, fan, caps, strip, files)))
 }
 
 fn conflicts_of(alloc: Global, matches: &ArgMatches<'_>) -> Result<Option<Job>, AllocError>
@@ -303,13 +333,23 @@ fn job_of(alloc: Global, matches: &ArgMatches<'_>) -> Result<Option<Job>, AllocE
         }
         "check" => Ok(files_of(alloc, found)?.map(Job::Check)),
         "merge" => merge_of(alloc, found),
-        "normalise" => Ok(Some(Job::Normalise(text("file")?, text("out")?))),
+        "normalise" => {
+            let Some((out, placing)) = out_of(alloc, found)? else {
+                return Ok(None);
+            };
+            Ok(Some(Job::Normalise(text("file")?, out, placing)))
+        }
         "digest" => Ok(files_of(alloc, found)?.map(Job::Digest)),
         "conflicts" => conflicts_of(alloc, found),
         "diff" => diff_of(alloc, found),
         "count" => Ok(files_of(alloc, found)?.map(Job::Count)),
         "dump" => Ok(Some(Job::Dump(text("file")?))),
-        "repair" => Ok(Some(Job::Repair(text("file")?, text("out")?))),
+        "repair" => {
+            let Some((out, placing)) = out_of(alloc, found)? else {
+                return Ok(None);
+            };
+            Ok(Some(Job::Repair(text("file")?, out, placing)))
+        }
         _ => Ok(None),
     }
 }
@@ -325,6 +365,6 @@ pub fn read_words(alloc: Global, words: &[&str]) -> Result<Job, Error>
     let matches = command.try_get_matches_from_mut(words)?;
     match job_of(alloc, &matches)? {
         Some(job) => Ok(job),
-        None => Err(command.error(ErrorKind::ValueValidation, "no such command")?),
+        None => Err(command.error(ErrorKind::ValueValidation, help::NO_JOB)?),
     }
 }

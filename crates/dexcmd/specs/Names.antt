@@ -1,30 +1,45 @@
--- The names of a job: those of its inputs, and that of its output.
+-- The names of a job: those of its inputs, that of its output, and how the output comes under it.
 use Rattle.std.specs.Prelude.{ℕ, List, [], ◌∷◌, map, Option, Some, None, string_bytes}
 use Rattle.dexargs.specs.declared.words.Job.{Job}
+use Rattle.dexargs.specs.declared.words.Placing.{Placing}
+use Rattle.dexargs.specs.declared.words.Placing.TheVariants.{InPlace}
 use Rattle.dexargs.specs.declared.words.Job.TheVariants.{Check, Dump, Normalise, Merge, KeepChecking, Digest, Conflicts, Diff, Count, Repair}
 
 -- the names of the inputs, in the order in which they are read
 abbrev pub input_names : Job → List (List ℕ)
 input_names (Check files) = map string_bytes files.items
 input_names (Dump file) = string_bytes file ∷ []
-input_names (Normalise file out) = string_bytes file ∷ []
-input_names (Merge out fan caps is_stripped files) = map string_bytes files.items
+input_names (Normalise file out placing) = string_bytes file ∷ []
+input_names (Merge out placing fan caps is_stripped files) = map string_bytes files.items
 input_names (KeepChecking files) = map string_bytes files.items
 input_names (Digest files) = map string_bytes files.items
 input_names (Conflicts is_stripped files) = map string_bytes files.items
 input_names (Diff old is_stripped files) = map string_bytes files.items
 input_names (Count files) = map string_bytes files.items
-input_names (Repair file out) = string_bytes file ∷ []
+input_names (Repair file out placing) = string_bytes file ∷ []
 
 -- the name of the output, or none where the job writes to standard output
 abbrev pub output_name : Job → Option (List ℕ)
 output_name (Check files) = None
 output_name (Dump file) = None
-output_name (Normalise file out) = Some (string_bytes out)
-output_name (Merge out fan caps is_stripped files) = Some (string_bytes out)
+output_name (Normalise file out placing) = Some (string_bytes out)
+output_name (Merge out placing fan caps is_stripped files) = Some (string_bytes out)
 output_name (KeepChecking files) = None
 output_name (Digest files) = None
 output_name (Conflicts is_stripped files) = None
 output_name (Diff old is_stripped files) = None
 output_name (Count files) = None
-output_name (Repair file out) = Some (string_bytes out)
+output_name (Repair file out placing) = Some (string_bytes out)
+
+-- how the output comes under its name: in place where the job writes to standard output
+abbrev pub placing : Job → Placing
+placing (Check files) = InPlace
+placing (Dump file) = InPlace
+placing (Normalise file out place) = place
+placing (Merge out place fan caps is_stripped files) = place
+placing (KeepChecking files) = InPlace
+placing (Digest files) = InPlace
+placing (Conflicts is_stripped files) = InPlace
+placing (Diff old is_stripped files) = InPlace
+placing (Count files) = InPlace
+placing (Repair file out place) = place

@@ -1,5 +1,7 @@
 -- The devices of the system by their names.
-use Rattle.std.specs.Prelude.{◌≡◌, ◌≢◌, ℕ, ◌==◌, if◌then◌else◌, Bool, true, false, List, Result, Ok, Err, codes}
+use Rattle.std.specs.Prelude.{◌≡◌, ◌≢◌, ℕ, ◌==◌, if◌then◌else◌, Bool, true, false, List, Option, Some, None, Result, Ok, Err, codes}
+use Rattle.dexargs.specs.declared.words.Placing.{Placing}
+use Rattle.dexargs.specs.declared.words.Placing.TheVariants.{InPlace, Atomic}
 use Rattle.dexcmd.specs.declared.system.NamedInput.{NamedInput}
 use Rattle.dexcmd.specs.declared.system.NamedInput.TheVariants as input
 use Rattle.dexcmd.specs.declared.system.Target.{Target}
@@ -8,6 +10,8 @@ use Rattle.dexcmd.specs.declared.system.NamedOutput.{NamedOutput}
 use Rattle.dexcmd.specs.declared.system.State.{State}
 use Rattle.dexcmd.specs.declared.system.State.TheVariants.{Working, Broken, Closed}
 use Rattle.dexcmd.specs.Files.{old_path, IsClosed, new_path, IsUnmade}
+use Rattle.dexcmd.specs.Atomic.{atomic_path, is_stage_placed}
+use Rattle.dexcmd.specs.Atomic as atomic
 
 -- the name of standard input and of standard output
 abbrev pub standard : List ℕ
@@ -21,22 +25,51 @@ IsNamedInput name (input.Standard rt) = name ≡ standard
 -- the target is standard output
 abbrev pub is_standard : {R F D : Type 0} → Target R F D → Bool
 is_standard (target.File file) = false
+is_standard (target.Atomic file) = false
 is_standard (target.Standard printer) = true
 
 -- the target is the file at the path, which is not made, or standard output for `-`
 abbrev pub IsNamedTarget : {R F D : Type 0} → List ℕ → Target R F D → Type 0
 IsNamedTarget name (target.File file) = (new_path file ≡ name) × IsUnmade file
+IsNamedTarget name (target.Atomic file) = ⊥
 IsNamedTarget name (target.Standard printer) = name ≡ standard
 
 -- the output writes to the file at the path, which is not made, or to standard output for `-`, and has not failed
 abbrev pub IsNamedOutput : {R F D : Type 0} → List ℕ → NamedOutput R F D → Type 0
 IsNamedOutput name out = IsNamedTarget name out.target × (out.state ≡ Working)
 
+-- the target is the file that is moved to the path when it is finished, of which nothing is made
+abbrev pub IsAtomicTarget : {R F D : Type 0} → List ℕ → Target R F D → Type 0
+IsAtomicTarget name (target.File file) = ⊥
+IsAtomicTarget name (target.Atomic file) = (atomic_path file ≡ name) × atomic.IsUnmade file
+IsAtomicTarget name (target.Standard printer) = ⊥
+
+-- the output writes to the file that is moved to the path when it is finished, of which nothing is made, and has not
+-- failed
+abbrev pub IsAtomicOutput : {R F D : Type 0} → List ℕ → NamedOutput R F D → Type 0
+IsAtomicOutput name out = IsAtomicTarget name out.target × (out.state ≡ Working)
+
+-- the output is that of a job whose output has this name, or none, and comes under it so
+abbrev pub IsOutputOf : {R F D : Type 0} → Option (List ℕ) → Placing → NamedOutput R F D → Type 0
+IsOutputOf None placing out = IsNamedOutput standard out
+IsOutputOf (Some name) InPlace out = IsNamedOutput name out
+IsOutputOf (Some name) Atomic out = IsAtomicOutput name out
+
+-- whether what was written to the target is under its name
+abbrev pub is_target_placed : {R F D : Type 0} → Target R F D → Bool
+is_target_placed (target.File file) = true
+is_target_placed (target.Atomic file) = is_stage_placed file.stage
+is_target_placed (target.Standard printer) = true
+
 -- whether a write to an output has failed
 abbrev pub has_failed : State → Bool
 has_failed Working = false
 has_failed Broken = true
 has_failed Closed = true
+
+-- whether all that was written to an output is under its name
+abbrev pub is_placed : {R F D : Type 0} → Target R F D → State → Bool
+is_placed target state = if has_failed state then false else is_target_placed target
 
 -- whether the reader of standard output has gone away
 abbrev pub is_closed : State → Bool

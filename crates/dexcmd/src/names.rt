@@ -1,9 +1,9 @@
 //! The names of a job: those of its inputs, and that of its output.
 
 ghost use Rattle.std.specs.Prelude.{◌≡◌, map, Some, None, MatchOption, string_bytes};
-ghost use Rattle.dexcmd.specs.Names.{input_names, output_name};
+ghost use Rattle.dexcmd.specs.Names.{input_names, output_name, placing};
 
-use dexargs::Job;
+use dexargs::{Job, Placing};
 use std::slice;
 
 /// The names of the inputs of a job, in the order in which they are read.
@@ -12,13 +12,15 @@ pub fn input_names(job: &Job) -> &[String]
 {
     match job {
         Job::Check(files)
-        | Job::Merge(_, _, _, _, files)
+        | Job::Merge(_, _, _, _, _, files)
         | Job::KeepChecking(files)
         | Job::Digest(files)
         | Job::Conflicts(_, files)
         | Job::Diff(_, _, files)
         | Job::Count(files) => files.as_slice(),
-        Job::Dump(file) | Job::Normalise(file, _) | Job::Repair(file, _) => slice::from_ref(file),
+        Job::Dump(file) | Job::Normalise(file, _, _) | Job::Repair(file, _, _) => {
+            slice::from_ref(file)
+        }
     }
 }
 
@@ -28,7 +30,7 @@ pub fn output_name(job: &Job) -> Option<&str>
         (λ name. output_name job.now ≡ Some name.now) }
 {
     match job {
-        Job::Normalise(_, out) | Job::Merge(out, _, _, _, _) | Job::Repair(_, out) => {
+        Job::Normalise(_, out, _) | Job::Merge(out, _, _, _, _, _) | Job::Repair(_, out, _) => {
             Some(out.as_str())
         }
         Job::Check(_)
@@ -38,5 +40,23 @@ pub fn output_name(job: &Job) -> Option<&str>
         | Job::Conflicts(_, _)
         | Job::Diff(_, _, _)
         | Job::Count(_) => None,
+    }
+}
+
+/// How the output of a job comes under its name: in place for a job that writes to standard output.
+pub fn placing(job: &Job) -> Placing
+    ensures { result ≡ placing job.now }
+{
+    match job {
+        Job::Normalise(_, _, placing)
+        | Job::Merge(_, placing, _, _, _, _)
+        | Job::Repair(_, _, placing) => *placing,
+        Job::Check(_)
+        | Job::Dump(_)
+        | Job::KeepChecking(_)
+        | Job::Digest(_)
+        | Job::Conflicts(_, _)
+        | Job::Diff(_, _, _)
+        | Job::Count(_) => Placing::InPlace,
     }
 }

@@ -1,7 +1,7 @@
 //! The program `dexkit`: checks, lists, normalises, merges, repairs and counts DEX files, and writes digests of their
 //! classes.
 //!
-//! Its arguments are those of `dexargs`, with lists of arguments expanded, and what it does for them is `run_job` of
+//! Its arguments are those of `dexargs`, with lists of arguments expanded, and what it does for them is `finish_job` of
 //! `dexcmd`, over the devices of the job's names. The exit status is 0 if all was done, or help or the version was asked
 //! for, 1 if a file or a merge was refused, 2 for a usage error, 3 if input or output failed, and 4 if it ran out of
 //! memory.
@@ -12,8 +12,8 @@ ghost use Rattle.dexargs.specs.Words.{IsSound};
 use clap::Error;
 use clap::error::ErrorKind;
 use dexcmd::{
-    ExitStatus, Job, Report, SystemDevices, expand_arguments, explain_argument, explain_lists,
-    explain_output, input_names, output_name, print_report, read_words, run_job,
+    Close, ExitStatus, Job, Report, SystemDevices, expand_arguments, explain_argument,
+    explain_lists, explain_output, finish_job, input_names, print_report, read_words,
 };
 use dexhead::Device;
 use std::alloc::{AllocError, Global};
@@ -39,17 +39,19 @@ fn explain<R: Print + Eprint>(rt: &R, alloc: Global, error: &Error) -> Result<Re
     }
 }
 
-// Does a job that arguments ask for over the devices of its names.
+// Does a job that arguments ask for over the devices of its names, and finishes its output.
 fn run_named<R: Files + Print + Input>(
     alloc: Global,
     devices: &SystemDevices<'_, R>,
     job: &Job,
 ) -> Result<Report, AllocError>
+where
+    R::File: Close,
     requires { IsSound job.now }
 {
     let mut inputs = devices.inputs(alloc, input_names(job))?;
-    let mut out = devices.output(output_name(job));
-    run_job(alloc, job, inputs.as_mut_slice(), &mut out)
+    let mut out = devices.output_of(alloc, job)?;
+    finish_job(alloc, job, inputs.as_mut_slice(), &mut out)
 }
 
 // Does what the arguments ask for.
@@ -57,7 +59,10 @@ fn start<R: Files + Print + Eprint + Input>(
     rt: &R,
     alloc: Global,
     arguments: &[String],
-) -> Result<Report, AllocError> {
+) -> Result<Report, AllocError>
+where
+    R::File: Close,
+{
     let devices = SystemDevices::new(rt);
     let expanded = match expand_arguments(alloc, &devices, arguments) {
         Ok(expanded) => expanded,

@@ -5,8 +5,8 @@ ghost use Rattle.dexargs.specs.Words.{IsSound};
 use crate::system::{Log, System, file};
 use crate::words::words_of;
 use dexcmd::{
-    Job, ListsFault, Report, SystemDevices, expand_arguments, explain_lists, input_names,
-    output_name, read_words, run_job,
+    Job, ListsFault, Report, SystemDevices, expand_arguments, explain_lists, finish_job,
+    input_names, read_words,
 };
 use std::alloc::{AllocError, Global};
 
@@ -16,8 +16,8 @@ fn run(alloc: Global, system: &System<'_>, job: &Job) -> Result<Report, AllocErr
 {
     let devices = SystemDevices::new(system);
     let mut inputs = devices.inputs(alloc, input_names(job))?;
-    let mut out = devices.output(output_name(job));
-    run_job(alloc, job, inputs.as_mut_slice(), &mut out)
+    let mut out = devices.output_of(alloc, job)?;
+    finish_job(alloc, job, inputs.as_mut_slice(), &mut out)
 }
 
 // Runs the job that the arguments ask for, and returns its report.
@@ -37,15 +37,17 @@ fn are_bytes(alloc: Global, bytes: &[u8], name: &str) -> bool {
     }
 }
 
-// Returns whether a run with these arguments ends with this status and these lines, opens and makes that many files,
-// and writes the file `written`, or the text `written` if there is no such file.
+// Returns whether a run with these arguments ends with this status and these lines, opens, makes and moves that many
+// files, and writes the file `written`, or the text `written` if there is no such file.
 fn have_outcome(alloc: Global, words: &str, outcome: &str, written: &str) -> Option<bool> {
     let log = Log::new(alloc);
     let system = System { alloc, log: &log };
     let report = report(alloc, &system, words)?;
     let (status, lines) = (report.status, &report.lines);
-    let (opened, made) = (log.opened.get(), log.made.get());
-    let line = format!(in alloc; "{status} {lines:?} opened {opened} made {made}").ok()?;
+    let (opened, made, moved) = (log.opened.get(), log.made.get(), log.moved.get());
+    let line = format!(in alloc;
+        "{status} {lines:?} opened {opened} made {made} moved {moved}"
+    ).ok()?;
     let bytes = log.written.try_borrow().ok()?;
     Some(line.as_str() == outcome && are_bytes(alloc, bytes.as_slice(), written))
 }
@@ -61,37 +63,64 @@ const COUNTS: &str = "types 3 of 65535\nprotos 0 of 65535\nfields 0 of 65536\nme
 #[test]
 fn jobs_read_and_write_the_files_of_their_names(rt: HostRuntime) {
     for (words, outcome, written) in [
-        ("normalise unused o", "0 [] opened 1 made 1", "a"),
-        ("normalise o o", "0 [] opened 1 made 1", "a"),
-        ("normalise - -", "0 [] opened 0 made 0", "a"),
-        ("repair unused o", "0 [] opened 1 made 1", "unused"),
-        ("merge -o o a b a", "0 [] opened 3 made 1", "both"),
-        ("merge -o o --fan 2 a b a", "0 [] opened 3 made 1", "both"),
+        ("normalise unused o", "0 [] opened 1 made 1 moved 0", "a"),
+        ("normalise o o", "0 [] opened 1 made 1 moved 0", "a"),
+        ("normalise - -", "0 [] opened 0 made 0 moved 0", "a"),
         (
-            "merge -o o --max-types 3 --max-protos 0 --max-fields 0 --max-methods 0 --max-weight 1330 a b",
-            "0 [] opened 2 made 1",
+            "normalise --atomic o o",
+            "0 [] opened 1 made 1 moved 1",
+            "a",
+        ),
+        ("repair unused o", "0 [] opened 1 made 1 moved 0", "unused"),
+        (
+            "repair --atomic unused o",
+            "0 [] opened 1 made 1 moved 1",
+            "unused",
+        ),
+        ("merge -o o a b a", "0 [] opened 3 made 1 moved 0", "both"),
+        (
+            "merge --atomic -o o a b a",
+            "0 [] opened 3 made 1 moved 1",
             "both",
         ),
-        ("merge -o o source", "0 [] opened 1 made 1", "source"),
-        ("merge -o o --strip source", "0 [] opened 1 made 1", "a"),
+        (
+            "merge -o o --fan 2 a b a",
+            "0 [] opened 3 made 1 moved 0",
+            "both",
+        ),
+        (
+            "merge -o o --max-types 3 --max-protos 0 --max-fields 0 --max-methods 0 --max-weight 1330 a b",
+            "0 [] opened 2 made 1 moved 0",
+            "both",
+        ),
+        (
+            "merge -o o source",
+            "0 [] opened 1 made 1 moved 0",
+            "source",
+        ),
+        (
+            "merge -o o --strip source",
+            "0 [] opened 1 made 1 moved 0",
+            "a",
+        ),
         (
             "check a cut b",
-            "1 [] opened 3 made 0",
+            "1 [] opened 3 made 0 moved 0",
             "a: ok classes=1\ncut: refused 4 Lengths at 0\nb: ok classes=1\n",
         ),
         (
             "check a missing b",
-            "3 [\"dexkit: missing: cannot be read\"] opened 2 made 0",
+            "3 [\"dexkit: missing: cannot be read\"] opened 2 made 0 moved 0",
             "a: ok classes=1\n",
         ),
         (
             "check --keep-going a missing b",
-            "3 [\"dexkit: missing: cannot be read\"] opened 3 made 0",
+            "3 [\"dexkit: missing: cannot be read\"] opened 3 made 0 moved 0",
             "a: ok classes=1\nb: ok classes=1\n",
         ),
-        ("dump a", "0 [] opened 1 made 0", LISTING),
-        ("digest a b", "0 [] opened 2 made 0", DIGESTS),
-        ("count a b", "0 [] opened 2 made 0", COUNTS),
+        ("dump a", "0 [] opened 1 made 0 moved 0", LISTING),
+        ("digest a b", "0 [] opened 2 made 0 moved 0", DIGESTS),
+        ("count a b", "0 [] opened 2 made 0 moved 0", COUNTS),
     ] {
         assert!(rt;
             have_outcome(rt.alloc(), words, outcome, written) == Some(true),
@@ -105,31 +134,39 @@ fn jobs_that_fail_leave_the_output_alone(rt: HostRuntime) {
     for (words, outcome) in [
         (
             "normalise cut o",
-            "1 [\"dexkit: cut: refused 4 Lengths at 0\"] opened 1 made 0",
+            "1 [\"dexkit: cut: refused 4 Lengths at 0\"] opened 1 made 0 moved 0",
+        ),
+        (
+            "repair --atomic cut o",
+            "1 [\"dexkit: cut: refused 4 Lengths at 0\"] opened 1 made 0 moved 0",
+        ),
+        (
+            "normalise --atomic a b",
+            "3 [\"dexkit: b: cannot be written\"] opened 2 made 0 moved 0",
         ),
         (
             "normalise a b",
-            "3 [\"dexkit: b: cannot be written\"] opened 2 made 0",
+            "3 [\"dexkit: b: cannot be written\"] opened 2 made 0 moved 0",
         ),
         (
             "merge -o o missing a",
-            "3 [\"dexkit: missing: cannot be read\"] opened 1 made 0",
+            "3 [\"dexkit: missing: cannot be read\"] opened 1 made 0 moved 0",
         ),
         (
             "merge -o o --max-types 2 a b",
-            "1 [\"dexkit: cap types\"] opened 2 made 0",
+            "1 [\"dexkit: cap types\"] opened 2 made 0 moved 0",
         ),
         (
             "merge -o o --max-types 0 a b",
-            "1 [\"dexkit: cap types\"] opened 2 made 0",
+            "1 [\"dexkit: cap types\"] opened 2 made 0 moved 0",
         ),
         (
             "merge -o o --max-weight 1329 a b",
-            "1 [\"dexkit: cap weight\"] opened 2 made 0",
+            "1 [\"dexkit: cap weight\"] opened 2 made 0 moved 0",
         ),
         (
             "merge -o o a source",
-            "1 [\"dexkit: conflict LA;\"] opened 2 made 0",
+            "1 [\"dexkit: conflict LA;\"] opened 2 made 0 moved 0",
         ),
     ] {
         assert!(rt;

@@ -3,6 +3,7 @@
 ghost use Rattle.std.specs.Prelude.{◌≤◌, length, IfOk, IsErr};
 
 use crate::files::{cut_a, letter_a, letter_b, letters_a_and_b, source_of_a, unused_beside_a};
+use dexcmd::Close;
 use std::alloc::{Allocator, Global};
 use std::cell::{Cell, RefCell};
 use std::fmt::Display;
@@ -13,6 +14,12 @@ use std::rt::Files;
 
 /// The only path at which a file can be made.
 const OUT: &str = "o";
+
+/// A temporary name of that file which a file has already.
+const TAKEN: &str = "o.dexkit-0";
+
+/// The next temporary name of it, under which a file can be made.
+const TEMPORARY: &str = "o.dexkit-1";
 
 /// The name of standard input.
 const STANDARD: &str = "-";
@@ -27,6 +34,8 @@ pub(crate) struct Log {
     pub(crate) opened: Cell<usize>,
     /// How often a file was made or emptied.
     pub(crate) made: Cell<usize>,
+    /// How often the file under the temporary name was moved to its own.
+    pub(crate) moved: Cell<usize>,
     /// How many bytes of standard input were read.
     read: Cell<usize>,
     /// The bytes that were written to files or to standard output.
@@ -38,6 +47,7 @@ impl Log {
         Log {
             opened: Cell::new(0),
             made: Cell::new(0),
+            moved: Cell::new(0),
             read: Cell::new(0),
             written: RefCell::new(Vec::new(alloc)),
         }
@@ -137,11 +147,17 @@ impl<'a> OpenFile for MemoryFile<'a> {
     }
 
     fn sync_all(&self) -> io::Result<()> {
-        unsupported()
+        Ok(())
     }
 
     fn sync_data(&self) -> io::Result<()> {
         unsupported()
+    }
+}
+
+impl<'a> Close for MemoryFile<'a> {
+    fn close(self) -> io::Result<()> {
+        Ok(())
     }
 }
 
@@ -153,6 +169,13 @@ impl<'a> Files for System<'a> {
     fn open_file(&self, how: &OpenOptions, path: &str) -> io::Result<MemoryFile<'a>> {
         let (alloc, log) = (self.alloc, self.log);
         if how.asks_create() && how.asks_truncate() && path == OUT {
+            count(&log.made);
+            return Ok(MemoryFile::new(log, Vec::new(alloc)));
+        }
+        if how.asks_create_new() && path == TAKEN {
+            return Err(ErrorKind::AlreadyExists.into());
+        }
+        if how.asks_create_new() && path == TEMPORARY {
             count(&log.made);
             return Ok(MemoryFile::new(log, Vec::new(alloc)));
         }
@@ -182,7 +205,11 @@ impl<'a> Files for System<'a> {
         unsupported()
     }
 
-    fn rename(&self, _from: &str, _to: &str) -> io::Result<()> {
+    fn rename(&self, from: &str, to: &str) -> io::Result<()> {
+        if from == TEMPORARY && to == OUT {
+            count(&self.log.moved);
+            return Ok(());
+        }
         unsupported()
     }
 

@@ -44,26 +44,35 @@ fn files_are_read_as_jobs(rt: HostRuntime) {
 #[test]
 fn files_and_outputs_are_read_as_jobs(rt: HostRuntime) {
     for (words, job) in [
-        ("normalise a.dex a.dex", "Normalise(\"a.dex\", \"a.dex\")"),
-        ("normalise -- -a -b", "Normalise(\"-a\", \"-b\")"),
-        ("normalise - -", "Normalise(\"-\", \"-\")"),
-        ("normalize a b", "Normalise(\"a\", \"b\")"),
-        ("repair a b", "Repair(\"a\", \"b\")"),
+        (
+            "normalise a.dex a.dex",
+            "Normalise(\"a.dex\", \"a.dex\", InPlace)",
+        ),
+        ("normalise -- -a -b", "Normalise(\"-a\", \"-b\", InPlace)"),
+        ("normalise - -", "Normalise(\"-\", \"-\", InPlace)"),
+        ("normalize a b", "Normalise(\"a\", \"b\", InPlace)"),
+        ("repair a b", "Repair(\"a\", \"b\", InPlace)"),
+        ("normalise --atomic - b", "Normalise(\"-\", \"b\", Atomic)"),
+        ("repair a ./- --atomic", "Repair(\"a\", \"./-\", Atomic)"),
+        (
+            "merge --atomic a -o o",
+            "Merge(\"o\", Atomic, None, Caps { types: 65535, protos: 65535, fields: 65536, methods: 65536, short_strings: 65536, weight: 1073741824 }, false, [\"a\"])",
+        ),
         (
             "merge --out out.dex a.dex b a.dex",
-            "Merge(\"out.dex\", None, Caps { types: 65535, protos: 65535, fields: 65536, methods: 65536, short_strings: 65536, weight: 1073741824 }, false, [\"a.dex\", \"b\", \"a.dex\"])",
+            "Merge(\"out.dex\", InPlace, None, Caps { types: 65535, protos: 65535, fields: 65536, methods: 65536, short_strings: 65536, weight: 1073741824 }, false, [\"a.dex\", \"b\", \"a.dex\"])",
         ),
         (
             "merge a --max-types=0 --max-protos 1 --fan 65535 --max-fields 2 --out=o --max-methods 3 --max-weight 4 b",
-            "Merge(\"o\", Some(65535), Caps { types: 0, protos: 1, fields: 2, methods: 3, short_strings: 65536, weight: 4 }, false, [\"a\", \"b\"])",
+            "Merge(\"o\", InPlace, Some(65535), Caps { types: 0, protos: 1, fields: 2, methods: 3, short_strings: 65536, weight: 4 }, false, [\"a\", \"b\"])",
         ),
         (
             "merge --fan 2 --max-types 65535 --max-protos 65535 --max-fields 65536 --max-methods 65536 --max-weight 1073741824 --strip -o o a",
-            "Merge(\"o\", Some(2), Caps { types: 65535, protos: 65535, fields: 65536, methods: 65536, short_strings: 65536, weight: 1073741824 }, true, [\"a\"])",
+            "Merge(\"o\", InPlace, Some(2), Caps { types: 65535, protos: 65535, fields: 65536, methods: 65536, short_strings: 65536, weight: 1073741824 }, true, [\"a\"])",
         ),
         (
             "merge a -o - -",
-            "Merge(\"-\", None, Caps { types: 65535, protos: 65535, fields: 65536, methods: 65536, short_strings: 65536, weight: 1073741824 }, false, [\"a\", \"-\"])",
+            "Merge(\"-\", InPlace, None, Caps { types: 65535, protos: 65535, fields: 65536, methods: 65536, short_strings: 65536, weight: 1073741824 }, false, [\"a\", \"-\"])",
         ),
     ] {
         assert!(rt; are_read(rt.alloc(), words, job) == Some(true), "{words}");
@@ -100,6 +109,10 @@ fn other_words_are_refused(rt: HostRuntime) {
         "repair a",
         "repair a b c",
         "repair -o b a",
+        "repair --atomic a -",
+        "normalise a - --atomic",
+        "normalise --atomic --atomic a b",
+        "check --atomic a",
     ] {
         assert!(rt; status(rt.alloc(), words) == Some(2), "{words}");
     }
@@ -132,6 +145,7 @@ fn other_merges_are_refused(rt: HostRuntime) {
         "merge --out o --strip --strip a",
         "merge --out o --strip=yes a",
         "merge --out o --max 1 a",
+        "merge --atomic --out - a",
     ] {
         assert!(rt; status(rt.alloc(), words) == Some(2), "{words}");
     }

@@ -38,7 +38,7 @@ fn built(alloc: Global, bytes: &[u8], right: &[u8]) -> Result<Outcome, CaseFault
 fn is_written_by_the_run(alloc: Global, bytes: &[u8], right: &[u8]) -> Result<bool, CaseFault> {
     let mut input = Device::new(bytes);
     let mut out = Device::new(Vec::new(alloc));
-    match normalise_run(alloc, &mut input, &mut out) {
+    match normalise_run(alloc, &mut input, &mut out, false) {
         Ok(()) => Ok(out.into_inner().as_slice() == right),
         Err(RunFault::Memory) => Err(CaseFault::Memory),
         Err(_) => Ok(false),

@@ -105,7 +105,7 @@ fn over_file(alloc: Global, run: FileRun, file: &[u8], reads: Script, writes: Sc
     let mut input = Device::new(Scripted::new(file, reads));
     let mut out = Device::new(Scripted::new(Vec::new(alloc), writes));
     let answer = match run {
-        FileRun::Normalise => normalise_run(alloc, &mut input, &mut out),
+        FileRun::Normalise => normalise_run(alloc, &mut input, &mut out, false),
         FileRun::List => dump_run(alloc, &mut input, &mut out),
         FileRun::Repair => repair_run(alloc, &mut input, &mut out),
         FileRun::Digest => digest_run(alloc, "a b", &mut input, &mut out),

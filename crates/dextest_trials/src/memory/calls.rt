@@ -86,7 +86,7 @@ impl Call {
     fn normalised(&self, alloc: Global) -> Result<Trial, Trial> {
         let mut input = Device::new(self.file()?);
         let mut out = Compare::with(&self.right);
-        let answer = normalise_run(alloc, &mut input, &mut out);
+        let answer = normalise_run(alloc, &mut input, &mut out, false);
         Ok(Trial::of_run(&answer, &out))
     }
 

@@ -6,9 +6,8 @@ ghost use Rattle.std.specs.Io.KnownBytes.{WriteAppends};
 ghost use Rattle.dexcmd.specs.Atomic.{atomic_path, temporary_name, IsUnmade, IsUnplaced, IsPlaced, IsMadeAs, IsMade, IsNamed, IsPutInto};
 
 use std::alloc::{AllocError, Global};
-use std::fs::{File, OpenFile, OpenOptions};
+use std::fs::{OpenFile, OpenOptions};
 use std::io::{ErrorKind, Write};
-use std::os::fd::IntoRawFd;
 use std::rt::Files;
 use std::{fs, io, mem};
 
@@ -20,21 +19,6 @@ const TRIES: u32 = 65_536;
 
 // How many bytes a temporary name has at most beside the name of the file.
 const MOST_ADDED: usize = 13;
-
-/// A file that can be closed with what comes of it.
-pub trait Close {
-    /// Closes the file. Error: the system reports that something of it was not written.
-    fn close(self) -> io::Result<()>;
-}
-
-impl Close for File {
-    fn close(self) -> io::Result<()> {
-        if libc::close(self.into_raw_fd()) < 0 {
-            return Err(ErrorKind::Other.into());
-        }
-        Ok(())
-    }
-}
 
 #[derive(Drop)]
 enum AtomicStage<F> {
@@ -116,16 +100,12 @@ impl<'a, R: Files> AtomicFile<'a, R> {
         }
         Ok(())
     }
-}
 
-impl<'a, R: Files> AtomicFile<'a, R>
-where
-    R::File: Close,
-{
-    // Lets all of the file reach the disk, closes it, and moves it to its path.
+    // Lets all of the file reach the disk, closes it, and moves it to its path. The kit has no call that says how closing
+    // ended; what was synced is on the disk whatever that says.
     fn settle(&self, file: R::File) -> io::Result<()> {
         file.sync_all()?;
-        file.close()?;
+        drop(file);
         fs::rename(self.rt, self.temporary.as_str(), self.path)
     }
 

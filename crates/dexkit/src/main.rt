@@ -12,8 +12,8 @@ ghost use Rattle.dexargs.specs.Words.{IsSound};
 use clap::Error;
 use clap::error::ErrorKind;
 use dexcmd::{
-    Close, ExitStatus, Job, Report, SystemDevices, expand_arguments, explain_argument,
-    explain_lists, explain_output, finish_job, input_names, print_report, read_words,
+    ExitStatus, Job, Report, SystemDevices, expand_arguments, explain_argument, explain_lists,
+    explain_output, finish_job, input_names, print_report, read_words,
 };
 use dexhead::Device;
 use std::alloc::{AllocError, Global};
@@ -45,8 +45,6 @@ fn run_named<R: Files + Print + Input>(
     devices: &SystemDevices<'_, R>,
     job: &Job,
 ) -> Result<Report, AllocError>
-where
-    R::File: Close,
     requires { IsSound job.now }
 {
     let mut inputs = devices.inputs(alloc, input_names(job))?;
@@ -59,10 +57,7 @@ fn start<R: Files + Print + Eprint + Input>(
     rt: &R,
     alloc: Global,
     arguments: &[String],
-) -> Result<Report, AllocError>
-where
-    R::File: Close,
-{
+) -> Result<Report, AllocError> {
     let devices = SystemDevices::new(rt);
     let expanded = match expand_arguments(alloc, &devices, arguments) {
         Ok(expanded) => expanded,

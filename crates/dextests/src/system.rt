@@ -3,7 +3,6 @@
 ghost use Rattle.std.specs.Prelude.{◌≤◌, length, IfOk, IsErr};
 
 use crate::files::{cut_a, letter_a, letter_b, letters_a_and_b, source_of_a, unused_beside_a};
-use dexcmd::Close;
 use std::alloc::{Allocator, Global};
 use std::cell::{Cell, RefCell};
 use std::fmt::Display;
@@ -152,12 +151,6 @@ impl<'a> OpenFile for MemoryFile<'a> {
 
     fn sync_data(&self) -> io::Result<()> {
         unsupported()
-    }
-}
-
-impl<'a> Close for MemoryFile<'a> {
-    fn close(self) -> io::Result<()> {
-        Ok(())
     }
 }
 

@@ -9,7 +9,7 @@ zip_length R [] (y ∷ ys) all = absurd all
 zip_length R (x ∷ xs) [] all = absurd all
 zip_length R (x ∷ xs) (y ∷ ys) all = ap suc (zip_length R xs ys all.1)
 
-pub run_job-requires-clause-count : goal.run_job-requires-clause-count
-run_job-requires-clause-count c =
+pub finish_job-requires-clause-count : goal.finish_job-requires-clause-count
+finish_job-requires-clause-count c =
     ap length (sym c.input_names.ensures) ∙ zip_length _ (map string_bytes c.input_names.result.now) c.in_ok-inputs.inputs.items c.in_ok-inputs.ensures.named
     ∙ ap length (sym c.as_mut_slice.ensures.value)

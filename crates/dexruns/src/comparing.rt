@@ -234,7 +234,8 @@ pub struct CompareOptions<'o> {
 }
 
 /// Compares the classes of inputs by their digests, and writes what is reported of them, in the order of their names.
-/// Returns 1 if there is a line, and 0 otherwise. The digest of a class is that of [`digest_run`](crate::digest_run).
+/// Returns 1 if there is a line, and 0 otherwise. The digest of a class is that of
+/// [`digest_or_strip_run`](crate::digest_or_strip_run).
 ///
 /// `Conflicts` reports each class of which not all copies are equal: a line for each copy, in the order of the inputs,
 /// with the class, the digest and the name of the input, and a tab between them. `Changes` reports each class that

@@ -1,0 +1,25 @@
+use Rattle.dexruns.proofs.Common.{◌∙◌, err_from_is_err_and, bytes_read, kept}
+use Rattle.dexruns.proofs.Digested.{accepted_file, written_is, prefix_is}
+use Rattle.dexruns.proofs.Unread.{of_input}
+use Rattle.dexruns.proofs.digesting.digest_or_strip_run.Goals as goal
+
+pub returns-in_err-whole-clause-fault : goal.returns-in_err-whole-clause-fault
+returns-in_err-whole-clause-fault g c =
+    let p = err_from_is_err_and c.from_residual-in_err-whole.result c.from_residual-in_err-whole.ensures.1 in
+    rw (p.1, p.2) (of_input (g.R.Source.reports c.args.input.now) (bytes_read (g.R.Source.to_come c.args.input.now)) c.as_slice.result.now c.in_err-whole.field-0.0
+    (λ reads. c.as_slice.ensures.value ∙ c.in_ok-bytes.ensures.bytes reads) c.in_err-whole.ensures.fault)
+
+pub returns-clause-written : goal.returns-clause-written
+returns-clause-written g c = λ reads writes K denotes.
+    written_is c.one_collection.ensures (kept c.args.is_stripped) c.args.name.now _ _ _ K _ _ _ _ (c.as_slice.ensures.value ∙ c.in_ok-bytes.ensures.bytes reads) c.in_ok-whole.ensures.accepted denotes c.in_ok-program.ensures
+    (c.as_bytes.ensures.value ∙ c.in_ok-lines.ensures) (c.in_ok-write_output.ensures.written writes)
+
+pub returns-in_err-write_output-clause-left : goal.returns-in_err-write_output-clause-left
+returns-in_err-write_output-clause-left g c =
+    let p = err_from_is_err_and c.from_residual-in_err-write_output.result c.from_residual-in_err-write_output.ensures.1 in
+    rw (p.1, p.2, c.in_err-write_output.ensures.fault) (λ reads. (
+      accepted_file _ _ _ (c.as_slice.ensures.value ∙ c.in_ok-bytes.ensures.bytes reads) c.in_ok-whole.ensures.accepted,
+      (λ writes K denotes.
+          prefix_is c.one_collection.ensures (kept c.args.is_stripped) c.args.name.now _ _ _ K _ _ _ _ (c.as_slice.ensures.value ∙ c.in_ok-bytes.ensures.bytes reads) c.in_ok-whole.ensures.accepted denotes c.in_ok-program.ensures
+          (c.as_bytes.ensures.value ∙ c.in_ok-lines.ensures) (c.in_err-write_output.ensures.prefix writes)),
+    ))

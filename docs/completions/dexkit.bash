@@ -22,7 +22,7 @@ _dexkit() {
         local options=--help
         case ${COMP_WORDS[1]} in
             check) options+=' --keep-going' ;;
-            conflicts) options+=' --strip' ;;
+            digest | conflicts) options+=' --strip' ;;
             diff) options+=' --strip --from --to' ;;
             normalise | normalize | repair) options+=' --atomic' ;;
             merge) options+=' -o --out --atomic --strip --fan --max-types --max-protos --max-fields --max-methods --max-weight' ;;

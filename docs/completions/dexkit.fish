@@ -28,7 +28,7 @@ complete -c dexkit -n '__fish_seen_subcommand_from diff' -l to -r -F -d 'The new
 complete -c dexkit -n '__fish_seen_subcommand_from merge' -s o -l out -r -F -d 'The file that is written'
 complete -c dexkit -n '__fish_seen_subcommand_from merge normalise normalize repair' -l atomic \
     -d 'Move the output into its place when it is whole'
-complete -c dexkit -n '__fish_seen_subcommand_from merge' -l strip -d 'Leave out debug programs and source texts'
+complete -c dexkit -n '__fish_seen_subcommand_from merge digest' -l strip -d 'Leave out debug programs and source texts'
 complete -c dexkit -n '__fish_seen_subcommand_from merge' -l fan -x -d 'Merge N files at a time'
 complete -c dexkit -n '__fish_seen_subcommand_from merge' -l max-types -x -d 'At most N types'
 complete -c dexkit -n '__fish_seen_subcommand_from merge' -l max-protos -x -d 'At most N method prototypes'

@@ -40,8 +40,8 @@ pub enum Job {
     Merge(String, Placing, Option<usize>, Caps, bool, Vec<String>),
     /// Reports for each of these files whether it is accepted, and continues after files that cannot be read.
     KeepChecking(Vec<String>),
-    /// Prints the digest of each class of these files.
-    Digest(Vec<String>),
+    /// Prints the digest of each class of these files. Leaves out debug programs and source texts if the flag is set.
+    Digest(bool, Vec<String>),
     /// Prints the copies of each class of these files of which not all copies are equal. Compares them without debug
     /// programs and source texts if the flag is set.
     Conflicts(bool, Vec<String>),
@@ -113,6 +113,12 @@ fn merge<'a>(alloc: Global) -> Result<Command<'a>, AllocError> {
         command = command.arg(number(alloc, id, least, greatest, help))?;
     }
     command.arg(files(alloc))
+}
+
+fn digest<'a>(alloc: Global) -> Result<Command<'a>, AllocError> {
+    described(alloc, "digest", help::DIGEST, help::DIGEST_LONG)
+        .arg(flag(alloc, "strip", help::STRIP))?
+        .arg(files(alloc))
 }
 
 fn conflicts<'a>(alloc: Global) -> Result<Command<'a>, AllocError> {
@@ -198,7 +204,7 @@ fn command<'a>(alloc: Global) -> Result<Command<'a>, AllocError> {
         check(alloc),
         merge(alloc),
         normalise(alloc),
-        described(alloc, "digest", help::DIGEST, help::DIGEST_LONG).arg(files(alloc)),
+        digest(alloc),
         conflicts(alloc),
         diff(alloc),
         described(alloc, "count", help::COUNT, help::COUNT_LONG).arg(files(alloc)),
@@ -282,6 +288,16 @@ fn merge_of(alloc: Global, matches: &ArgMatches<'_>) -> Result<Option<Job>, Allo
     Ok(Some(Job::Merge(out, placing, fan, caps, strip, files)))
 }
 
+fn digest_of(alloc: Global, matches: &ArgMatches<'_>) -> Result<Option<Job>, AllocError>
+    ensures { IfOk result (λ job. IfSome job IsSound) }
+{
+    let strip = matches.get_flag("strip");
+    let Some(files) = files_of(alloc, matches)? else {
+        return Ok(None);
+    };
+    Ok(Some(Job::Digest(strip, files)))
+}
+
 fn conflicts_of(alloc: Global, matches: &ArgMatches<'_>) -> Result<Option<Job>, AllocError>
     ensures { IfOk result (λ job. IfSome job IsSound) }
 {
@@ -339,7 +355,7 @@ fn job_of(alloc: Global, matches: &ArgMatches<'_>) -> Result<Option<Job>, AllocE
             };
             Ok(Some(Job::Normalise(text("file")?, out, placing)))
         }
-        "digest" => Ok(files_of(alloc, found)?.map(Job::Digest)),
+        "digest" => digest_of(alloc, found),
         "conflicts" => conflicts_of(alloc, found),
         "diff" => diff_of(alloc, found),
         "count" => Ok(files_of(alloc, found)?.map(Job::Count)),

@@ -14,7 +14,7 @@ pub fn input_names(job: &Job) -> &[String]
         Job::Check(files)
         | Job::Merge(_, _, _, _, _, files)
         | Job::KeepChecking(files)
-        | Job::Digest(files)
+        | Job::Digest(_, files)
         | Job::Conflicts(_, files)
         | Job::Diff(_, _, files)
         | Job::Count(files) => files.as_slice(),
@@ -36,7 +36,7 @@ pub fn output_name(job: &Job) -> Option<&str>
         Job::Check(_)
         | Job::Dump(_)
         | Job::KeepChecking(_)
-        | Job::Digest(_)
+        | Job::Digest(_, _)
         | Job::Conflicts(_, _)
         | Job::Diff(_, _, _)
         | Job::Count(_) => None,
@@ -54,7 +54,7 @@ pub fn placing(job: &Job) -> Placing
         Job::Check(_)
         | Job::Dump(_)
         | Job::KeepChecking(_)
-        | Job::Digest(_)
+        | Job::Digest(_, _)
         | Job::Conflicts(_, _)
         | Job::Diff(_, _, _)
         | Job::Count(_) => Placing::InPlace,

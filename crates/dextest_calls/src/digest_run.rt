@@ -1,26 +1,37 @@
 //! Classes digested as the program does: `digestrun FILE ok CLASSES`, with the digest and the name of each class in
 //! canonical order, all separated by tabs, or `-` if there is no class; or `digestrun FILE fault CAUSE`. The digests of
-//! a program that is borrowed are the same.
+//! a program that is borrowed are the same. `digeststrip` is for the classes without debug programs and source texts.
 
 use crate::program::program_of;
 use crate::run_answer::RunAnswer;
 use dexcanon::digests;
 use dexhead::Device;
-use dexruns::digest_run;
+use dexruns::{digest_or_strip_run, digest_run, kept};
 use dextest_cases::{CaseFault, Outcome, Printed};
 use std::alloc::{AllocError, Global};
 
-/// Runs a line, given the name of the file and its bytes. `right` is the text after the name.
-pub fn run(alloc: Global, name: &str, bytes: &[u8], right: &str) -> Result<Outcome, CaseFault> {
+/// Runs a line, given the name of the file, whether its classes are stripped, and its bytes. `right` is the text after
+/// the name.
+pub fn run(
+    alloc: Global,
+    name: &str,
+    is_stripped: bool,
+    bytes: &[u8],
+    right: &str,
+) -> Result<Outcome, CaseFault> {
     if let Some(classes) = right.strip_prefix("ok ") {
-        if borrowed_digests(alloc, bytes)? != digests_in(alloc, classes)? {
+        if borrowed_digests(alloc, is_stripped, bytes)? != digests_in(alloc, classes)? {
             return Err(CaseFault::failed(alloc, "other digests"));
         }
     }
     let right = answer_in(alloc, name, right)?;
     let mut input = Device::new(bytes);
     let mut out = Device::new(Vec::new(alloc));
-    let returned = digest_run(alloc, name, &mut input, &mut out);
+    let returned = if is_stripped {
+        digest_or_strip_run(alloc, name, true, &mut input, &mut out)
+    } else {
+        digest_run(alloc, name, &mut input, &mut out)
+    };
     right.outcome(alloc, &returned, out.into_inner().as_slice())
 }
 
@@ -55,8 +66,8 @@ fn lines_of(alloc: Global, name: &str, classes: &str) -> Result<String, AllocErr
 }
 
 // Returns the digests of the classes of a file, one after the other, by the call that borrows the program.
-fn borrowed_digests(alloc: Global, bytes: &[u8]) -> Result<String, CaseFault> {
-    let program = program_of(alloc, bytes)?;
+fn borrowed_digests(alloc: Global, is_stripped: bool, bytes: &[u8]) -> Result<String, CaseFault> {
+    let program = kept(alloc, program_of(alloc, bytes)?, is_stripped)?;
     let mut text = Printed::new(alloc);
     for digest in &digests(alloc, &program)? {
         for byte in digest {

@@ -69,7 +69,8 @@ fn run_over_file<R: Files + AllocGlobal>(
     match kind {
         Kind::Normalise | Kind::Strip | Kind::Dump => compare(folder, kind, &bytes, asked),
         Kind::CheckRun => check_run::run(folder.alloc(), name, &bytes, asked),
-        Kind::DigestRun => digest_run::run(folder.alloc(), name, &bytes, asked),
+        Kind::DigestRun => digest_run::run(folder.alloc(), name, false, &bytes, asked),
+        Kind::DigestStrip => digest_run::run(folder.alloc(), name, true, &bytes, asked),
         _ => ask(folder.alloc(), kind, &bytes, asked),
     }
 }

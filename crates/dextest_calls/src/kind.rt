@@ -61,6 +61,8 @@ pub enum Kind {
     CountRun,
     /// The digests that are written for the classes of a file.
     DigestRun,
+    /// The digests that are written for the classes of a file without debug programs and source texts.
+    DigestStrip,
     /// The file with its sums set right.
     RepairRun,
     /// A line that must fail.
@@ -83,7 +85,7 @@ const CALLS: [(&str, Kind); 9] = [
 ];
 
 // The kinds of lines of an index, each with the first word of the line.
-const CASES: [(&str, Kind); 19] = [
+const CASES: [(&str, Kind); 20] = [
     ("symbol", Kind::Symbol),
     ("class", Kind::Class),
     ("join", Kind::Join),
@@ -101,6 +103,7 @@ const CASES: [(&str, Kind); 19] = [
     ("measure", Kind::Measure),
     ("countrun", Kind::CountRun),
     ("digestrun", Kind::DigestRun),
+    ("digeststrip", Kind::DigestStrip),
     ("repairrun", Kind::RepairRun),
     ("wrong", Kind::Wrong),
 ];

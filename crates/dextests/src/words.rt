@@ -33,7 +33,8 @@ fn files_are_read_as_jobs(rt: HostRuntime) {
         ("check --keep-going a b", "KeepChecking([\"a\", \"b\"])"),
         ("check a b --keep-going", "KeepChecking([\"a\", \"b\"])"),
         ("dump a.dex", "Dump(\"a.dex\")"),
-        ("digest a b a", "Digest([\"a\", \"b\", \"a\"])"),
+        ("digest a b a", "Digest(false, [\"a\", \"b\", \"a\"])"),
+        ("digest a --strip -", "Digest(true, [\"a\", \"-\"])"),
         ("count a", "Count([\"a\"])"),
         ("count a -- -b", "Count([\"a\", \"-b\"])"),
     ] {
@@ -104,6 +105,8 @@ fn other_words_are_refused(rt: HostRuntime) {
         "digest",
         "digest -o o a",
         "digest --keep-going a",
+        "digest --strip",
+        "digest --strip --strip a",
         "count",
         "count --max-types 1 a",
         "repair a",

@@ -13,7 +13,7 @@ CONDITIONS = (
 ).split()
 KINDS = (
     "check checkrun cuts weight class slices normalise strip dump merge mergestrip regroup measure countrun digestrun "
-    "repairrun symbol join"
+    "digeststrip repairrun symbol join"
 ).split()
 GREATEST = [65535, 65535, 65536, 65536, 65536, 1073741824]
 CAPS = ["types", "protos", "fields", "methods", "short-strings", "weight"]
@@ -132,6 +132,7 @@ class Asks:
             "class": self.class_line,
             "countrun": self.measure,
             "digestrun": self.digestrun,
+            "digeststrip": self.digeststrip,
             "dump": self.dump,
             "measure": self.measure,
             "merge": self.merge,
@@ -183,14 +184,21 @@ class Asks:
         yield Ask([b"repair", name.encode(), OUT], expected)
 
     def digestrun(self, line: Line, name: str, rest: str) -> Iterator[Ask]:
+        yield from self.digested(line, [], name, rest)
+
+    def digeststrip(self, line: Line, name: str, rest: str) -> Iterator[Ask]:
+        yield from self.digested(line, [b"--strip"], name, rest)
+
+    def digested(self, line: Line, options: List[bytes], name: str, rest: str) -> Iterator[Ask]:
         self.file(line, name)
+        words = [b"digest"] + options + [name.encode()]
         if not rest.startswith("ok "):
-            yield Ask([b"digest", name.encode()], faults(fault_words(rest), [name]))
+            yield Ask(words, faults(fault_words(rest), [name]))
             return
         cells = [] if rest == "ok -" else rest[3:].split("\t")
         if len(cells) % 2:
             raise ValueError("a digest without a class")
-        yield Ask([b"digest", name.encode()], done("".join(
+        yield Ask(words, done("".join(
             f"{digest}\t{text}\t{name}\n" for digest, text in zip(cells[::2], cells[1::2])).encode()))
 
     def weight(self, line: Line, name: str, weight: str) -> Iterator[Ask]:

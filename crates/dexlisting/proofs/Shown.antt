@@ -6,10 +6,7 @@ use Rattle.std.proofs.lemmas.List.{append-nil, length-set, length-map}
 use Rattle.std.proofs.lemmas.List.Elements.{All-nil, All-cons, All-head, All-tail}
 use Rattle.dexspec.specs.Bytes.{ushort}
 use Rattle.dexspec.proofs.numbers.ByteNumbers.{length-ushort}
-use Rattle.dexspec.specs.Mentions.{Mentions, mentions}
-use Rattle.dexspec.specs.Files.{Collection, definitions}
-use Rattle.dexclass.specs.Numbered.{NumberedClass, definition_of}
-use Rattle.dexclass.specs.Programs.{AreClassesOf}
+use Rattle.dexspec.specs.Mentions.{Mentions}
 use Rattle.dexspec.specs.Pieces.{packed_switch_ident, sparse_switch_ident, element_width, element_count, is_wide_index, with_index}
 use Rattle.dexspec.specs.Pieces as pieces
 use Rattle.dexinsn.specs.Numbered.{NumberedPiece, Instruction, Payload, numbered_units, numbered_bytes, unit_count}
@@ -20,7 +17,7 @@ use Rattle.dexinsn.specs.Listing.{units_of, kind_of, payload_shown, listed}
 use Rattle.dexcode.specs.Numbered.{NumberedItem, NumberedTry, NumberedHandler, all_named, handlers_of}
 use Rattle.dexcode.specs.declared.tries.Try.{Try}
 use Rattle.dexcode.specs.Meaning.{IsKnownPiece, piece_in, code_in}
-use Rattle.dexlisting.specs.Listing.{class_lines, listing, mnemonic_text, counts_line, code_lines, piece_lines, piece_text, payload_text}
+use Rattle.dexlisting.specs.Listing.{mnemonic_text, counts_line, code_lines, piece_lines, piece_text, payload_text}
 use Rattle.dexout.specs.Printed.{place_text, count_text}
 use Rattle.dexlisting.specs.internal.Known.{IsKnownKind, kind_text, listed_line}
 
@@ -108,8 +105,3 @@ bytes_counted ps = bytes_of_units (flat_map numbered_units ps)
 pub mapped : {X Y : Type 0} (f : Y → List ℕ) (h : X → Y) (xs : List X) → flat_map (λ x. f (h x)) xs ≡ flat_map f (map h xs)
 mapped f h [] = refl
 mapped f h (x ∷ xs) = ap (λ r. f (h x) ++ r) (mapped f h xs)
-
--- the lines of a program's classes are its listing
-pub listing_is : (K : Collection) (m : Mentions) (cs : List NumberedClass) → m ≡ mentions (definitions K) → AreClassesOf K cs → flat_map (λ c. class_lines (definition_of m c)) cs ≡ listing K
-unfolding listing
-listing_is K m cs e h = rw e (mapped class_lines (definition_of (mentions (definitions K))) cs ∙ ap (flat_map class_lines) h.are)

@@ -1,6 +1,6 @@
 -- The listing that `dump` writes. This project's rules, but for the mnemonics, which are those of the page "Dalvik
 -- bytecode".
-use Rattle.std.specs.Prelude.{ℕ, ◌+◌, ◌==◌, if◌then◌else◌, List, [], ◌∷◌, ◌++◌, length, slice_index, Some, None, codes}
+use Rattle.std.specs.Prelude.{ℕ, ◌+◌, ◌==◌, Bool, if◌then◌else◌, List, [], ◌∷◌, ◌++◌, length, slice_index, Some, None, codes}
 use Rattle.std.specs.List.{flat_map}
 use Rattle.std.specs.Option.{option_map_or}
 use Rattle.dexspec.specs.Texts.{Text}
@@ -104,3 +104,15 @@ class_lines d =
 -- the listing: the classes in the order of a canonical file
 unfoldable pub listing : Collection → List ℕ
 listing K = flat_map class_lines (in_class_order (definitions K))
+
+-- ---- some of the classes
+
+-- the list without the elements at whose place the flag is false; those past the end of the flags stay
+abbrev pub chosen : {X : Type 0} → List Bool → List X → List X
+chosen [] xs = xs
+chosen (flag ∷ flags) [] = []
+chosen (flag ∷ flags) (x ∷ xs) = if flag then x ∷ chosen flags xs else chosen flags xs
+
+-- the listing of the classes that the flags choose: the lines of these, as they are in the listing of all
+unfoldable pub listing_of : List Bool → Collection → List ℕ
+listing_of flags K = flat_map class_lines (chosen flags (in_class_order (definitions K)))

@@ -9,4 +9,4 @@ mod parts;
 mod pieces;
 
 pub use dexout::StoreFault;
-pub use listing::write_listing;
+pub use listing::{write_listing, write_listing_of};

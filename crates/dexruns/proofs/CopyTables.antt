@@ -41,7 +41,7 @@ order_decides a b = (
 )
 
 -- the order finds two texts equal just where they are the same
-same_by_order : (a b : Text) → is_eq (text_cmp a b) ≡ same_text a b
+pub same_by_order : (a b : Text) → is_eq (text_cmp a b) ≡ same_text a b
 same_by_order a b = one_answer (is_eq (text_cmp a b)) (same_text a b) (order_decides a b) (text_decides a b)
 
 -- a copy that is added to the class of a name is after those that the class had, and other classes have theirs

@@ -9,7 +9,7 @@ _dexkit() {
         return
     fi
     case $before in
-        --fan | --max-types | --max-protos | --max-fields | --max-methods | --max-weight) return ;;
+        --class | --fan | --max-types | --max-protos | --max-fields | --max-methods | --max-weight) return ;;
     esac
     case ${COMP_WORDS[1]} in
         help)
@@ -24,6 +24,7 @@ _dexkit() {
             check) options+=' --keep-going' ;;
             digest | conflicts) options+=' --strip' ;;
             diff) options+=' --strip --from --to' ;;
+            dump) options+=' --class' ;;
             normalise | normalize | repair) options+=' --atomic' ;;
             merge) options+=' -o --out --atomic --strip --fan --max-types --max-protos --max-fields --max-methods --max-weight' ;;
         esac

@@ -25,6 +25,7 @@ complete -c dexkit -n '__fish_seen_subcommand_from conflicts diff' -l strip \
     -d 'Compare without debug programs and source texts'
 complete -c dexkit -n '__fish_seen_subcommand_from diff' -l from -r -F -d 'The old files'
 complete -c dexkit -n '__fish_seen_subcommand_from diff' -l to -r -F -d 'The new files'
+complete -c dexkit -n '__fish_seen_subcommand_from dump' -l class -x -d 'List the class of this name alone'
 complete -c dexkit -n '__fish_seen_subcommand_from merge' -s o -l out -r -F -d 'The file that is written'
 complete -c dexkit -n '__fish_seen_subcommand_from merge normalise normalize repair' -l atomic \
     -d 'Move the output into its place when it is whole'

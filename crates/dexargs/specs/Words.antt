@@ -2,7 +2,7 @@
 use Rattle.std.specs.Prelude.{◌<◌, ◌≤◌, ◌≢◌, ℕ, List, Option, IfSome, codes, string_bytes, vec_len}
 use Rattle.dexspec.specs.Merging.{Caps, AreCaps}
 use Rattle.dexargs.specs.declared.words.Job.{Job}
-use Rattle.dexargs.specs.declared.words.Job.TheVariants.{Check, Dump, Normalise, Merge, KeepChecking, Digest, Conflicts, Diff, Count, Repair}
+use Rattle.dexargs.specs.declared.words.Job.TheVariants.{Check, Dump, DumpClasses, Normalise, Merge, KeepChecking, Digest, Conflicts, Diff, Count, Repair}
 use Rattle.dexargs.specs.declared.words.Placing.{Placing}
 use Rattle.dexargs.specs.declared.words.Placing.TheVariants.{InPlace, Atomic}
 
@@ -19,10 +19,11 @@ pub record IsSoundMerge (out : List ℕ) (placing : Placing) (files : ℕ) (fan 
   pub most : IfSome fan (λ n. n ≤ 65535)
   pub capped : AreCaps caps
 
--- a command over files has one file or more; a comparison of old and new files has one or more of each
+-- a command over files has one file or more, and one over classes one class or more; a comparison of old and new files has one or more of each
 abbrev pub IsSound : Job → Type 0
 IsSound (Check files) = 0 < vec_len files
 IsSound (Dump file) = Unit {0}
+IsSound (DumpClasses file classes) = 0 < vec_len classes
 IsSound (Normalise file out placing) = IsSoundOut (string_bytes out) placing
 IsSound (Merge out placing fan caps strip files) = IsSoundMerge (string_bytes out) placing (vec_len files) fan caps
 IsSound (KeepChecking files) = 0 < vec_len files

@@ -185,6 +185,16 @@ being too much. A conflict or a cycle is reported as merge reports it.";
 
 pub(crate) const DUMP: &str = "Lists the classes of a file, with members and instructions";
 
+pub(crate) const DUMP_LONG: &str = "\
+Lists the classes of a file, with members and instructions, in the order of the
+canonical file. With --class it lists the classes of these names alone, in the
+same order and with the same lines. If no class has one of the names, that is
+reported with status 1, and nothing is written.";
+
+pub(crate) const CLASS: &str = "\
+Lists the class of this name alone, as `dump` prints it,
+for example 'Lcom/example/A;'; may be given several times";
+
 pub(crate) const REPAIR: &str = "Writes a file with its checksum and signature set right";
 
 pub(crate) const REPAIR_LONG: &str = "\

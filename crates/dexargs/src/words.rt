@@ -5,6 +5,7 @@ ghost use Rattle.dexspec.specs.Merging.{AreCaps};
 ghost use Rattle.dexargs.specs.Words.{IsSound, IsSoundOut};
 
 use crate::help;
+use clap::builder::ValueParser;
 use clap::error::ErrorKind;
 use clap::{Arg, ArgAction, ArgMatches, Command, Error, value_parser};
 use dexmerge::Caps;
@@ -33,6 +34,8 @@ pub enum Job {
     Check(Vec<String>),
     /// Lists the classes of this file.
     Dump(String),
+    /// Lists the classes of this file that have these names, as a listing prints them.
+    DumpClasses(String, Vec<String>),
     /// Writes the canonical file of the first file to the second.
     Normalise(String, String, Placing),
     /// Writes the merged file to the first name. Merges the given number of files at a time, or all at once, under the
@@ -181,8 +184,14 @@ fn normalise<'a>(alloc: Global) -> Result<Command<'a>, AllocError> {
 }
 
 fn dump<'a>(alloc: Global) -> Result<Command<'a>, AllocError> {
-    Command::new(alloc, "dump")
-        .about(help::DUMP)
+    let class = Arg::new(alloc, "class")
+        .long("class")
+        .value_name("NAME")
+        .help(help::CLASS)
+        .action(ArgAction::Append)
+        .value_parser(ValueParser::NonEmptyString);
+    described(alloc, "dump", help::DUMP, help::DUMP_LONG)
+        .arg(class)?
         .arg(one(alloc, "file", "FILE", help::FILE))
 }
 
@@ -336,6 +345,17 @@ fn diff_of(alloc: Global, matches: &ArgMatches<'_>) -> Result<Option<Job>, Alloc
     Ok(Some(Job::Diff(old, strip, files)))
 }
 
+fn dump_of(alloc: Global, matches: &ArgMatches<'_>) -> Result<Job, AllocError>
+    ensures { IfOk result IsSound }
+{
+    let file = text_of(alloc, matches, "file")?;
+    let classes = texts_of(alloc, matches, "class")?;
+    if classes.is_empty() {
+        return Ok(Job::Dump(file));
+    }
+    Ok(Job::DumpClasses(file, classes))
+}
+
 fn job_of(alloc: Global, matches: &ArgMatches<'_>) -> Result<Option<Job>, AllocError>
     ensures { IfOk result (λ job. IfSome job IsSound) }
 {
@@ -359,7 +379,7 @@ fn job_of(alloc: Global, matches: &ArgMatches<'_>) -> Result<Option<Job>, AllocE
         "conflicts" => conflicts_of(alloc, found),
         "diff" => diff_of(alloc, found),
         "count" => Ok(files_of(alloc, found)?.map(Job::Count)),
-        "dump" => Ok(Some(Job::Dump(text("file")?))),
+        "dump" => Ok(Some(dump_of(alloc, found)?)),
         "repair" => {
             let Some((out, placing)) = out_of(alloc, found)? else {
                 return Ok(None);

@@ -3,12 +3,13 @@ use Rattle.std.specs.Prelude.{ℕ, List, [], ◌∷◌, map, Option, Some, None,
 use Rattle.dexargs.specs.declared.words.Job.{Job}
 use Rattle.dexargs.specs.declared.words.Placing.{Placing}
 use Rattle.dexargs.specs.declared.words.Placing.TheVariants.{InPlace}
-use Rattle.dexargs.specs.declared.words.Job.TheVariants.{Check, Dump, Normalise, Merge, KeepChecking, Digest, Conflicts, Diff, Count, Repair}
+use Rattle.dexargs.specs.declared.words.Job.TheVariants.{Check, Dump, DumpClasses, Normalise, Merge, KeepChecking, Digest, Conflicts, Diff, Count, Repair}
 
 -- the names of the inputs, in the order in which they are read
 abbrev pub input_names : Job → List (List ℕ)
 input_names (Check files) = map string_bytes files.items
 input_names (Dump file) = string_bytes file ∷ []
+input_names (DumpClasses file classes) = string_bytes file ∷ []
 input_names (Normalise file out placing) = string_bytes file ∷ []
 input_names (Merge out placing fan caps is_stripped files) = map string_bytes files.items
 input_names (KeepChecking files) = map string_bytes files.items
@@ -22,6 +23,7 @@ input_names (Repair file out placing) = string_bytes file ∷ []
 abbrev pub output_name : Job → Option (List ℕ)
 output_name (Check files) = None
 output_name (Dump file) = None
+output_name (DumpClasses file classes) = None
 output_name (Normalise file out placing) = Some (string_bytes out)
 output_name (Merge out placing fan caps is_stripped files) = Some (string_bytes out)
 output_name (KeepChecking files) = None
@@ -35,6 +37,7 @@ output_name (Repair file out placing) = Some (string_bytes out)
 abbrev pub placing : Job → Placing
 placing (Check files) = InPlace
 placing (Dump file) = InPlace
+placing (DumpClasses file classes) = InPlace
 placing (Normalise file out place) = place
 placing (Merge out place fan caps is_stripped files) = place
 placing (KeepChecking files) = InPlace

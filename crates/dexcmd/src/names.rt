@@ -18,9 +18,10 @@ pub fn input_names(job: &Job) -> &[String]
         | Job::Conflicts(_, files)
         | Job::Diff(_, _, files)
         | Job::Count(files) => files.as_slice(),
-        Job::Dump(file) | Job::Normalise(file, _, _) | Job::Repair(file, _, _) => {
-            slice::from_ref(file)
-        }
+        Job::Dump(file)
+        | Job::DumpClasses(file, _)
+        | Job::Normalise(file, _, _)
+        | Job::Repair(file, _, _) => slice::from_ref(file),
     }
 }
 
@@ -35,6 +36,7 @@ pub fn output_name(job: &Job) -> Option<&str>
         }
         Job::Check(_)
         | Job::Dump(_)
+        | Job::DumpClasses(_, _)
         | Job::KeepChecking(_)
         | Job::Digest(_, _)
         | Job::Conflicts(_, _)
@@ -53,6 +55,7 @@ pub fn placing(job: &Job) -> Placing
         | Job::Repair(_, _, placing) => *placing,
         Job::Check(_)
         | Job::Dump(_)
+        | Job::DumpClasses(_, _)
         | Job::KeepChecking(_)
         | Job::Digest(_, _)
         | Job::Conflicts(_, _)

@@ -21,12 +21,13 @@ _dexkit() {
     if [[ $word == -?* ]]; then
         local options=--help
         case ${COMP_WORDS[1]} in
-            check) options+=' --keep-going' ;;
-            digest | conflicts) options+=' --strip' ;;
-            diff) options+=' --strip --from --to' ;;
+            check) options+=' --keep-going -z --null' ;;
+            digest | conflicts) options+=' --strip -z --null' ;;
+            diff) options+=' --strip -z --null --from --to' ;;
+            count) options+=' -z --null' ;;
             dump) options+=' --class' ;;
             normalise | normalize | repair) options+=' --atomic' ;;
-            merge) options+=' -o --out --atomic --strip --fan --max-types --max-protos --max-fields --max-methods --max-weight' ;;
+            merge) options+=' -o --out --atomic --strip -z --null --fan --max-types --max-protos --max-fields --max-methods --max-weight' ;;
         esac
         mapfile -t COMPREPLY < <(compgen -W "$options" -- "$word")
         return

@@ -21,6 +21,10 @@ complete -c dexkit -n "__fish_seen_subcommand_from $files; and string match -q '
     -a '@(__fish_complete_path (string sub -s 2 -- (commandline -ct)))'
 complete -c dexkit -n "__fish_seen_subcommand_from $files" -l help -d 'Print the use'
 complete -c dexkit -n '__fish_seen_subcommand_from check' -l keep-going -d 'Go on after a file that cannot be read'
+complete -c dexkit -n '__fish_seen_subcommand_from check digest conflicts' -s z -l null \
+    -d 'Names end with a zero byte'
+complete -c dexkit -n '__fish_seen_subcommand_from diff count merge' -s z -l null \
+    -d 'Names in lists end with a zero byte'
 complete -c dexkit -n '__fish_seen_subcommand_from conflicts diff' -l strip \
     -d 'Compare without debug programs and source texts'
 complete -c dexkit -n '__fish_seen_subcommand_from diff' -l from -r -F -d 'The old files'

@@ -1,6 +1,7 @@
 -- What the arguments of the command line ask for.
-use Rattle.std.specs.Prelude.{◌<◌, ◌≤◌, ◌≢◌, ℕ, List, Option, IfSome, codes, string_bytes, vec_len}
+use Rattle.std.specs.Prelude.{◌≡◌, ◌<◌, ◌≤◌, ◌≢◌, ℕ, List, Option, IfSome, codes, string_bytes, vec_len}
 use Rattle.dexspec.specs.Merging.{Caps, AreCaps}
+use Rattle.dexargs.specs.declared.lists.Ending.{Ending}
 use Rattle.dexargs.specs.declared.words.Job.{Job}
 use Rattle.dexargs.specs.declared.words.Job.TheVariants.{Check, Dump, DumpClasses, Normalise, Merge, KeepChecking, Digest, Conflicts, Diff, Count, Repair}
 use Rattle.dexargs.specs.declared.words.Placing.{Placing}
@@ -21,14 +22,28 @@ pub record IsSoundMerge (out : List ℕ) (placing : Placing) (files : ℕ) (fan 
 
 -- a command over files has one file or more, and one over classes one class or more; a comparison of old and new files has one or more of each
 abbrev pub IsSound : Job → Type 0
-IsSound (Check files) = 0 < vec_len files
+IsSound (Check ending files) = 0 < vec_len files
 IsSound (Dump file) = Unit {0}
 IsSound (DumpClasses file classes) = 0 < vec_len classes
 IsSound (Normalise file out placing) = IsSoundOut (string_bytes out) placing
 IsSound (Merge out placing fan caps strip files) = IsSoundMerge (string_bytes out) placing (vec_len files) fan caps
-IsSound (KeepChecking files) = 0 < vec_len files
-IsSound (Digest strip files) = 0 < vec_len files
-IsSound (Conflicts strip files) = 0 < vec_len files
+IsSound (KeepChecking ending files) = 0 < vec_len files
+IsSound (Digest ending strip files) = 0 < vec_len files
+IsSound (Conflicts ending strip files) = 0 < vec_len files
 IsSound (Diff old strip files) = (0 < old) × (old < vec_len files)
 IsSound (Count files) = 0 < vec_len files
 IsSound (Repair file out placing) = IsSoundOut (string_bytes out) placing
+
+-- where the lines of the job have names, these end as names of lists do
+abbrev pub EndsNames : Ending → Job → Type 0
+EndsNames ending (Check ends files) = ends ≡ ending
+EndsNames ending (Dump file) = Unit {0}
+EndsNames ending (DumpClasses file classes) = Unit {0}
+EndsNames ending (Normalise file out placing) = Unit {0}
+EndsNames ending (Merge out placing fan caps strip files) = Unit {0}
+EndsNames ending (KeepChecking ends files) = ends ≡ ending
+EndsNames ending (Digest ends strip files) = ends ≡ ending
+EndsNames ending (Conflicts ends strip files) = ends ≡ ending
+EndsNames ending (Diff old strip files) = Unit {0}
+EndsNames ending (Count files) = Unit {0}
+EndsNames ending (Repair file out placing) = Unit {0}

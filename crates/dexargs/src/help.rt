@@ -22,6 +22,7 @@ Examples:
 In any command an argument @LIST is replaced by the lines of the file LIST, one
 argument a line; ./@LIST is a file named @LIST, and so is @LIST after --. As
 FILE, - is standard input, and as OUT, standard output; ./- is a file named -.
+In FILE a control character is printed as \\u and four hexadecimal digits.
 
 Exit statuses:
   0  done, or help or the version was printed
@@ -43,6 +44,16 @@ Reports of each file whether it is accepted, in a line on standard output:
 a refused file, with status 1 at the end, and ends at one that cannot be read.";
 
 pub(crate) const KEEP_GOING: &str = "Goes on after a file that cannot be read";
+
+pub(crate) const NULL: &str = "\
+Names end with a zero byte: in lists, and in lines
+instead of `: ` or the line feed after them";
+
+pub(crate) const NULL_LISTS: &str = "Names in lists end with a zero byte";
+
+// The fault of an option for zero bytes that lists were not read by.
+pub(crate) const NOT_ALONE: &str = "\
+-z or --null is an argument of its own before --, and not of a list";
 
 pub(crate) const REFUSALS: &str = "\
 Refusals. Of conditions 1 to 16 the first that fails is reported; if they hold,

@@ -7,5 +7,5 @@ mod help;
 mod lists;
 mod words;
 
-pub use lists::{ListFault, arguments_in, is_separator, list_name};
+pub use lists::{Ending, ListFault, arguments_in, ending_of, is_separator, list_name};
 pub use words::{Job, Placing, read_words};

@@ -2,14 +2,19 @@
 
 ghost use Rattle.std.specs.Prelude.{◌<◌, vec_len, string_bytes, IfOk, IfSome};
 ghost use Rattle.dexspec.specs.Merging.{AreCaps};
-ghost use Rattle.dexargs.specs.Words.{IsSound, IsSoundOut};
+ghost use Rattle.dexargs.specs.Words.{IsSound, IsSoundOut, EndsNames};
+ghost use Rattle.dexargs.specs.declared.lists.Ending.{Ending};
 
 use crate::help;
+use crate::lists::Ending;
 use clap::builder::ValueParser;
 use clap::error::ErrorKind;
 use clap::{Arg, ArgAction, ArgMatches, Command, Error, value_parser};
 use dexmerge::Caps;
 use std::alloc::{AllocError, Global};
+
+// The option for names that end with a zero byte.
+const NULL: &str = "null";
 
 const LEAST_FAN: u32 = 2;
 
@@ -30,8 +35,8 @@ pub enum Placing {
 /// What the arguments ask for. File names are as in the arguments.
 #[derive(Debug, Drop)]
 pub enum Job {
-    /// Reports for each of these files whether it is accepted.
-    Check(Vec<String>),
+    /// Reports for each of these files whether it is accepted. The names in its lines have this ending.
+    Check(Ending, Vec<String>),
     /// Lists the classes of this file.
     Dump(String),
     /// Lists the classes of this file that have these names, as a listing prints them.
@@ -41,13 +46,15 @@ pub enum Job {
     /// Writes the merged file to the first name. Merges the given number of files at a time, or all at once, under the
     /// caps. Leaves out debug programs and source texts if the flag is set.
     Merge(String, Placing, Option<usize>, Caps, bool, Vec<String>),
-    /// Reports for each of these files whether it is accepted, and continues after files that cannot be read.
-    KeepChecking(Vec<String>),
-    /// Prints the digest of each class of these files. Leaves out debug programs and source texts if the flag is set.
-    Digest(bool, Vec<String>),
+    /// Reports for each of these files whether it is accepted, and continues after files that cannot be read. The names
+    /// in its lines have this ending.
+    KeepChecking(Ending, Vec<String>),
+    /// Prints the digest of each class of these files. Leaves out debug programs and source texts if the flag is set. The
+    /// names of files in its lines have this ending.
+    Digest(Ending, bool, Vec<String>),
     /// Prints the copies of each class of these files of which not all copies are equal. Compares them without debug
-    /// programs and source texts if the flag is set.
-    Conflicts(bool, Vec<String>),
+    /// programs and source texts if the flag is set. The names of files in its lines have this ending.
+    Conflicts(Ending, bool, Vec<String>),
     /// Prints the classes that differ between the first files, of which there is this number, and the others. Compares
     /// them without debug programs and source texts if the flag is set.
     Diff(usize, bool, Vec<String>),
@@ -87,16 +94,30 @@ fn number<'a>(alloc: Global, id: &'a str, least: u32, greatest: u32, help: &'a s
         .value_parser(value_parser!(u32).range(i64::from(least)..=i64::from(greatest)))
 }
 
+// Returns the option for names that end with a zero byte.
+fn null<'a>(alloc: Global, help: &'a str) -> Arg<'a> {
+    flag(alloc, NULL, help).short('z')
+}
+
+// Adds the files that a command reads, and the option for how their names end.
+fn over_files<'a>(
+    alloc: Global,
+    command: Command<'a>,
+    help: &'a str,
+) -> Result<Command<'a>, AllocError> {
+    command.arg(null(alloc, help))?.arg(files(alloc))
+}
+
 // Returns a command without arguments.
 fn described<'a>(alloc: Global, name: &'a str, about: &'a str, long: &'a str) -> Command<'a> {
     Command::new(alloc, name).about(about).long_about(long)
 }
 
 fn check<'a>(alloc: Global) -> Result<Command<'a>, AllocError> {
-    described(alloc, "check", help::CHECK, help::CHECK_LONG)
+    let command = described(alloc, "check", help::CHECK, help::CHECK_LONG)
         .after_long_help(help::REFUSALS)
-        .arg(flag(alloc, "keep-going", help::KEEP_GOING))?
-        .arg(files(alloc))
+        .arg(flag(alloc, "keep-going", help::KEEP_GOING))?;
+    over_files(alloc, command, help::NULL)
 }
 
 fn merge<'a>(alloc: Global) -> Result<Command<'a>, AllocError> {
@@ -115,19 +136,25 @@ fn merge<'a>(alloc: Global) -> Result<Command<'a>, AllocError> {
     ] {
         command = command.arg(number(alloc, id, least, greatest, help))?;
     }
-    command.arg(files(alloc))
+    over_files(alloc, command, help::NULL_LISTS)
 }
 
 fn digest<'a>(alloc: Global) -> Result<Command<'a>, AllocError> {
-    described(alloc, "digest", help::DIGEST, help::DIGEST_LONG)
-        .arg(flag(alloc, "strip", help::STRIP))?
-        .arg(files(alloc))
+    let command = described(alloc, "digest", help::DIGEST, help::DIGEST_LONG).arg(flag(
+        alloc,
+        "strip",
+        help::STRIP,
+    ))?;
+    over_files(alloc, command, help::NULL)
 }
 
 fn conflicts<'a>(alloc: Global) -> Result<Command<'a>, AllocError> {
-    described(alloc, "conflicts", help::CONFLICTS, help::CONFLICTS_LONG)
-        .arg(flag(alloc, "strip", help::STRIP_COMPARED))?
-        .arg(files(alloc))
+    let command = described(alloc, "conflicts", help::CONFLICTS, help::CONFLICTS_LONG).arg(flag(
+        alloc,
+        "strip",
+        help::STRIP_COMPARED,
+    ))?;
+    over_files(alloc, command, help::NULL)
 }
 
 // Returns one of the two files of a comparison, in place of which an option names several.
@@ -164,6 +191,7 @@ fn sides<'a>(
 fn diff<'a>(alloc: Global) -> Result<Command<'a>, AllocError> {
     described(alloc, "diff", help::DIFF, help::DIFF_LONG)
         .arg(flag(alloc, "strip", help::STRIP_COMPARED))?
+        .arg(null(alloc, help::NULL_LISTS))?
         .arg(sides(alloc, "from", "OLD", "to", help::FROM)?)?
         .arg(sides(alloc, "to", "NEW", "from", help::TO)?)?
         .arg(side(alloc, "old", "OLD", help::OLD)?)?
@@ -216,7 +244,11 @@ fn command<'a>(alloc: Global) -> Result<Command<'a>, AllocError> {
         digest(alloc),
         conflicts(alloc),
         diff(alloc),
-        described(alloc, "count", help::COUNT, help::COUNT_LONG).arg(files(alloc)),
+        over_files(
+            alloc,
+            described(alloc, "count", help::COUNT, help::COUNT_LONG),
+            help::NULL_LISTS,
+        ),
         dump(alloc),
         file_and_out(
             alloc,
@@ -280,7 +312,9 @@ fn caps_of(matches: &ArgMatches<'_>) -> Option<Caps>
 }
 
 fn merge_of(alloc: Global, matches: &ArgMatches<'_>) -> Result<Option<Job>, AllocError>
-    ensures { IfOk result (λ job. IfSome job IsSound) }
+    ensures sound { IfOk result (λ job. IfSome job IsSound) }
+    ensures ending { IfOk result (λ job. IfSome job (λ job.
+        (ending : Ending) → EndsNames ending job)) }
 {
     let fan = matches.get_one::<u32>("fan");
     let fan = fan.map(|fan| fan.clamp(LEAST_FAN, GREATEST_FAN) as usize);
@@ -297,24 +331,34 @@ fn merge_of(alloc: Global, matches: &ArgMatches<'_>) -> Result<Option<Job>, Allo
     Ok(Some(Job::Merge(out, placing, fan, caps, strip, files)))
 }
 
-fn digest_of(alloc: Global, matches: &ArgMatches<'_>) -> Result<Option<Job>, AllocError>
-    ensures { IfOk result (λ job. IfSome job IsSound) }
+fn digest_of(
+    alloc: Global,
+    matches: &ArgMatches<'_>,
+    ending: Ending,
+) -> Result<Option<Job>, AllocError>
+    ensures sound { IfOk result (λ job. IfSome job IsSound) }
+    ensures ending { IfOk result (λ job. IfSome job (EndsNames ending)) }
 {
     let strip = matches.get_flag("strip");
     let Some(files) = files_of(alloc, matches)? else {
         return Ok(None);
     };
-    Ok(Some(Job::Digest(strip, files)))
+    Ok(Some(Job::Digest(ending, strip, files)))
 }
 
-fn conflicts_of(alloc: Global, matches: &ArgMatches<'_>) -> Result<Option<Job>, AllocError>
-    ensures { IfOk result (λ job. IfSome job IsSound) }
+fn conflicts_of(
+    alloc: Global,
+    matches: &ArgMatches<'_>,
+    ending: Ending,
+) -> Result<Option<Job>, AllocError>
+    ensures sound { IfOk result (λ job. IfSome job IsSound) }
+    ensures ending { IfOk result (λ job. IfSome job (EndsNames ending)) }
 {
     let strip = matches.get_flag("strip");
     let Some(files) = files_of(alloc, matches)? else {
         return Ok(None);
     };
-    Ok(Some(Job::Conflicts(strip, files)))
+    Ok(Some(Job::Conflicts(ending, strip, files)))
 }
 
 // Appends the files of a side of a comparison: of an argument and an option, one has them.
@@ -332,7 +376,9 @@ fn append_side(
 }
 
 fn diff_of(alloc: Global, matches: &ArgMatches<'_>) -> Result<Option<Job>, AllocError>
-    ensures { IfOk result (λ job. IfSome job IsSound) }
+    ensures sound { IfOk result (λ job. IfSome job IsSound) }
+    ensures ending { IfOk result (λ job. IfSome job (λ job.
+        (ending : Ending) → EndsNames ending job)) }
 {
     let strip = matches.get_flag("strip");
     let mut files = Vec::new(alloc);
@@ -346,7 +392,8 @@ fn diff_of(alloc: Global, matches: &ArgMatches<'_>) -> Result<Option<Job>, Alloc
 }
 
 fn dump_of(alloc: Global, matches: &ArgMatches<'_>) -> Result<Job, AllocError>
-    ensures { IfOk result IsSound }
+    ensures sound { IfOk result IsSound }
+    ensures ending { IfOk result (λ job. (ending : Ending) → EndsNames ending job) }
 {
     let file = text_of(alloc, matches, "file")?;
     let classes = texts_of(alloc, matches, "class")?;
@@ -356,8 +403,23 @@ fn dump_of(alloc: Global, matches: &ArgMatches<'_>) -> Result<Job, AllocError>
     Ok(Job::DumpClasses(file, classes))
 }
 
-fn job_of(alloc: Global, matches: &ArgMatches<'_>) -> Result<Option<Job>, AllocError>
-    ensures { IfOk result (λ job. IfSome job IsSound) }
+// Returns whether the options of a command ask for names that end as those of lists do, which are read before.
+fn ends_names(matches: &ArgMatches<'_>, ending: Ending) -> bool {
+    match matches.subcommand() {
+        Some(("check" | "merge" | "digest" | "conflicts" | "diff" | "count", found)) => {
+            found.get_flag(NULL) == (ending == Ending::Null)
+        }
+        _ => true,
+    }
+}
+
+fn job_of(
+    alloc: Global,
+    matches: &ArgMatches<'_>,
+    ending: Ending,
+) -> Result<Option<Job>, AllocError>
+    ensures sound { IfOk result (λ job. IfSome job IsSound) }
+    ensures ending { IfOk result (λ job. IfSome job (EndsNames ending)) }
 {
     let Some((name, found)) = matches.subcommand() else {
         return Ok(None);
@@ -365,9 +427,9 @@ fn job_of(alloc: Global, matches: &ArgMatches<'_>) -> Result<Option<Job>, AllocE
     let text = |id| text_of(alloc, found, id);
     match name {
         "check" if found.get_flag("keep-going") => {
-            Ok(files_of(alloc, found)?.map(Job::KeepChecking))
+            Ok(files_of(alloc, found)?.map(|files| Job::KeepChecking(ending, files)))
         }
-        "check" => Ok(files_of(alloc, found)?.map(Job::Check)),
+        "check" => Ok(files_of(alloc, found)?.map(|files| Job::Check(ending, files))),
         "merge" => merge_of(alloc, found),
         "normalise" => {
             let Some((out, placing)) = out_of(alloc, found)? else {
@@ -375,8 +437,8 @@ fn job_of(alloc: Global, matches: &ArgMatches<'_>) -> Result<Option<Job>, AllocE
             };
             Ok(Some(Job::Normalise(text("file")?, out, placing)))
         }
-        "digest" => digest_of(alloc, found),
-        "conflicts" => conflicts_of(alloc, found),
+        "digest" => digest_of(alloc, found, ending),
+        "conflicts" => conflicts_of(alloc, found, ending),
         "diff" => diff_of(alloc, found),
         "count" => Ok(files_of(alloc, found)?.map(Job::Count)),
         "dump" => Ok(Some(dump_of(alloc, found)?)),
@@ -391,15 +453,21 @@ fn job_of(alloc: Global, matches: &ArgMatches<'_>) -> Result<Option<Job>, AllocE
 }
 
 /// Returns the job that the arguments after the program's name ask for. The caller expands lists among them first, with
-/// [`list_name`](crate::list_name) and [`arguments_in`](crate::arguments_in).
+/// [`list_name`](crate::list_name) and [`arguments_in`](crate::arguments_in), and gives the ending of their names, that
+/// of [`ending_of`](crate::ending_of).
 ///
-/// Error: that of `clap`, if the arguments are a usage error, ask for help or the version, or allocation failed.
-pub fn read_words(alloc: Global, words: &[&str]) -> Result<Job, Error>
-    ensures { IfOk result IsSound }
+/// Error: that of `clap`, if the arguments are a usage error, ask for help or the version, or allocation failed. It is a
+/// usage error if an option asks for another ending: `-z` in a list, or among other letters.
+pub fn read_words(alloc: Global, words: &[&str], ending: Ending) -> Result<Job, Error>
+    ensures sound { IfOk result IsSound }
+    ensures ending { IfOk result (EndsNames ending) }
 {
     let mut command = command(alloc)?;
     let matches = command.try_get_matches_from_mut(words)?;
-    match job_of(alloc, &matches)? {
+    if !ends_names(&matches, ending) {
+        return Err(command.error(ErrorKind::ValueValidation, help::NOT_ALONE)?);
+    }
+    match job_of(alloc, &matches, ending)? {
         Some(job) => Ok(job),
         None => Err(command.error(ErrorKind::ValueValidation, help::NO_JOB)?),
     }

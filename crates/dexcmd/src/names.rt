@@ -11,11 +11,11 @@ pub fn input_names(job: &Job) -> &[String]
     ensures { map string_bytes result.now ≡ input_names job.now }
 {
     match job {
-        Job::Check(files)
+        Job::Check(_, files)
         | Job::Merge(_, _, _, _, _, files)
-        | Job::KeepChecking(files)
-        | Job::Digest(_, files)
-        | Job::Conflicts(_, files)
+        | Job::KeepChecking(_, files)
+        | Job::Digest(_, _, files)
+        | Job::Conflicts(_, _, files)
         | Job::Diff(_, _, files)
         | Job::Count(files) => files.as_slice(),
         Job::Dump(file)
@@ -34,12 +34,12 @@ pub fn output_name(job: &Job) -> Option<&str>
         Job::Normalise(_, out, _) | Job::Merge(out, _, _, _, _, _) | Job::Repair(_, out, _) => {
             Some(out.as_str())
         }
-        Job::Check(_)
+        Job::Check(_, _)
         | Job::Dump(_)
         | Job::DumpClasses(_, _)
-        | Job::KeepChecking(_)
-        | Job::Digest(_, _)
-        | Job::Conflicts(_, _)
+        | Job::KeepChecking(_, _)
+        | Job::Digest(_, _, _)
+        | Job::Conflicts(_, _, _)
         | Job::Diff(_, _, _)
         | Job::Count(_) => None,
     }
@@ -53,12 +53,12 @@ pub fn placing(job: &Job) -> Placing
         Job::Normalise(_, _, placing)
         | Job::Merge(_, placing, _, _, _, _)
         | Job::Repair(_, _, placing) => *placing,
-        Job::Check(_)
+        Job::Check(_, _)
         | Job::Dump(_)
         | Job::DumpClasses(_, _)
-        | Job::KeepChecking(_)
-        | Job::Digest(_, _)
-        | Job::Conflicts(_, _)
+        | Job::KeepChecking(_, _)
+        | Job::Digest(_, _, _)
+        | Job::Conflicts(_, _, _)
         | Job::Diff(_, _, _)
         | Job::Count(_) => Placing::InPlace,
     }

@@ -12,8 +12,8 @@ ghost use Rattle.dexargs.specs.Words.{IsSound};
 use clap::Error;
 use clap::error::ErrorKind;
 use dexcmd::{
-    ExitStatus, Job, Report, SystemDevices, expand_arguments, explain_argument, explain_lists,
-    explain_output, finish_job, input_names, print_report, read_words,
+    ExitStatus, Job, Report, SystemDevices, ending_of, expand_arguments, explain_argument,
+    explain_lists, explain_output, finish_job, input_names, print_report, read_words,
 };
 use dexhead::Device;
 use std::alloc::{AllocError, Global};
@@ -59,12 +59,13 @@ fn start<R: Files + Print + Eprint + Input>(
     arguments: &[String],
 ) -> Result<Report, AllocError> {
     let devices = SystemDevices::new(rt);
-    let expanded = match expand_arguments(alloc, &devices, arguments) {
+    let ending = ending_of(arguments);
+    let expanded = match expand_arguments(alloc, &devices, ending, arguments) {
         Ok(expanded) => expanded,
         Err(fault) => return explain_lists(alloc, fault),
     };
     let words: Vec<&str> = expanded.iter().map(String::as_str).collect(alloc)?;
-    match read_words(alloc, &words) {
+    match read_words(alloc, &words, ending) {
         Ok(job) => run_named(alloc, &devices, &job),
         Err(error) => explain(rt, alloc, &error),
     }

@@ -7,15 +7,25 @@ use Rattle.dexruns.specs.declared.lines.Verdict.TheVariants.{Accepted, Refused}
 use Rattle.dexruns.specs.Lines.{check_line, condition_name, cap_name}
 use Rattle.dexout.specs.Printed.{shown}
 use Rattle.dexruns.specs.Digests.{digest_line}
+use Rattle.dexruns.specs.Names.{named}
+use Rattle.dexruns.specs.declared.names.NameForm.TheVariants.{Escaped, Null}
 use Rattle.dexruns.specs.Counts.{cap_line, number_line}
 
-pub accepted_line : check_line (codes "a.dex") (Accepted 1) ≡ codes "a.dex: ok classes=1\n"
+pub accepted_line : check_line (named Escaped (codes "a.dex") (codes ": ")) (Accepted 1) ≡ codes "a.dex: ok classes=1\n"
 unfolding digits
 accepted_line = refl
 
-pub refused_line : check_line (codes "a.dex") (Refused (record { number = 3; place = 38 })) ≡ codes "a.dex: refused 3 Version at 38\n"
+pub refused_line : check_line (named Escaped (codes "a.dex") (codes ": ")) (Refused (record { number = 3; place = 38 })) ≡ codes "a.dex: refused 3 Version at 38\n"
 unfolding digits condition_name
 refused_line = refl
+
+pub forged_line : check_line (named Escaped (codes "a\nb\\") (codes ": ")) (Accepted 1) ≡ codes "a\\u000ab\\: ok classes=1\n"
+unfolding digits
+forged_line = refl
+
+pub null_line : check_line (named Null (codes "a\nb") (codes ": ")) (Accepted 1) ≡ codes "a\nb\0ok classes=1\n"
+unfolding digits
+null_line = refl
 
 pub escaped_class : codes "conflict " ++ shown (0x4c ∷ 0x22 ∷ 0xe9 ∷ 0x3b ∷ []) ≡ codes "conflict L\\\"\\u00e9;"
 escaped_class = refl
@@ -24,6 +34,6 @@ pub counted : cap_line (codes "methods") 65603 65536 ≡ codes "methods 65603 of
 unfolding cap_line digits
 counted = refl
 
-pub digested : digest_line (codes "a.dex") (0xa9 ∷ 0x09 ∷ []) (codes "LA;") ≡ codes "a909\tLA;\ta.dex\n"
+pub digested : digest_line (named Escaped (codes "a.dex") (codes "\n")) (0xa9 ∷ 0x09 ∷ []) (codes "LA;") ≡ codes "a909\tLA;\ta.dex\n"
 unfolding digest_line
 digested = refl

@@ -16,7 +16,9 @@ use Rattle.dexruns.specs.declared.comparing.Comparison.{Comparison}
 use Rattle.dexruns.specs.declared.comparing.Comparison.TheVariants.{Conflicts, Changes}
 use Rattle.dexruns.specs.declared.faults.RunFault.{RunFault}
 use Rattle.dexruns.specs.declared.faults.RunFault.TheVariants as run
+use Rattle.dexruns.specs.declared.names.NameForm.{NameForm}
 use Rattle.dexruns.specs.Digests.{hexadecimal}
+use Rattle.dexruns.specs.Names.{named}
 use Rattle.dexruns.specs.Merges.{AreReadFrom, IsRefusedAt, kept}
 
 -- ---- the copies of a class
@@ -54,12 +56,12 @@ has_new old copies = list_any (λ copy. not (nat_lt copy.file old)) copies
 -- ---- the lines of a class
 
 -- the line of a copy: the name of the class, the digest, and the name of the file
-unfoldable pub copy_line : List (List ℕ) → Text → ClassCopy → List ℕ
-copy_line files name copy = shown name ++ (codes "\t" ++ (hexadecimal copy.digest ++ (codes "\t" ++ (slice_index_or files copy.file [] ++ codes "\n"))))
+unfoldable pub copy_line : NameForm → List (List ℕ) → Text → ClassCopy → List ℕ
+copy_line form files name copy = shown name ++ (codes "\t" ++ (hexadecimal copy.digest ++ (codes "\t" ++ named form (slice_index_or files copy.file []) (codes "\n"))))
 
 -- the lines of a conflict: one for each copy of a class of which not all copies are equal, and none of another class
-abbrev pub conflict_lines : List (List ℕ) → Text → List ClassCopy → List ℕ
-conflict_lines files name copies = if differ copies then flat_map (copy_line files name) copies else []
+abbrev pub conflict_lines : NameForm → List (List ℕ) → Text → List ClassCopy → List ℕ
+conflict_lines form files name copies = if differ copies then flat_map (copy_line form files name) copies else []
 
 -- how a class has changed from the first files, of which there are `old`, to the others
 abbrev pub change_of : ℕ → List ClassCopy → Option Change
@@ -86,7 +88,7 @@ change_lines name (Some change) = change_line name change
 
 -- what is reported of a class
 abbrev pub class_lines : Comparison → List (List ℕ) → Text → List ClassCopy → List ℕ
-class_lines Conflicts files name copies = conflict_lines files name copies
+class_lines (Conflicts form) files name copies = conflict_lines form files name copies
 class_lines (Changes old) files name copies = change_lines name (change_of old copies)
 
 -- ---- the lines of files

@@ -17,6 +17,7 @@ use crate::faults::RunFault;
 use crate::inputs::{read_input, read_program, write_output};
 use crate::lines::{push_sign, push_text};
 use crate::merging::kept;
+use crate::names::{NameForm, push_named};
 use crate::status::ExitStatus;
 use dexcanon::into_digests;
 use dexclass::Program;
@@ -27,8 +28,8 @@ use std::alloc::{AllocError, Global};
 /// What is reported of the classes of files.
 #[derive(Clone, Copy, Debug, PartialEq, Eq)]
 pub enum Comparison {
-    /// Each copy of the classes of which not all copies are equal.
-    Conflicts,
+    /// Each copy of the classes of which not all copies are equal, with its file's name in this form.
+    Conflicts(NameForm),
     /// How classes have changed from the first files, of which there is this number, to the others.
     Changes(usize),
 }
@@ -80,35 +81,37 @@ fn file_name<'a>(files: &[&'a str], number: usize) -> &'a str
 // Appends the line of a copy.
 #[tactic(auto, unfolding(crate::specs::Comparisons::copy_line))]
 fn push_copy_line(
+    form: NameForm,
     files: &[&str],
     name: &Text<'_>,
     copy: &ClassCopy,
     text: &mut String,
 ) -> Result<(), AllocError>
     ensures { OnOk result (string_bytes text.new ≡ string_bytes text.old
-        ++ copy_line (map (λ file. file.now) files.now) name.now copy.now) }
+        ++ copy_line form (map (λ file. file.now) files.now) name.now copy.now) }
 {
     push_text(name, text)?;
     push_sign(b'\t', text)?;
     push_hexadecimal(&copy.digest, text)?;
     push_sign(b'\t', text)?;
-    text.push_str(file_name(files, copy.file))?;
-    push_sign(b'\n', text)
+    push_named(form, file_name(files, copy.file), "\n", text)
 }
 
 // Appends the line of each copy of a class.
 fn push_copies(
+    form: NameForm,
     files: &[&str],
     name: &Text<'_>,
     copies: &Copies,
     text: &mut String,
 ) -> Result<(), AllocError>
     ensures { OnOk result (string_bytes text.new ≡ string_bytes text.old
-        ++ flat_map (copy_line (map (λ file. file.now) files.now) name.now) (copies_list copies.now)) }
+        ++ flat_map (copy_line form (map (λ file. file.now) files.now) name.now)
+        (copies_list copies.now)) }
 {
-    push_copy_line(files, name, &copies.first, text)?;
+    push_copy_line(form, files, name, &copies.first, text)?;
     for copy in &copies.others {
-        push_copy_line(files, name, copy, text)?;
+        push_copy_line(form, files, name, copy, text)?;
     }
     Ok(())
 }
@@ -137,9 +140,9 @@ fn push_class(
         ++ class_lines comparison (map (λ file. file.now) files.now) name.now (copies_list copies.now)) }
 {
     match comparison {
-        Comparison::Conflicts => {
+        Comparison::Conflicts(form) => {
             if copies.differ() {
-                push_copies(files, name, copies, text)?;
+                push_copies(form, files, name, copies, text)?;
             }
         }
         Comparison::Changes(old) => {
@@ -238,7 +241,7 @@ pub struct CompareOptions<'o> {
 /// [`digest_or_strip_run`](crate::digest_or_strip_run).
 ///
 /// `Conflicts` reports each class of which not all copies are equal: a line for each copy, in the order of the inputs,
-/// with the class, the digest and the name of the input, and a tab between them. `Changes` reports each class that
+/// with the class, the digest and the name of the input in the given form, and a tab between them. `Changes` reports each class that
 /// differs between the first inputs, of which it has the number, and the others, in a line: `added`, `removed` or
 /// `changed`, a tab and the class. It is changed where both have it and not all copies are equal. Names of classes are
 /// written as [`explain`](crate::explain) writes them.

@@ -2,7 +2,7 @@
 //! file.
 
 use dexhead::Device;
-use dexruns::{RunFault, check_run};
+use dexruns::{NameForm, RunFault, check_run};
 use dextest_cases::{CaseFault, Outcome, first_word, number};
 use std::alloc::Global;
 
@@ -25,7 +25,7 @@ fn is_checked_as(
 ) -> Result<bool, CaseFault> {
     let mut inputs = [Device::new(bytes)];
     let mut out = Device::new(Vec::new(alloc));
-    match check_run(alloc, &[name], &mut inputs, &mut out) {
+    match check_run(alloc, NameForm::Escaped, &[name], &mut inputs, &mut out) {
         Ok(status) => Ok(status == right && is_line(out.into_inner().as_slice(), line)),
         Err(RunFault::Memory) => Err(CaseFault::Memory),
         Err(_) => Ok(false),

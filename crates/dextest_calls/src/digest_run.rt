@@ -6,7 +6,7 @@ use crate::program::program_of;
 use crate::run_answer::RunAnswer;
 use dexcanon::digests;
 use dexhead::Device;
-use dexruns::{digest_or_strip_run, digest_run, kept};
+use dexruns::{NameForm, digest_or_strip_run, digest_run, kept};
 use dextest_cases::{CaseFault, Outcome, Printed};
 use std::alloc::{AllocError, Global};
 
@@ -27,10 +27,11 @@ pub fn run(
     let right = answer_in(alloc, name, right)?;
     let mut input = Device::new(bytes);
     let mut out = Device::new(Vec::new(alloc));
+    let form = NameForm::Escaped;
     let returned = if is_stripped {
-        digest_or_strip_run(alloc, name, true, &mut input, &mut out)
+        digest_or_strip_run(alloc, form, name, true, &mut input, &mut out)
     } else {
-        digest_run(alloc, name, &mut input, &mut out)
+        digest_run(alloc, form, name, &mut input, &mut out)
     };
     right.outcome(alloc, &returned, out.into_inner().as_slice())
 }

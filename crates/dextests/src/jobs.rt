@@ -5,8 +5,8 @@ ghost use Rattle.dexargs.specs.Words.{IsSound};
 use crate::system::{Log, System, file};
 use crate::words::words_of;
 use dexcmd::{
-    Job, ListsFault, Report, SystemDevices, expand_arguments, explain_lists, finish_job,
-    input_names, read_words,
+    Ending, Job, ListsFault, Report, SystemDevices, ending_of, expand_arguments, explain_lists,
+    finish_job, input_names, read_words,
 };
 use std::alloc::{AllocError, Global};
 
@@ -23,7 +23,7 @@ fn run(alloc: Global, system: &System<'_>, job: &Job) -> Result<Report, AllocErr
 // Runs the job that the arguments ask for, and returns its report.
 fn report(alloc: Global, system: &System<'_>, words: &str) -> Option<Report> {
     let words = words_of(alloc, words).ok()?;
-    match read_words(alloc, words.as_slice()) {
+    match read_words(alloc, words.as_slice(), Ending::Line) {
         Ok(job) => run(alloc, system, &job).ok(),
         Err(_) => None,
     }
@@ -185,7 +185,7 @@ fn expanded(alloc: Global, words: &str) -> Option<String> {
         arguments.push(String::from_str(alloc, word).ok()?).ok()?;
     }
     let devices = SystemDevices::new(&system);
-    match expand_arguments(alloc, &devices, &arguments) {
+    match expand_arguments(alloc, &devices, ending_of(&arguments), &arguments) {
         Ok(all) => format!(in alloc; "{all:?}").ok(),
         Err(fault) => reported(alloc, fault),
     }

@@ -1,11 +1,11 @@
 //! Lists of arguments.
 
-use dexargs::{ListFault, arguments_in, list_name};
+use dexargs::{Ending, ListFault, arguments_in, list_name};
 use std::alloc::Global;
 
 // Returns whether the bytes of a list encode these arguments.
-fn are_listed(alloc: Global, bytes: &str, arguments: &str) -> Option<bool> {
-    let listed = arguments_in(alloc, bytes.as_bytes()).ok()?;
+fn are_listed(alloc: Global, ending: Ending, bytes: &str, arguments: &str) -> Option<bool> {
+    let listed = arguments_in(alloc, ending, bytes.as_bytes()).ok()?;
     Some(format!(in alloc; "{listed:?}").ok()?.as_str() == arguments)
 }
 
@@ -23,7 +23,22 @@ fn list_files_denote_their_lines(rt: HostRuntime) {
         ("a\r", "[\"a\\r\"]"),
     ] {
         assert!(rt;
-            are_listed(rt.alloc(), bytes, arguments) == Some(true),
+            are_listed(rt.alloc(), Ending::Line, bytes, arguments) == Some(true),
+            "{bytes:?}"
+        );
+    }
+}
+
+#[test]
+fn list_files_denote_what_is_between_zero_bytes(rt: HostRuntime) {
+    for (bytes, arguments) in [
+        ("", "[]"),
+        ("\0\0", "[]"),
+        ("a.dex", "[\"a.dex\"]"),
+        ("b\n\0a\r\n\0\0b\0", "[\"b\\n\", \"a\\r\\n\", \"b\"]"),
+    ] {
+        assert!(rt;
+            are_listed(rt.alloc(), Ending::Null, bytes, arguments) == Some(true),
             "{bytes:?}"
         );
     }
@@ -31,8 +46,13 @@ fn list_files_denote_their_lines(rt: HostRuntime) {
 
 #[test]
 fn lists_that_are_not_text_are_refused(rt: HostRuntime) {
-    for (bytes, line) in [(b"a\n\xff", 2), (b"\xc0\x80a", 1), (b"\xed\xa0\x80", 1)] {
-        let fault = arguments_in(rt.alloc(), bytes).err();
+    for (ending, bytes, line) in [
+        (Ending::Line, b"a\n\xff", 2),
+        (Ending::Line, b"\xc0\x80a", 1),
+        (Ending::Line, b"\xed\xa0\x80", 1),
+        (Ending::Null, b"\n\0\xff", 2),
+    ] {
+        let fault = arguments_in(rt.alloc(), ending, bytes).err();
         assert!(rt; fault == Some(ListFault::NotUtf8(line)), "{bytes:?}");
     }
 }

@@ -6,7 +6,7 @@ use crate::files::{
 };
 use crate::scripts::{Script, Scripted, WHOLE, by, failing};
 use dexcmd::{
-    MergeCause, RunFault, check_run, count_run, digest_run, dump_run, explain, merge_run,
+    MergeCause, NameForm, RunFault, check_run, count_run, digest_run, dump_run, explain, merge_run,
     merge_strip_run, normalise_run, repair_run,
 };
 use dexhead::{Device, DeviceFault, Refusal, Sink, Source};
@@ -108,7 +108,7 @@ fn over_file(alloc: Global, run: FileRun, file: &[u8], reads: Script, writes: Sc
         FileRun::Normalise => normalise_run(alloc, &mut input, &mut out, false),
         FileRun::List => dump_run(alloc, &mut input, &mut out),
         FileRun::Repair => repair_run(alloc, &mut input, &mut out),
-        FileRun::Digest => digest_run(alloc, "a b", &mut input, &mut out),
+        FileRun::Digest => digest_run(alloc, NameForm::Escaped, "a b", &mut input, &mut out),
     };
     let read_failed = Source::failed(&input);
     ended(status(answer), (input.into_inner().calls, read_failed), out)
@@ -135,7 +135,13 @@ fn checked(alloc: Global, files: &[(&str, &[u8], Script)], writes: Script) -> Op
         inputs.push(Device::new(Scripted::new(*file, *reads))).ok()?;
     }
     let mut out = Device::new(Scripted::new(Vec::new(alloc), writes));
-    let answer = check_run(alloc, names.as_slice(), inputs.as_mut_slice(), &mut out);
+    let answer = check_run(
+        alloc,
+        NameForm::Escaped,
+        names.as_slice(),
+        inputs.as_mut_slice(),
+        &mut out,
+    );
     let read_failed = inputs.iter().any(Source::failed);
     Some(ended(answer, (calls_of(inputs), read_failed), out))
 }

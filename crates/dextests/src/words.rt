@@ -1,6 +1,6 @@
 //! The arguments of the program.
 
-use dexcmd::read_words;
+use dexcmd::{Ending, read_words};
 use std::alloc::{AllocError, Global};
 
 // Returns the arguments of a line, split at single blanks.
@@ -17,24 +17,30 @@ pub(crate) fn words_of(alloc: Global, line: &str) -> Result<Vec<&str>, AllocErro
 // Returns whether the arguments are read as this job.
 fn are_read(alloc: Global, words: &str, job: &str) -> Option<bool> {
     let words = words_of(alloc, words).ok()?;
-    let read = read_words(alloc, words.as_slice()).ok()?;
+    let read = read_words(alloc, words.as_slice(), Ending::Line).ok()?;
     Some(format!(in alloc; "{read:?}").ok()?.as_str() == job)
 }
 
 #[test]
 fn files_are_read_as_jobs(rt: HostRuntime) {
     for (words, job) in [
-        ("check a.dex", "Check([\"a.dex\"])"),
+        ("check a.dex", "Check(Line, [\"a.dex\"])"),
         (
             "check a.dex b a.dex",
-            "Check([\"a.dex\", \"b\", \"a.dex\"])",
+            "Check(Line, [\"a.dex\", \"b\", \"a.dex\"])",
         ),
-        ("check -", "Check([\"-\"])"),
-        ("check --keep-going a b", "KeepChecking([\"a\", \"b\"])"),
-        ("check a b --keep-going", "KeepChecking([\"a\", \"b\"])"),
+        ("check -", "Check(Line, [\"-\"])"),
+        (
+            "check --keep-going a b",
+            "KeepChecking(Line, [\"a\", \"b\"])",
+        ),
+        (
+            "check a b --keep-going",
+            "KeepChecking(Line, [\"a\", \"b\"])",
+        ),
         ("dump a.dex", "Dump(\"a.dex\")"),
-        ("digest a b a", "Digest(false, [\"a\", \"b\", \"a\"])"),
-        ("digest a --strip -", "Digest(true, [\"a\", \"-\"])"),
+        ("digest a b a", "Digest(Line, false, [\"a\", \"b\", \"a\"])"),
+        ("digest a --strip -", "Digest(Line, true, [\"a\", \"-\"])"),
         ("count a", "Count([\"a\"])"),
         ("count a -- -b", "Count([\"a\", \"-b\"])"),
     ] {
@@ -83,7 +89,11 @@ fn files_and_outputs_are_read_as_jobs(rt: HostRuntime) {
 // Returns the exit status of arguments that ask for no job.
 fn status(alloc: Global, words: &str) -> Option<i32> {
     let words = words_of(alloc, words).ok()?;
-    Some(read_words(alloc, words.as_slice()).err()?.exit_code())
+    Some(
+        read_words(alloc, words.as_slice(), Ending::Line)
+            .err()?
+            .exit_code(),
+    )
 }
 
 #[test]

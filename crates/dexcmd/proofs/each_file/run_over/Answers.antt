@@ -1,13 +1,15 @@
 use Rattle.std.proofs.Common.{arith, get_or}
 use Rattle.std.proofs.lemmas.Result.{IfErr-weaker}
+use Rattle.std.specs.Prelude.{codes}
 use Rattle.dexruns.specs.Inputs.{bytes_read}
+use Rattle.dexruns.specs.Names.{named}
 use Rattle.dexcmd.specs.EachFile.{IsFileDigested}
 use Rattle.dexcmd.proofs.Done.{check_named, input_named, ended_named}
 use Rattle.dexcmd.proofs.EachFile.{of_one, one_checked, digest_works}
 use Rattle.dexcmd.proofs.each_file.run_over.Goals as goal
 
 pub returns-in-Check-clause-ran : goal.returns-in-Check-clause-ran
-returns-in-Check-clause-ran g c = rw c.in-Check.is (one_checked g.R.Source.reports g.R.Source.to_come g.R.Source.has_failed g.W.Sink.reports g.W.Sink.taken g.W.Sink.has_failed c.args.file.now c.args.inputs.now c.check_run.new.inputs c.args.out.now c.check_run.new.out c.check_run.result
+returns-in-Check-clause-ran g c = rw c.in-Check.is (one_checked g.R.Source.reports g.R.Source.to_come g.R.Source.has_failed g.W.Sink.reports g.W.Sink.taken g.W.Sink.has_failed (named c.in-Check.form c.args.file.now (codes ": ")) c.args.inputs.now c.check_run.new.inputs c.args.out.now c.check_run.new.out c.check_run.result
     c.requires.one (omega (arith, c.check_run.auto.inputs, c.requires.one))
     (record {
       lines = c.check_run.ensures.lines;
@@ -24,7 +26,7 @@ returns-in-Check-clause-named g c =
     IfErr-weaker c.check_run.result _ _ (check_named g.R.Source.has_failed c.check_run.new.inputs (g.W.Sink.has_failed c.check_run.new.out) 1 (omega (arith, c.check_run.auto.inputs, c.requires.one))) c.check_run.ensures.fault
 
 pub returns-in-Digest-clause-ran : goal.returns-in-Digest-clause-ran
-returns-in-Digest-clause-ran g c = rw c.in-Digest.is (of_one (λ input left. IsFileDigested g.R.Source.reports g.R.Source.to_come g.R.Source.has_failed g.W.Sink.reports g.W.Sink.taken g.W.Sink.has_failed c.in-Digest.is_stripped c.args.file.now input left c.args.out.now c.digest_or_strip_run.new.out c.done.result)
+returns-in-Digest-clause-ran g c = rw c.in-Digest.is (of_one (λ input left. IsFileDigested g.R.Source.reports g.R.Source.to_come g.R.Source.has_failed g.W.Sink.reports g.W.Sink.taken g.W.Sink.has_failed c.in-Digest.is_stripped (named c.in-Digest.form c.args.file.now (codes "\n")) input left c.args.out.now c.digest_or_strip_run.new.out c.done.result)
     c.args.inputs.now c.index-inputs-0.result c.digest_or_strip_run.new.input c.requires.one (record {
       ended = c.digest_or_strip_run.result;
       ran = record { accepted = c.digest_or_strip_run.ensures.accepted; lines = c.digest_or_strip_run.ensures.written; fault = c.digest_or_strip_run.ensures.fault; goes_on_telling = c.digest_or_strip_run.ensures.reports; unwritten = c.digest_or_strip_run.ensures.left; no_further = c.digest_or_strip_run.ensures.no_further; read = c.digest_or_strip_run.ensures.read; write = c.digest_or_strip_run.ensures.write };
@@ -36,4 +38,4 @@ returns-in-Digest-clause-named g c =
     ended_named 1 _ (input_named (g.R.Source.reports (get_or c.args.inputs.now 0 c.index-inputs-0.result)) (bytes_read (g.R.Source.to_come (get_or c.args.inputs.now 0 c.index-inputs-0.result)))) c.digest_or_strip_run.result c.done.result c.done.ensures c.digest_or_strip_run.ensures.fault
 
 pub returns-in-Digest-clause-works : goal.returns-in-Digest-clause-works
-returns-in-Digest-clause-works g c = rw c.in-Digest.is (digest_works c.in-Digest.is_stripped (g.W.Sink.has_failed c.digest_or_strip_run.new.out) c.digest_or_strip_run.result c.done.result c.done.ensures c.digest_or_strip_run.ensures.write)
+returns-in-Digest-clause-works g c = rw c.in-Digest.is (digest_works c.in-Digest.form c.in-Digest.is_stripped (g.W.Sink.has_failed c.digest_or_strip_run.new.out) c.digest_or_strip_run.result c.done.result c.done.ensures c.digest_or_strip_run.ensures.write)

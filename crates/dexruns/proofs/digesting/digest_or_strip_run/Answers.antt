@@ -1,6 +1,8 @@
-use Rattle.dexruns.proofs.Common.{◌∙◌, err_from_is_err_and, bytes_read, kept}
+use Rattle.dexruns.proofs.Common.{ap, ◌∙◌, digest_lines, err_from_is_err_and, bytes_read, kept}
 use Rattle.dexruns.proofs.Digested.{accepted_file, written_is, prefix_is}
 use Rattle.dexruns.proofs.Unread.{of_input}
+use Rattle.std.specs.Prelude.{codes}
+use Rattle.dexruns.specs.Names.{named}
 use Rattle.dexruns.proofs.digesting.digest_or_strip_run.Goals as goal
 
 pub returns-in_err-whole-clause-fault : goal.returns-in_err-whole-clause-fault
@@ -11,8 +13,8 @@ returns-in_err-whole-clause-fault g c =
 
 pub returns-clause-written : goal.returns-clause-written
 returns-clause-written g c = λ reads writes K denotes.
-    written_is c.one_collection.ensures (kept c.args.is_stripped) c.args.name.now _ _ _ K _ _ _ _ (c.as_slice.ensures.value ∙ c.in_ok-bytes.ensures.bytes reads) c.in_ok-whole.ensures.accepted denotes c.in_ok-program.ensures
-    (c.as_bytes.ensures.value ∙ c.in_ok-lines.ensures) (c.in_ok-write_output.ensures.written writes)
+    written_is c.one_collection.ensures (kept c.args.is_stripped) (named c.args.form c.args.name.now (codes "\n")) _ _ _ K _ _ _ _ (c.as_slice.ensures.value ∙ c.in_ok-bytes.ensures.bytes reads) c.in_ok-whole.ensures.accepted denotes c.in_ok-program.ensures
+    (c.as_bytes.ensures.value ∙ c.in_ok-lines.ensures ∙ ap (λ file. digest_lines file c.in_ok-program.program) (c.as_str.ensures.value ∙ c.in_ok-file.ensures.named)) (c.in_ok-write_output.ensures.written writes)
 
 pub returns-in_err-write_output-clause-left : goal.returns-in_err-write_output-clause-left
 returns-in_err-write_output-clause-left g c =
@@ -20,6 +22,6 @@ returns-in_err-write_output-clause-left g c =
     rw (p.1, p.2, c.in_err-write_output.ensures.fault) (λ reads. (
       accepted_file _ _ _ (c.as_slice.ensures.value ∙ c.in_ok-bytes.ensures.bytes reads) c.in_ok-whole.ensures.accepted,
       (λ writes K denotes.
-          prefix_is c.one_collection.ensures (kept c.args.is_stripped) c.args.name.now _ _ _ K _ _ _ _ (c.as_slice.ensures.value ∙ c.in_ok-bytes.ensures.bytes reads) c.in_ok-whole.ensures.accepted denotes c.in_ok-program.ensures
-          (c.as_bytes.ensures.value ∙ c.in_ok-lines.ensures) (c.in_err-write_output.ensures.prefix writes)),
+          prefix_is c.one_collection.ensures (kept c.args.is_stripped) (named c.args.form c.args.name.now (codes "\n")) _ _ _ K _ _ _ _ (c.as_slice.ensures.value ∙ c.in_ok-bytes.ensures.bytes reads) c.in_ok-whole.ensures.accepted denotes c.in_ok-program.ensures
+          (c.as_bytes.ensures.value ∙ c.in_ok-lines.ensures ∙ ap (λ file. digest_lines file c.in_ok-program.program) (c.as_str.ensures.value ∙ c.in_ok-file.ensures.named)) (c.in_err-write_output.ensures.prefix writes)),
     ))

@@ -3,7 +3,7 @@ use Rattle.std.proofs.lemmas.Iterator.Consumers.{YieldsList-end}
 use Rattle.std.proofs.lemmas.Iterator.Splits.{YieldsList-from_lines}
 use Rattle.std.specs.List.{filter}
 use Rattle.dexargs.specs.Lists.{is_argument}
-use Rattle.dexargs.proofs.lists.arguments_of.Goals as goal
+use Rattle.dexargs.proofs.lists.arguments_of_lines.Goals as goal
 
 pub returns : goal.returns
 returns c =

@@ -1,0 +1,28 @@
+use Rattle.dexruns.proofs.Common.{◌∙◌, err_from_is_err_and, bytes_read, IsAppended, IsPrefixAppended}
+use Rattle.dexruns.proofs.Counted.{counted_is}
+use Rattle.dexruns.proofs.Digested.{accepted_file}
+use Rattle.dexruns.proofs.Unread.{of_input}
+use Rattle.dexruns.proofs.counting.count_file_run.Goals as goal
+
+pub returns-in_err-program-clause-fault : goal.returns-in_err-program-clause-fault
+returns-in_err-program-clause-fault g c =
+    let p = err_from_is_err_and c.from_residual-in_err-program.result c.from_residual-in_err-program.ensures.1 in
+    rw (p.1, p.2) (of_input (g.R.Source.reports c.args.input.now) (bytes_read (g.R.Source.to_come c.args.input.now)) c.as_slice.result.now c.in_err-program.field-0.0
+    (λ reads. c.as_slice.ensures.value ∙ c.in_ok-bytes.ensures.bytes reads) c.in_err-program.ensures.fault)
+
+pub returns-clause-written : goal.returns-clause-written
+returns-clause-written g c = λ reads K denotes.
+    counted_is c.one_collection.ensures c.args.name.now _ _ _ K _ _ (IsAppended (g.W.Sink.reports c.args.out.now) (g.W.Sink.taken c.args.out.now) (g.W.Sink.taken c.write_output.new.out))
+    (c.as_slice.ensures.value ∙ c.in_ok-bytes.ensures.bytes reads) c.in_ok-program.ensures.accepted denotes c.in_ok-counts.ensures.counts
+    (c.as_bytes.ensures.value ∙ c.in_ok-line.ensures) c.in_ok-write_output.ensures.written
+
+pub returns-in_err-write_output-clause-left : goal.returns-in_err-write_output-clause-left
+returns-in_err-write_output-clause-left g c =
+    let p = err_from_is_err_and c.from_residual-in_err-write_output.result c.from_residual-in_err-write_output.ensures.1 in
+    rw (p.1, p.2, c.in_err-write_output.ensures.fault) (λ reads. (
+      accepted_file _ _ _ (c.as_slice.ensures.value ∙ c.in_ok-bytes.ensures.bytes reads) c.in_ok-program.ensures.accepted,
+      (λ K denotes.
+          counted_is c.one_collection.ensures c.args.name.now _ _ _ K _ _ (IsPrefixAppended (g.W.Sink.reports c.args.out.now) (g.W.Sink.taken c.args.out.now) (g.W.Sink.taken c.write_output.new.out))
+          (c.as_slice.ensures.value ∙ c.in_ok-bytes.ensures.bytes reads) c.in_ok-program.ensures.accepted denotes c.in_ok-counts.ensures.counts
+          (c.as_bytes.ensures.value ∙ c.in_ok-line.ensures) c.in_err-write_output.ensures.prefix),
+    ))

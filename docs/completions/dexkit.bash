@@ -24,7 +24,7 @@ _dexkit() {
             check) options+=' --keep-going -z --null' ;;
             digest | conflicts) options+=' --strip -z --null' ;;
             diff) options+=' --strip -z --null --from --to' ;;
-            count) options+=' -z --null' ;;
+            count) options+=' --each -z --null' ;;
             dump) options+=' --class' ;;
             normalise | normalize | repair) options+=' --atomic' ;;
             merge) options+=' -o --out --atomic --strip -z --null --fan --max-types --max-protos --max-fields --max-methods --max-weight' ;;

@@ -21,12 +21,13 @@ complete -c dexkit -n "__fish_seen_subcommand_from $files; and string match -q '
     -a '@(__fish_complete_path (string sub -s 2 -- (commandline -ct)))'
 complete -c dexkit -n "__fish_seen_subcommand_from $files" -l help -d 'Print the use'
 complete -c dexkit -n '__fish_seen_subcommand_from check' -l keep-going -d 'Go on after a file that cannot be read'
-complete -c dexkit -n '__fish_seen_subcommand_from check digest conflicts' -s z -l null \
+complete -c dexkit -n '__fish_seen_subcommand_from check digest conflicts count' -s z -l null \
     -d 'Names end with a zero byte'
-complete -c dexkit -n '__fish_seen_subcommand_from diff count merge' -s z -l null \
+complete -c dexkit -n '__fish_seen_subcommand_from diff merge' -s z -l null \
     -d 'Names in lists end with a zero byte'
 complete -c dexkit -n '__fish_seen_subcommand_from conflicts diff' -l strip \
     -d 'Compare without debug programs and source texts'
+complete -c dexkit -n '__fish_seen_subcommand_from count' -l each -d 'Count what each file has'
 complete -c dexkit -n '__fish_seen_subcommand_from diff' -l from -r -F -d 'The old files'
 complete -c dexkit -n '__fish_seen_subcommand_from diff' -l to -r -F -d 'The new files'
 complete -c dexkit -n '__fish_seen_subcommand_from dump' -l class -x -d 'List the class of this name alone'

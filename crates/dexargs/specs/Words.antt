@@ -3,7 +3,7 @@ use Rattle.std.specs.Prelude.{◌≡◌, ◌<◌, ◌≤◌, ◌≢◌, ℕ, Lis
 use Rattle.dexspec.specs.Merging.{Caps, AreCaps}
 use Rattle.dexargs.specs.declared.lists.Ending.{Ending}
 use Rattle.dexargs.specs.declared.words.Job.{Job}
-use Rattle.dexargs.specs.declared.words.Job.TheVariants.{Check, Dump, DumpClasses, Normalise, Merge, KeepChecking, Digest, Conflicts, Diff, Count, Repair}
+use Rattle.dexargs.specs.declared.words.Job.TheVariants.{Check, Dump, DumpClasses, Normalise, Merge, KeepChecking, Digest, Conflicts, Diff, Count, CountEach, Repair}
 use Rattle.dexargs.specs.declared.words.Placing.{Placing}
 use Rattle.dexargs.specs.declared.words.Placing.TheVariants.{InPlace, Atomic}
 
@@ -32,6 +32,7 @@ IsSound (Digest ending strip files) = 0 < vec_len files
 IsSound (Conflicts ending strip files) = 0 < vec_len files
 IsSound (Diff old strip files) = (0 < old) × (old < vec_len files)
 IsSound (Count files) = 0 < vec_len files
+IsSound (CountEach ending files) = 0 < vec_len files
 IsSound (Repair file out placing) = IsSoundOut (string_bytes out) placing
 
 -- where the lines of the job have names, these end as names of lists do
@@ -46,4 +47,5 @@ EndsNames ending (Digest ends strip files) = ends ≡ ending
 EndsNames ending (Conflicts ends strip files) = ends ≡ ending
 EndsNames ending (Diff old strip files) = Unit {0}
 EndsNames ending (Count files) = Unit {0}
+EndsNames ending (CountEach ends files) = ends ≡ ending
 EndsNames ending (Repair file out placing) = Unit {0}

@@ -192,7 +192,13 @@ pub(crate) const COUNT_LONG: &str = "\
 Prints what a merge of the files would have, beside the most that a file may
 have: a line each for types, protos, fields, methods, short-strings and weight,
 as `methods 65603 of 65536`, then classes and strings. Nothing is refused for
-being too much. A conflict or a cycle is reported as merge reports it.";
+being too much. A conflict or a cycle is reported as merge reports it.
+
+With --each, prints a line for each file, in order: the eight numbers in the
+order above, and FILE, with tabs between them. It goes on after a refused file,
+with status 1 at the end.";
+
+pub(crate) const EACH: &str = "Counts what each of the files has, in a line each";
 
 pub(crate) const DUMP: &str = "Lists the classes of a file, with members and instructions";
 

@@ -60,6 +60,8 @@ pub enum Job {
     Diff(usize, bool, Vec<String>),
     /// Prints the counts of a merge of these files, beside the greatest caps.
     Count(Vec<String>),
+    /// Prints the counts of each of these files.
+    CountEach(Ending, Vec<String>),
     /// Writes the first file to the second, with its checksum and signature set right.
     Repair(String, String, Placing),
 }
@@ -198,6 +200,12 @@ fn diff<'a>(alloc: Global) -> Result<Command<'a>, AllocError> {
         .arg(side(alloc, "new", "NEW", help::NEW)?)
 }
 
+fn count<'a>(alloc: Global) -> Result<Command<'a>, AllocError> {
+    let command = described(alloc, "count", help::COUNT, help::COUNT_LONG);
+    let command = command.arg(flag(alloc, "each", help::EACH))?;
+    over_files(alloc, command, help::NULL)
+}
+
 // Adds the names of the file that a command reads and of the file that it writes, and how it is written.
 fn file_and_out<'a>(alloc: Global, command: Command<'a>) -> Result<Command<'a>, AllocError> {
     command
@@ -244,11 +252,7 @@ fn command<'a>(alloc: Global) -> Result<Command<'a>, AllocError> {
         digest(alloc),
         conflicts(alloc),
         diff(alloc),
-        over_files(
-            alloc,
-            described(alloc, "count", help::COUNT, help::COUNT_LONG),
-            help::NULL_LISTS,
-        ),
+        count(alloc),
         dump(alloc),
         file_and_out(
             alloc,
@@ -440,6 +444,9 @@ fn job_of(
         "digest" => digest_of(alloc, found, ending),
         "conflicts" => conflicts_of(alloc, found, ending),
         "diff" => diff_of(alloc, found),
+        "count" if found.get_flag("each") => {
+            Ok(files_of(alloc, found)?.map(|files| Job::CountEach(ending, files)))
+        }
         "count" => Ok(files_of(alloc, found)?.map(Job::Count)),
         "dump" => Ok(Some(dump_of(alloc, found)?)),
         "repair" => {

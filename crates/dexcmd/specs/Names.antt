@@ -3,7 +3,7 @@ use Rattle.std.specs.Prelude.{ℕ, List, [], ◌∷◌, map, Option, Some, None,
 use Rattle.dexargs.specs.declared.words.Job.{Job}
 use Rattle.dexargs.specs.declared.words.Placing.{Placing}
 use Rattle.dexargs.specs.declared.words.Placing.TheVariants.{InPlace}
-use Rattle.dexargs.specs.declared.words.Job.TheVariants.{Check, Dump, DumpClasses, Normalise, Merge, KeepChecking, Digest, Conflicts, Diff, Count, Repair}
+use Rattle.dexargs.specs.declared.words.Job.TheVariants.{Check, Dump, DumpClasses, Normalise, Merge, KeepChecking, Digest, Conflicts, Diff, Count, CountEach, Repair}
 
 -- the names of the inputs, in the order in which they are read
 abbrev pub input_names : Job → List (List ℕ)
@@ -17,6 +17,7 @@ input_names (Digest ending is_stripped files) = map string_bytes files.items
 input_names (Conflicts ending is_stripped files) = map string_bytes files.items
 input_names (Diff old is_stripped files) = map string_bytes files.items
 input_names (Count files) = map string_bytes files.items
+input_names (CountEach ending files) = map string_bytes files.items
 input_names (Repair file out placing) = string_bytes file ∷ []
 
 -- the name of the output, or none where the job writes to standard output
@@ -31,6 +32,7 @@ output_name (Digest ending is_stripped files) = None
 output_name (Conflicts ending is_stripped files) = None
 output_name (Diff old is_stripped files) = None
 output_name (Count files) = None
+output_name (CountEach ending files) = None
 output_name (Repair file out placing) = Some (string_bytes out)
 
 -- how the output comes under its name: in place where the job writes to standard output
@@ -45,4 +47,5 @@ placing (Digest ending is_stripped files) = InPlace
 placing (Conflicts ending is_stripped files) = InPlace
 placing (Diff old is_stripped files) = InPlace
 placing (Count files) = InPlace
+placing (CountEach ending files) = InPlace
 placing (Repair file out place) = place

@@ -17,7 +17,8 @@ pub fn input_names(job: &Job) -> &[String]
         | Job::Digest(_, _, files)
         | Job::Conflicts(_, _, files)
         | Job::Diff(_, _, files)
-        | Job::Count(files) => files.as_slice(),
+        | Job::Count(files)
+        | Job::CountEach(_, files) => files.as_slice(),
         Job::Dump(file)
         | Job::DumpClasses(file, _)
         | Job::Normalise(file, _, _)
@@ -41,7 +42,8 @@ pub fn output_name(job: &Job) -> Option<&str>
         | Job::Digest(_, _, _)
         | Job::Conflicts(_, _, _)
         | Job::Diff(_, _, _)
-        | Job::Count(_) => None,
+        | Job::Count(_)
+        | Job::CountEach(_, _) => None,
     }
 }
 
@@ -60,6 +62,7 @@ pub fn placing(job: &Job) -> Placing
         | Job::Digest(_, _, _)
         | Job::Conflicts(_, _, _)
         | Job::Diff(_, _, _)
-        | Job::Count(_) => Placing::InPlace,
+        | Job::Count(_)
+        | Job::CountEach(_, _) => Placing::InPlace,
     }
 }

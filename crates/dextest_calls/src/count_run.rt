@@ -1,14 +1,14 @@
 //! Unions counted as the program does: `countrun files FILE.. is T P F M S W C N`, the numbers of types, protos,
 //! fields, methods, short strings, weight, classes and strings of the union of the files, or `.. is CAUSE`. `-` denotes
-//! no files.
+//! no files. One file alone has the same numbers in one line.
 
 use crate::devices::devices;
 use crate::files::files_of;
 use crate::run_answer::RunAnswer;
 use dexhead::Device;
-use dexruns::count_run;
+use dexruns::{NameForm, count_file_run, count_run};
 use dextest_cases::{CaseFault, Folder, Outcome, Printed};
-use std::alloc::Global;
+use std::alloc::{AllocError, Global};
 use std::rt::Files;
 
 // The text before and after the number of each line.
@@ -36,6 +36,33 @@ pub fn run<R: Files + AllocGlobal>(
 
 /// Counts the union of files, and returns the outcome of a line with this right answer.
 pub fn run_over(alloc: Global, files: &[Vec<u8>], right: &str) -> Result<Outcome, CaseFault> {
+    match run_together(alloc, files, right)? {
+        Outcome::Passed => match files {
+            [file] => run_alone(alloc, file.as_slice(), right),
+            _ => Ok(Outcome::Passed),
+        },
+        failed => Ok(failed),
+    }
+}
+
+// The name of a file that is counted alone.
+const NAME: &str = "a b";
+
+// Counts a file alone.
+fn run_alone(alloc: Global, file: &[u8], right: &str) -> Result<Outcome, CaseFault> {
+    let right = if are_counts(right) {
+        RunAnswer::Written(line_of(alloc, right)?.into_bytes())
+    } else {
+        RunAnswer::Cause(right)
+    };
+    let mut input = Device::new(file);
+    let mut out = Device::new(Vec::new(alloc));
+    let returned = count_file_run(alloc, NameForm::Escaped, NAME, &mut input, &mut out);
+    right.outcome(alloc, &returned, out.into_inner().as_slice())
+}
+
+// Counts the union of files.
+fn run_together(alloc: Global, files: &[Vec<u8>], right: &str) -> Result<Outcome, CaseFault> {
     let right = answer_in(alloc, right)?;
     let mut inputs = devices(alloc, files)?;
     let mut out = Device::new(Vec::new(alloc));
@@ -43,9 +70,14 @@ pub fn run_over(alloc: Global, files: &[Vec<u8>], right: &str) -> Result<Outcome
     right.outcome(alloc, &returned, out.into_inner().as_slice())
 }
 
+// Returns whether what is right is counts, and no cause.
+fn are_counts(right: &str) -> bool {
+    right.starts_with(|letter: char| letter.is_ascii_digit())
+}
+
 // Parses what is right.
 fn answer_in(alloc: Global, right: &str) -> Result<RunAnswer<'_>, CaseFault> {
-    if right.starts_with(|letter: char| letter.is_ascii_digit()) {
+    if are_counts(right) {
         return Ok(RunAnswer::Written(lines_of(alloc, right)?.into_bytes()));
     }
     Ok(RunAnswer::Cause(right))
@@ -63,4 +95,16 @@ fn lines_of(alloc: Global, counts: &str) -> Result<String, CaseFault> {
         lines.add(cap);
     }
     Ok(lines.finish()?)
+}
+
+// Returns the line of a file with these numbers.
+fn line_of(alloc: Global, counts: &str) -> Result<String, AllocError> {
+    let mut line = Printed::new(alloc);
+    for count in counts.split(' ') {
+        line.add(count);
+        line.add("\t");
+    }
+    line.add(NAME);
+    line.add("\n");
+    line.finish()
 }

@@ -60,6 +60,8 @@ const DIGESTS: &str = "9c62f0a840d5e9ec28ed4ee1ded1977522fda2c3\tLA;\ta\n\
 const COUNTS: &str = "types 3 of 65535\nprotos 0 of 65535\nfields 0 of 65536\nmethods 0 of 65536\n\
     short-strings 0 of 65536\nweight 1330 of 1073741824\nclasses 2\nstrings 3\n";
 
+const COUNTS_OF_EACH: &str = "2\t0\t0\t0\t0\t1211\t1\t2\ta\n2\t0\t0\t0\t0\t1166\t1\t2\tb\n";
+
 #[test]
 fn jobs_read_and_write_the_files_of_their_names(rt: HostRuntime) {
     for (words, outcome, written) in [
@@ -121,6 +123,11 @@ fn jobs_read_and_write_the_files_of_their_names(rt: HostRuntime) {
         ("dump a", "0 [] opened 1 made 0 moved 0", LISTING),
         ("digest a b", "0 [] opened 2 made 0 moved 0", DIGESTS),
         ("count a b", "0 [] opened 2 made 0 moved 0", COUNTS),
+        (
+            "count --each a b",
+            "0 [] opened 2 made 0 moved 0",
+            COUNTS_OF_EACH,
+        ),
     ] {
         assert!(rt;
             have_outcome(rt.alloc(), words, outcome, written) == Some(true),

@@ -43,6 +43,7 @@ fn files_are_read_as_jobs(rt: HostRuntime) {
         ("digest a --strip -", "Digest(Line, true, [\"a\", \"-\"])"),
         ("count a", "Count([\"a\"])"),
         ("count a -- -b", "Count([\"a\", \"-b\"])"),
+        ("count a --each b", "CountEach(Line, [\"a\", \"b\"])"),
     ] {
         assert!(rt; are_read(rt.alloc(), words, job) == Some(true), "{words}");
     }
@@ -119,6 +120,8 @@ fn other_words_are_refused(rt: HostRuntime) {
         "digest --strip --strip a",
         "count",
         "count --max-types 1 a",
+        "count --each",
+        "count --each --each a",
         "repair a",
         "repair a b c",
         "repair -o b a",

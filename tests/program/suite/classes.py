@@ -66,6 +66,11 @@ class Classes:
             f"short-strings 0 of 65536\nweight {self.weight()} of 1073741824\nclasses {pool - 1}\nstrings {pool}\n"
         ).encode()
 
+    def counted(self, file: bytes) -> bytes:
+        """Returns what `count --each` prints of a file of this name that has these classes."""
+        pool = len(self.names) + 1
+        return f"{pool}\t0\t0\t0\t0\t{self.weight()}\t{pool - 1}\t{pool}\t".encode() + file + b"\n"
+
     def listing(self) -> bytes:
         """Returns what `dump` prints of a file of these classes."""
         return "".join(f"class {name} flags=0x1(public) super={OBJECT}\n" for name in self.names).encode()

@@ -220,9 +220,12 @@ class Asks:
         if re.fullmatch(f"{NUMBER}( {NUMBER}){{7}}", right):
             greatest = [f" of {most}" for most in GREATEST] + ["", ""]
             expected = done("".join(f"{kind} {count}{most}\n" for kind, count, most in zip(COUNTED, right.split(), greatest)).encode())
+            alone = done("\t".join(right.split() + files).encode() + b"\n")
         else:
-            expected = faults(right, files)
+            expected = alone = faults(right, files)
         yield Ask([b"count"] + [name.encode() for name in files], expected)
+        if len(files) == 1:
+            yield Ask([b"count", b"--each", files[0].encode()], alone)
 
     def files(self, line: Line, word: str, names: str) -> List[str]:
         """Returns the names of files after the word `files`."""

@@ -33,6 +33,7 @@ class Sources:
             b"then": self.joined,
             b"classes": lambda rest: classes(rest.split()).canonical(),
             b"counts": lambda rest: classes(rest.split()).counts(),
+            b"counted": counted,
             b"listing": lambda rest: classes(rest.split()).listing(),
             b"digests": digests,
         }
@@ -94,6 +95,12 @@ def classes(rest: List[bytes]) -> Classes:
     if len(rest) not in (2, 3):
         raise ValueError("classes are `FIRST LAST`, or `FIRST LAST WIDTH`")
     return Classes(*(int(word) for word in rest))
+
+
+def counted(rest: bytes) -> bytes:
+    """`counted FILE FIRST LAST [WIDTH]`."""
+    name, *numbers = rest.split()
+    return classes(numbers).counted(unescaped(name))
 
 
 def digests(rest: bytes) -> bytes:

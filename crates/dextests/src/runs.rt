@@ -6,8 +6,8 @@ use crate::files::{
 };
 use crate::scripts::{Script, Scripted, WHOLE, by, failing};
 use dexcmd::{
-    MergeCause, NameForm, RunFault, check_run, count_run, digest_run, dump_run, explain, merge_run,
-    merge_strip_run, normalise_run, repair_run,
+    Listed, MergeCause, NameForm, RunFault, check_run, count_run, digest_run, dump_classes_run,
+    dump_run, explain, merge_run, merge_strip_run, normalise_run, repair_run,
 };
 use dexhead::{Device, DeviceFault, Refusal, Sink, Source};
 use dexmerge::{Caps, Plan};
@@ -386,6 +386,31 @@ fn an_error_on_an_empty_buffer_is_a_fault(rt: HostRuntime) {
     let mut input = Device::new(Scripted::new(LISTING, failing(100, 0)));
     let answer = Source::read(&mut input, &mut []);
     assert!(rt; answer == Err(DeviceFault) && Source::failed(&input));
+}
+
+const LISTING_OF_B: &[u8] = b"class LB; flags=0x1(public) super=LA;\n";
+
+// Returns whether a listing of the classes of two names of the file of `LA;` and `LB;` returns and writes this.
+fn are_listed(alloc: Global, names: [&str; 2], right: Listed, lines: &[u8]) -> Option<bool> {
+    let file = letters_a_and_b(alloc)?;
+    let mut classes = Vec::new(alloc);
+    for name in names {
+        classes.push(String::from_str(alloc, name).ok()?).ok()?;
+    }
+    let mut input = Device::new(file.as_slice());
+    let mut out = Device::new(Vec::new(alloc));
+    let listed = dump_classes_run(alloc, classes.as_slice(), &mut input, &mut out).ok()?;
+    Some(listed == right && out.into_inner().as_slice() == lines)
+}
+
+#[test]
+fn classes_are_listed_by_their_names(rt: HostRuntime) {
+    for (names, listed, lines) in [
+        (["LB;", "LB;"], Listed::Done, LISTING_OF_B),
+        (["LA;", "LC;"], Listed::NoClass(1), b""),
+    ] {
+        assert!(rt; are_listed(rt.alloc(), names, listed, lines) == Some(true));
+    }
 }
 
 // Returns how many calls read 10,000 bytes, which are not a DEX file, if `expected` bytes are expected and each call

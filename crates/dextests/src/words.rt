@@ -39,6 +39,10 @@ fn files_are_read_as_jobs(rt: HostRuntime) {
             "KeepChecking(Line, [\"a\", \"b\"])",
         ),
         ("dump a.dex", "Dump(\"a.dex\")"),
+        (
+            "dump --class LB; a --class=LA; --class LB;",
+            "DumpClasses(\"a\", [\"LB;\", \"LA;\", \"LB;\"])",
+        ),
         ("digest a b a", "Digest(Line, false, [\"a\", \"b\", \"a\"])"),
         ("digest a --strip -", "Digest(Line, true, [\"a\", \"-\"])"),
         ("count a", "Count([\"a\"])"),

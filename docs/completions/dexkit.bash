@@ -5,7 +5,7 @@ _dexkit() {
     local commands='check merge normalise digest conflicts diff count dump repair help'
     COMPREPLY=()
     if ((COMP_CWORD == 1)); then
-        mapfile -t COMPREPLY < <(compgen -W "$commands --help --version" -- "$word")
+        mapfile -t COMPREPLY < <(compgen -W "$commands --help --verbose --version" -- "$word")
         return
     fi
     case $before in
@@ -19,7 +19,7 @@ _dexkit() {
         -*) return ;;
     esac
     if [[ $word == -?* ]]; then
-        local options=--help
+        local options='--help --verbose'
         case ${COMP_WORDS[1]} in
             check) options+=' --keep-going -z --null' ;;
             digest | conflicts) options+=' --strip -z --null' ;;

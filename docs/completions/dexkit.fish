@@ -20,6 +20,7 @@ complete -c dexkit -n "__fish_seen_subcommand_from $files" -k -a '(__fish_comple
 complete -c dexkit -n "__fish_seen_subcommand_from $files; and string match -q '@*' -- (commandline -ct)" \
     -a '@(__fish_complete_path (string sub -s 2 -- (commandline -ct)))'
 complete -c dexkit -n "__fish_seen_subcommand_from $files" -l help -d 'Print the use'
+complete -c dexkit -l verbose -d 'Say why a device failed, and what to do about a refusal'
 complete -c dexkit -n '__fish_seen_subcommand_from check' -l keep-going -d 'Go on after a file that cannot be read'
 complete -c dexkit -n '__fish_seen_subcommand_from check digest conflicts count' -s z -l null \
     -d 'Names end with a zero byte'

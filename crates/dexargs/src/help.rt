@@ -55,6 +55,10 @@ pub(crate) const NULL_LISTS: &str = "Names in lists end with a zero byte";
 pub(crate) const NOT_ALONE: &str = "\
 -z or --null is an argument of its own before --, and not of a list";
 
+pub(crate) const VERBOSE: &str = "\
+Says of a fault of a device its reason, and of a
+refusal what it means and what to do";
+
 pub(crate) const REFUSALS: &str = "\
 Refusals. Of conditions 1 to 16 the first that fails is reported; if they hold,
 any one of 17 to 23 that fails. PLACE is 0 for 1 to 10, but the version for 3;

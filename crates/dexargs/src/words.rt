@@ -239,7 +239,8 @@ fn program<'a>(alloc: Global) -> Result<Command<'a>, AllocError> {
         .after_help(help::EXAMPLES_AND_STATUSES)
         .no_binary_name(true)
         .subcommand_required(true)
-        .bin_name("dexkit")
+        .bin_name("dexkit")?
+        .arg(flag(alloc, "verbose", help::VERBOSE).global(true))
 }
 
 // Returns the program with its commands, in the order of the help.

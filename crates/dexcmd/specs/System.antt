@@ -1,9 +1,11 @@
 -- The devices of the system by their names.
 use Rattle.std.specs.Prelude.{◌≡◌, ◌≢◌, ℕ, ◌==◌, if◌then◌else◌, Bool, true, false, List, Option, Some, None, Result, Ok, Err, codes}
+use Rattle.dexcmd.specs.declared.device_error.DeviceError.{DeviceError}
 use Rattle.dexargs.specs.declared.words.Placing.{Placing}
 use Rattle.dexargs.specs.declared.words.Placing.TheVariants.{InPlace, Atomic}
 use Rattle.dexcmd.specs.declared.system.NamedInput.{NamedInput}
-use Rattle.dexcmd.specs.declared.system.NamedInput.TheVariants as input
+use Rattle.dexcmd.specs.declared.system.Origin.{Origin}
+use Rattle.dexcmd.specs.declared.system.Origin.TheVariants as origin
 use Rattle.dexcmd.specs.declared.system.Target.{Target}
 use Rattle.dexcmd.specs.declared.system.Target.TheVariants as target
 use Rattle.dexcmd.specs.declared.system.NamedOutput.{NamedOutput}
@@ -17,10 +19,28 @@ use Rattle.dexcmd.specs.Atomic as atomic
 abbrev pub standard : List ℕ
 standard = codes "-"
 
--- the input reads the file at the path, which is not opened, or standard input for `-`
+-- it is the file at the path, which is not opened, or standard input for `-`
+abbrev pub IsNamedOrigin : {R F D : Type 0} → List ℕ → Origin R F D → Type 0
+IsNamedOrigin name (origin.File file) = (old_path file ≡ name) × IsClosed file
+IsNamedOrigin name (origin.Standard rt) = name ≡ standard
+
+-- the error of a call is kept, if it failed, and none otherwise
+abbrev pub KeepsError : {T E : Type 0} → (DeviceError → E → Type 0) → Result T E → Option DeviceError → Type 0
+KeepsError IsOf (Ok x) kept = kept ≡ None
+KeepsError IsOf (Err error) None = ⊥
+KeepsError IsOf (Err error) (Some kept) = IsOf kept error
+
+-- the error of the last read of an input, if it failed
+abbrev pub read_error : {R F D : Type 0} → NamedInput R F D → Option DeviceError
+read_error input = input.error
+
+-- the input reads the file at the path, which is not opened, or standard input for `-`, and keeps no error
 abbrev pub IsNamedInput : {R F D : Type 0} → List ℕ → NamedInput R F D → Type 0
-IsNamedInput name (input.File file) = (old_path file ≡ name) × IsClosed file
-IsNamedInput name (input.Standard rt) = name ≡ standard
+IsNamedInput name input = IsNamedOrigin name input.origin × (read_error input ≡ None)
+
+-- the error by which an output failed
+abbrev pub write_error : {R F D : Type 0} → NamedOutput R F D → Option DeviceError
+write_error out = out.error
 
 -- the target is standard output
 abbrev pub is_standard : {R F D : Type 0} → Target R F D → Bool

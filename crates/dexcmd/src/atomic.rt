@@ -72,7 +72,7 @@ impl<'a, R: Files> AtomicFile<'a, R> {
     {
         if let Ok(found) = fs::metadata(self.rt, self.path) {
             if !found.is_file() {
-                return Err(ErrorKind::InvalidInput.into());
+                return Err(io::Error::new(ErrorKind::InvalidInput, "Not a regular file"));
             }
         }
         for number in 0..TRIES {
@@ -84,7 +84,7 @@ impl<'a, R: Files> AtomicFile<'a, R> {
                 made => return made,
             }
         }
-        Err(ErrorKind::AlreadyExists.into())
+        Err(io::Error::new(ErrorKind::AlreadyExists, "All temporary names exist"))
     }
 
     // Makes the file if it is not made.

@@ -11,9 +11,11 @@ ghost use Rattle.dexargs.specs.Words.{IsSound};
 
 use clap::Error;
 use clap::error::ErrorKind;
+use dexargs::{MEANINGS, REMEDIES, is_verbose};
 use dexcmd::{
-    ExitStatus, Job, Report, SystemDevices, ending_of, expand_arguments, explain_argument,
-    explain_lists, explain_output, finish_job, input_names, print_report, read_words,
+    DeviceError, ExitStatus, Inputs, Job, ListsFault, NamedInput, NamedOutput, Reasons, Remedies,
+    Report, SystemDevices, ending_of, expand_arguments, explain_argument, explain_lists,
+    explain_output, finish_job, input_names, print_report, read_words,
 };
 use dexhead::Device;
 use std::alloc::{AllocError, Global};
@@ -24,8 +26,42 @@ use std::rt::{Env, Files};
 use std::str::from_utf8;
 use std::{env, io};
 
+// A report with what is known of its faults, or as it is where there is no memory for that.
+fn explained(alloc: Global, report: Report, reasons: Result<Reasons, AllocError>) -> Report {
+    let Ok(reasons) = reasons else {
+        return report;
+    };
+    let remedies = Remedies {
+        meanings: &MEANINGS,
+        remedies: &REMEDIES,
+    };
+    match report.explained(alloc, &reasons, &remedies) {
+        Ok(explained) => explained,
+        Err(AllocError) => report,
+    }
+}
+
+// The reason of one input.
+fn reason_of_input(alloc: Global, error: Option<DeviceError>) -> Result<Reasons, AllocError> {
+    let mut reasons = Reasons::new(alloc);
+    reasons.add_input(alloc, error)?;
+    Ok(reasons)
+}
+
+// The reason of an output.
+fn reason_of_output(alloc: Global, error: Option<DeviceError>) -> Result<Reasons, AllocError> {
+    let mut reasons = Reasons::new(alloc);
+    reasons.set_output(alloc, error)?;
+    Ok(reasons)
+}
+
 // Prints why there is no job: the help, the version or the fault of a usage.
-fn explain<R: Print + Eprint>(rt: &R, alloc: Global, error: &Error) -> Result<Report, AllocError> {
+fn explain<R: Print + Eprint>(
+    rt: &R,
+    alloc: Global,
+    error: &Error,
+    is_verbose: bool,
+) -> Result<Report, AllocError> {
     if error.kind() == ErrorKind::OutOfMemory {
         return Err(AllocError);
     }
@@ -35,21 +71,63 @@ fn explain<R: Print + Eprint>(rt: &R, alloc: Global, error: &Error) -> Result<Re
     }
     match printed {
         Ok(()) => Ok(Report::of_status(alloc, ExitStatus::Done)),
-        Err(error) => explain_output(alloc, error.kind() == io::ErrorKind::BrokenPipe),
+        Err(error) => {
+            let report = explain_output(alloc, error.kind() == io::ErrorKind::BrokenPipe)?;
+            if !is_verbose {
+                return Ok(report);
+            }
+            let reasons = reason_of_output(alloc, Some(DeviceError::of(error)));
+            Ok(explained(alloc, report, reasons))
+        }
     }
 }
 
-// Does a job that arguments ask for over the devices of its names, and finishes its output.
-fn run_named<R: Files + Print + Input>(
+// Reports why arguments were not expanded.
+fn explain_unread(
     alloc: Global,
-    devices: &SystemDevices<'_, R>,
-    job: &Job,
+    fault: ListsFault<'_>,
+    is_verbose: bool,
+) -> Result<Report, AllocError> {
+    let report = explain_lists(alloc, fault)?;
+    if !is_verbose {
+        return Ok(report);
+    }
+    let reasons = reason_of_input(alloc, fault.error());
+    Ok(explained(alloc, report, reasons))
+}
+
+// The reasons of the inputs of a job, in their order, and of its output.
+fn reasons_of<'a, R: Files + Print + Input>(
+    alloc: Global,
+    devices: &SystemDevices<'a, R>,
+    inputs: Vec<Device<NamedInput<'a, R>>>,
+    out: &NamedOutput<'a, R>,
+) -> Result<Reasons, AllocError> {
+    let mut reasons = Reasons::new(alloc);
+    for input in inputs {
+        reasons.add_input(alloc, devices.error(input))?;
+    }
+    reasons.set_output(alloc, out.error())?;
+    Ok(reasons)
+}
+
+// Does a job that arguments ask for over the devices of its names, and finishes its output.
+fn run_named<'a, R: Files + Print + Input>(
+    alloc: Global,
+    devices: &SystemDevices<'a, R>,
+    job: &'a Job,
+    is_verbose: bool,
 ) -> Result<Report, AllocError>
     requires { IsSound job.now }
 {
     let mut inputs = devices.inputs(alloc, input_names(job))?;
     let mut out = devices.output_of(alloc, job)?;
-    finish_job(alloc, job, inputs.as_mut_slice(), &mut out)
+    let report = finish_job(alloc, job, inputs.as_mut_slice(), &mut out)?;
+    if !is_verbose {
+        return Ok(report);
+    }
+    let reasons = reasons_of(alloc, devices, inputs, &out);
+    Ok(explained(alloc, report, reasons))
 }
 
 // Does what the arguments ask for.
@@ -62,12 +140,12 @@ fn start<R: Files + Print + Eprint + Input>(
     let ending = ending_of(arguments);
     let expanded = match expand_arguments(alloc, &devices, ending, arguments) {
         Ok(expanded) => expanded,
-        Err(fault) => return explain_lists(alloc, fault),
+        Err(fault) => return explain_unread(alloc, fault, is_verbose(arguments)),
     };
     let words: Vec<&str> = expanded.iter().map(String::as_str).collect(alloc)?;
     match read_words(alloc, &words, ending) {
-        Ok(job) => run_named(alloc, &devices, &job),
-        Err(error) => explain(rt, alloc, &error),
+        Ok(job) => run_named(alloc, &devices, &job, is_verbose(&expanded)),
+        Err(error) => explain(rt, alloc, &error, is_verbose(&expanded)),
     }
 }
 

@@ -4,27 +4,47 @@ ghost use Rattle.dexargs.specs.Words.{IsSound};
 
 use crate::system::{Log, System, file};
 use crate::words::words_of;
+use dexargs::{MEANINGS, REMEDIES};
 use dexcmd::{
-    Ending, Job, ListsFault, Report, SystemDevices, ending_of, expand_arguments, explain_lists,
-    finish_job, input_names, read_words,
+    Ending, Inputs, Job, ListsFault, Reasons, Remedies, Report, SystemDevices, ending_of,
+    expand_arguments, explain_lists, finish_job, input_names, read_words,
 };
 use std::alloc::{AllocError, Global};
 
-// Runs a job that arguments ask for over the devices of its names, and returns its report.
-fn run(alloc: Global, system: &System<'_>, job: &Job) -> Result<Report, AllocError>
+// Runs a job that arguments ask for over the devices of its names, and returns its report, with what is known of its
+// faults if the flag is set.
+fn run(
+    alloc: Global,
+    system: &System<'_>,
+    job: &Job,
+    is_verbose: bool,
+) -> Result<Report, AllocError>
     requires { IsSound job.now }
 {
     let devices = SystemDevices::new(system);
     let mut inputs = devices.inputs(alloc, input_names(job))?;
     let mut out = devices.output_of(alloc, job)?;
-    finish_job(alloc, job, inputs.as_mut_slice(), &mut out)
+    let report = finish_job(alloc, job, inputs.as_mut_slice(), &mut out)?;
+    if !is_verbose {
+        return Ok(report);
+    }
+    let mut reasons = Reasons::new(alloc);
+    for input in inputs {
+        reasons.add_input(alloc, devices.error(input))?;
+    }
+    reasons.set_output(alloc, out.error())?;
+    let remedies = Remedies {
+        meanings: &MEANINGS,
+        remedies: &REMEDIES,
+    };
+    report.explained(alloc, &reasons, &remedies)
 }
 
 // Runs the job that the arguments ask for, and returns its report.
-fn report(alloc: Global, system: &System<'_>, words: &str) -> Option<Report> {
+fn report(alloc: Global, system: &System<'_>, words: &str, is_verbose: bool) -> Option<Report> {
     let words = words_of(alloc, words).ok()?;
     match read_words(alloc, words.as_slice(), Ending::Line) {
-        Ok(job) => run(alloc, system, &job).ok(),
+        Ok(job) => run(alloc, system, &job, is_verbose).ok(),
         Err(_) => None,
     }
 }
@@ -42,7 +62,7 @@ fn are_bytes(alloc: Global, bytes: &[u8], name: &str) -> bool {
 fn have_outcome(alloc: Global, words: &str, outcome: &str, written: &str) -> Option<bool> {
     let log = Log::new(alloc);
     let system = System { alloc, log: &log };
-    let report = report(alloc, &system, words)?;
+    let report = report(alloc, &system, words, false)?;
     let (status, lines) = (report.status, &report.lines);
     let (opened, made, moved) = (log.opened.get(), log.made.get(), log.moved.get());
     let line = format!(in alloc;
@@ -218,6 +238,41 @@ fn lists_are_replaced_by_their_lines(rt: HostRuntime) {
         let expanded = expanded(rt.alloc(), words);
         assert!(rt;
             expanded.is_some_and(|expanded| expanded.as_str() == right),
+            "{words}"
+        );
+    }
+}
+
+// Returns the status and the lines of the job that the arguments ask for, with what is known of its faults.
+fn explained(alloc: Global, words: &str) -> Option<String> {
+    let log = Log::new(alloc);
+    let system = System { alloc, log: &log };
+    let report = report(alloc, &system, words, true)?;
+    let (status, lines) = (report.status, &report.lines);
+    format!(in alloc; "{status} {lines:?}").ok()
+}
+
+#[test]
+fn faults_are_explained(rt: HostRuntime) {
+    for (words, right) in [
+        ("normalise a o", "0 []"),
+        (
+            "check --keep-going missing a gone",
+            "3 [\"dexkit: missing: cannot be read: entity not found\", \"dexkit: gone: cannot be read: entity not found\"]",
+        ),
+        (
+            "normalise a b",
+            "3 [\"dexkit: b: cannot be written: permission denied\"]",
+        ),
+        (
+            "normalise cut o",
+            "1 [\"dexkit: cut: refused 4 Lengths at 0\", \"  It is not as long as its header says: it was cut, or something was appended.\", \"  Fetch or build it again.\"]",
+        ),
+        ("merge -o o a source", "1 [\"dexkit: conflict LA;\"]"),
+    ] {
+        let explained = explained(rt.alloc(), words);
+        assert!(rt;
+            explained.is_some_and(|explained| explained.as_str() == right),
             "{words}"
         );
     }

@@ -38,6 +38,8 @@ fn files_are_read_as_jobs(rt: HostRuntime) {
             "check a b --keep-going",
             "KeepChecking(Line, [\"a\", \"b\"])",
         ),
+        ("check a --verbose", "Check(Line, [\"a\"])"),
+        ("--verbose check a", "Check(Line, [\"a\"])"),
         ("dump a.dex", "Dump(\"a.dex\")"),
         (
             "dump --class LB; a --class=LA; --class LB;",

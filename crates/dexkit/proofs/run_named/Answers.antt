@@ -3,6 +3,7 @@ use Rattle.std.specs.Prelude.{All}
 use Rattle.std.specs.List.{AllZip}
 use Rattle.std.proofs.lemmas.List.Elements.{All-get_or}
 use Rattle.dexhead.specs.Device.{inner_of, is_broken}
+use Rattle.dexcmd.proofs.Outputs.{output_works}
 use Rattle.dexkit.proofs.run_named.Goals as goal
 
 -- what goes side by side has one length
@@ -21,3 +22,6 @@ pub finish_job-requires-clause-inputs : goal.finish_job-requires-clause-inputs
 finish_job-requires-clause-inputs g c k d lt =
     All-get_or (λ input. is_broken input ≡ false) c.as_mut_slice.result.now k d lt
     (subst (All (λ input. is_broken input ≡ false)) (sym c.as_mut_slice.ensures.value) c.in_ok-inputs.ensures.works)
+
+pub finish_job-requires-clause-out : goal.finish_job-requires-clause-out
+finish_job-requires-clause-out g c = output_works _ _ c.in_ok-out.out c.in_ok-out.ensures.named

@@ -1,8 +1,8 @@
-use Rattle.std.proofs.Common.{refl, ◌∙◌, subst, [], inl, inr, arith}
+use Rattle.std.proofs.Common.{refl, ◌∙◌, subst, [], inl, inr, arith, Err}
 use Rattle.std.proofs.lemmas.Result.{IfOk-weaker}
 use Rattle.dexruns.specs.declared.faults.RunFault.TheVariants.{Write}
 use Rattle.dexcmd.specs.Jobs.{reported_name}
-use Rattle.dexcmd.specs.Reports.{fault_lines, IsReport}
+use Rattle.dexcmd.specs.Reports.{IsReportOf}
 use Rattle.dexcmd.proofs.jobs.finish_job.Goals as goal
 
 pub returns-then-report-clause-done : goal.returns-then-report-clause-done
@@ -31,7 +31,7 @@ returns-in-Err-clause-done g c =
       written = c.run_job.new.out;
       ran = c.in_ok-report.report;
       is_done = c.in_ok-report.ensures.done;
-      placed = λ _. inr (subst (λ closed. IsReport 3 (fault_lines [] (reported_name c.args.job.now) closed Write) report) c.is_closed.ensures (subst (λ name. IsReport 3 (fault_lines [] name c.is_closed.result Write) report) (c.in_ok-draft.ensures.target ∙ c.reported_name.ensures) h), c.in-Err.ensures.fails);
+      placed = λ _. inr (subst (λ closed. IsReportOf [] (reported_name c.args.job.now) closed (Err Write) report) c.is_closed.ensures (subst (λ name. IsReportOf [] name c.is_closed.result (Err Write) report) (c.in_ok-draft.ensures.target ∙ c.reported_name.ensures) h), c.in-Err.ensures.fails);
       unwritten = c.in-Err.ensures.unwritten;
       unfinished = λ not. absurd (not (omega arith));
     }) c.report.ensures.report

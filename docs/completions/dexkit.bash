@@ -9,6 +9,10 @@ _dexkit() {
         return
     fi
     case $before in
+        --by)
+            mapfile -t COMPREPLY < <(compgen -W package -- "$word")
+            return
+            ;;
         --class | --fan | --max-types | --max-protos | --max-fields | --max-methods | --max-weight) return ;;
     esac
     case ${COMP_WORDS[1]} in
@@ -24,8 +28,8 @@ _dexkit() {
             check) options+=' --keep-going -z --null' ;;
             digest | conflicts) options+=' --strip -z --null' ;;
             diff) options+=' --strip -z --null --from --to' ;;
-            count) options+=' --each -z --null' ;;
-            dump) options+=' --class' ;;
+            count) options+=' --each --by -z --null' ;;
+            dump) options+=' --all --class' ;;
             normalise | normalize | repair) options+=' --atomic' ;;
             merge) options+=' -o --out --atomic --strip -z --null --fan --max-types --max-protos --max-fields --max-methods --max-weight' ;;
         esac

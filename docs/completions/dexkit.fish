@@ -29,8 +29,11 @@ complete -c dexkit -n '__fish_seen_subcommand_from diff merge' -s z -l null \
 complete -c dexkit -n '__fish_seen_subcommand_from conflicts diff' -l strip \
     -d 'Compare without debug programs and source texts'
 complete -c dexkit -n '__fish_seen_subcommand_from count' -l each -d 'Count what each file has'
+complete -c dexkit -n '__fish_seen_subcommand_from count' -l by -x -a package \
+    -d 'Count what the classes of each package have'
 complete -c dexkit -n '__fish_seen_subcommand_from diff' -l from -r -F -d 'The old files'
 complete -c dexkit -n '__fish_seen_subcommand_from diff' -l to -r -F -d 'The new files'
+complete -c dexkit -n '__fish_seen_subcommand_from dump' -l all -d 'List all that the classes have'
 complete -c dexkit -n '__fish_seen_subcommand_from dump' -l class -x -d 'List the class of this name alone'
 complete -c dexkit -n '__fish_seen_subcommand_from merge' -s o -l out -r -F -d 'The file that is written'
 complete -c dexkit -n '__fish_seen_subcommand_from merge normalise normalize repair' -l atomic \

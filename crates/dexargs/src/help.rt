@@ -128,8 +128,18 @@ pub(crate) const ATOMIC: &str = "\
 Moves OUT into its place when it is whole: what fails
 leaves it as it was";
 
+// The fault of an output that cannot be moved.
+pub(crate) const MOVED_STANDARD: &str = "--atomic cannot be used with standard output as OUT";
+
+// The fault of a comparison without its two sides.
+pub(crate) const NO_SIDES: &str = "\
+diff takes OLD and NEW, or the files of each by --from and --to";
+
+// The fault of a value of `--by` that means nothing, and of `--by` beside `--each`.
+pub(crate) const BY_PACKAGE: &str = "--by takes `package`, and cannot be used with --each";
+
 // The fault of arguments that clap lets pass and that ask for no job.
-pub(crate) const NO_JOB: &str = "--atomic cannot be used with standard output as OUT";
+pub(crate) const NO_JOB: &str = "these arguments ask for nothing";
 
 pub(crate) const STRIP: &str = "\
 Leaves out debug programs and source texts (the files
@@ -200,9 +210,16 @@ being too much. A conflict or a cycle is reported as merge reports it.
 
 With --each, prints a line for each file, in order: the eight numbers in the
 order above, and FILE, with tabs between them. It goes on after a refused file,
-with status 1 at the end.";
+with status 1 at the end.
+
+With --by package, prints a line for each package, in order: the eight numbers
+that a file with just its classes has, and the package, with tabs between them.
+The package of Lcom/foo/Bar; is com/foo, and that of a class without one is `.`.
+Conflicts and cycles between packages are reported, and then nothing is printed.";
 
 pub(crate) const EACH: &str = "Counts what each of the files has, in a line each";
+
+pub(crate) const BY: &str = "Counts what the classes of each package have, for `package`";
 
 pub(crate) const DUMP: &str = "Lists the classes of a file, with members and instructions";
 
@@ -210,7 +227,13 @@ pub(crate) const DUMP_LONG: &str = "\
 Lists the classes of a file, with members and instructions, in the order of the
 canonical file. With --class it lists the classes of these names alone, in the
 same order and with the same lines. If no class has one of the names, that is
-reported with status 1, and nothing is written.";
+reported with status 1, and nothing is written.
+
+With --all it lists all that the classes have: the operands of instructions,
+values, annotations, tries and debug programs. Two classes with the same lines
+are the same.";
+
+pub(crate) const ALL: &str = "Lists all that the classes have";
 
 pub(crate) const CLASS: &str = "\
 Lists the class of this name alone, as `dump` prints it,

@@ -3,6 +3,7 @@
 //! Public contracts use the definitions of `specs/Lists`, `specs/Verbosity` and `specs/Words`.
 #![tactic(auto)]
 
+mod commands;
 mod help;
 mod lists;
 mod remedies;

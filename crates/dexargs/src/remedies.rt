@@ -1,5 +1,5 @@
-//! What each refusal means, and what to do then, at the number of its condition. The help of `check` and the manual have
-//! these texts too.
+//! What each refusal means, and what to do then, at the number of its condition. The help of `check` and the manual
+//! have these texts too.
 
 // What to do where nothing else is known.
 const GENERAL: &str =

@@ -1,24 +1,27 @@
 //! The commands of the program, and the job that its arguments ask for.
 
-ghost use Rattle.std.specs.Prelude.{◌<◌, vec_len, string_bytes, IfOk, IfSome};
+ghost use Rattle.std.specs.Prelude.{◌≡◌, ◌≢◌, ◌<◌, ◌≤◌, not, map, vec_len, string_bytes, option_map, IfOk, IfErr, IfSome};
+ghost use Rattle.clap.specs.Values.{kind_of};
+ghost use Rattle.clap.specs.Kinds.{HasKind};
+ghost use Rattle.clap.specs.declared.error.kind.ErrorKind.TheVariants.{ValueValidation};
+ghost use Rattle.clap.specs.Matches.{found_of};
+ghost use Rattle.clap.specs.Walk.{first_of, is_empty, rows_of};
+ghost use Rattle.clap.specs.Simple.{app_of, subcommand_rows_of};
 ghost use Rattle.dexspec.specs.Merging.{AreCaps};
 ghost use Rattle.dexargs.specs.Words.{IsSound, IsSoundOut, EndsNames};
+ghost use Rattle.dexargs.specs.Asked.{is_set, values_in, number_in, files_in, out_in, fan_in, caps_in, names_in, side_ids, merge_in, diff_in, by_in, count_in, dump_in, ends_names, asked_of, asked_by, request_of, IsAsked, refusal};
+ghost use Rattle.dexargs.specs.CommandLine.{program_app};
+ghost use Rattle.dexargs.specs.Answers.{Returns};
 ghost use Rattle.dexargs.specs.declared.lists.Ending.{Ending};
+ghost use Rattle.dexargs.specs.declared.words.NoJob.TheVariants.{Memory};
 
+use crate::commands::{GREATEST_FAN, LEAST_FAN, NULL, command};
 use crate::help;
 use crate::lists::Ending;
-use clap::builder::ValueParser;
 use clap::error::ErrorKind;
-use clap::{Arg, ArgAction, ArgMatches, Command, Error, value_parser};
+use clap::{ArgMatches, Command, Error};
 use dexmerge::Caps;
-use std::alloc::{AllocError, Global};
-
-// The option for names that end with a zero byte.
-const NULL: &str = "null";
-
-const LEAST_FAN: u32 = 2;
-
-const GREATEST_FAN: u32 = 65_535;
+use std::alloc::{AllocError, AllocFailed, Global};
 
 // The name of standard output.
 const STANDARD: &str = "-";
@@ -37,10 +40,11 @@ pub enum Placing {
 pub enum Job {
     /// Reports for each of these files whether it is accepted. The names in its lines have this ending.
     Check(Ending, Vec<String>),
-    /// Lists the classes of this file.
-    Dump(String),
-    /// Lists the classes of this file that have these names, as a listing prints them.
-    DumpClasses(String, Vec<String>),
+    /// Lists the classes of this file, with all that they have if the flag is set.
+    Dump(bool, String),
+    /// Lists the classes of this file that have these names, as a listing prints them, with all that they have if the
+    /// flag is set.
+    DumpClasses(bool, String, Vec<String>),
     /// Writes the canonical file of the first file to the second.
     Normalise(String, String, Placing),
     /// Writes the merged file to the first name. Merges the given number of files at a time, or all at once, under the
@@ -62,401 +66,370 @@ pub enum Job {
     Count(Vec<String>),
     /// Prints the counts of each of these files.
     CountEach(Ending, Vec<String>),
+    /// Prints the counts of the classes of each package of these files.
+    CountPackages(Vec<String>),
     /// Writes the first file to the second, with its checksum and signature set right.
     Repair(String, String, Placing),
 }
 
-fn one<'a>(alloc: Global, id: &'a str, name: &'a str, help: &'a str) -> Arg<'a> {
-    Arg::new(alloc, id)
-        .value_name(name)
-        .required(true)
-        .help(help)
+// Why there is no job.
+#[derive(Clone, Copy, Debug)]
+enum NoJob {
+    // Allocation failed.
+    Memory,
+    // Standard output is to be moved.
+    MovedStandard,
+    // A comparison has not its two sides.
+    Sides,
+    // Counts are asked for of each file and of each package, or by what they are not made by.
+    Counts,
+    // An option asks for another ending than lists were read by.
+    Ending,
+    // A required argument is not there, or out of its bounds. Clap refuses such arguments before.
+    Argument,
 }
 
-fn files<'a>(alloc: Global) -> Arg<'a> {
-    one(alloc, "files", "FILE", help::FILES)
-        .num_args(1..)
-        .action(ArgAction::Append)
-}
+impl From<AllocError> for NoJob {
+    ghost from_gives = { λ _ e. e ≡ Memory };
 
-// Returns an option without a value.
-fn flag<'a>(alloc: Global, id: &'a str, help: &'a str) -> Arg<'a> {
-    Arg::new(alloc, id)
-        .long(id)
-        .help(help)
-        .action(ArgAction::SetTrue)
-}
-
-// Returns an option whose value is a number from `least` to `greatest`.
-fn number<'a>(alloc: Global, id: &'a str, least: u32, greatest: u32, help: &'a str) -> Arg<'a> {
-    Arg::new(alloc, id)
-        .long(id)
-        .value_name("N")
-        .help(help)
-        .value_parser(value_parser!(u32).range(i64::from(least)..=i64::from(greatest)))
-}
-
-// Returns the option for names that end with a zero byte.
-fn null<'a>(alloc: Global, help: &'a str) -> Arg<'a> {
-    flag(alloc, NULL, help).short('z')
-}
-
-// Adds the files that a command reads, and the option for how their names end.
-fn over_files<'a>(
-    alloc: Global,
-    command: Command<'a>,
-    help: &'a str,
-) -> Result<Command<'a>, AllocError> {
-    command.arg(null(alloc, help))?.arg(files(alloc))
-}
-
-// Returns a command without arguments.
-fn described<'a>(alloc: Global, name: &'a str, about: &'a str, long: &'a str) -> Command<'a> {
-    Command::new(alloc, name).about(about).long_about(long)
-}
-
-fn check<'a>(alloc: Global) -> Result<Command<'a>, AllocError> {
-    let command = described(alloc, "check", help::CHECK, help::CHECK_LONG)
-        .after_long_help(help::REFUSALS)
-        .arg(flag(alloc, "keep-going", help::KEEP_GOING))?;
-    over_files(alloc, command, help::NULL)
-}
-
-fn merge<'a>(alloc: Global) -> Result<Command<'a>, AllocError> {
-    let mut command = described(alloc, "merge", help::MERGE, help::MERGE_LONG)
-        .arg(one(alloc, "out", "OUT", help::OUT).short('o').long("out"))?
-        .arg(flag(alloc, "atomic", help::ATOMIC))?
-        .arg(flag(alloc, "strip", help::STRIP))?;
-    let caps = Caps::greatest();
-    for (id, least, greatest, help) in [
-        ("fan", LEAST_FAN, GREATEST_FAN, help::FAN),
-        ("max-types", 0, caps.types(), help::MAX_TYPES),
-        ("max-protos", 0, caps.protos(), help::MAX_PROTOS),
-        ("max-fields", 0, caps.fields(), help::MAX_FIELDS),
-        ("max-methods", 0, caps.methods(), help::MAX_METHODS),
-        ("max-weight", 0, caps.weight(), help::MAX_WEIGHT),
-    ] {
-        command = command.arg(number(alloc, id, least, greatest, help))?;
+    fn from(_error: AllocError) -> NoJob {
+        NoJob::Memory
     }
-    over_files(alloc, command, help::NULL_LISTS)
 }
 
-fn digest<'a>(alloc: Global) -> Result<Command<'a>, AllocError> {
-    let command = described(alloc, "digest", help::DIGEST, help::DIGEST_LONG).arg(flag(
-        alloc,
-        "strip",
-        help::STRIP,
-    ))?;
-    over_files(alloc, command, help::NULL)
-}
+impl<T: Drop> From<AllocFailed<T>> for NoJob {
+    ghost from_gives = { λ _ e. e ≡ Memory };
 
-fn conflicts<'a>(alloc: Global) -> Result<Command<'a>, AllocError> {
-    let command = described(alloc, "conflicts", help::CONFLICTS, help::CONFLICTS_LONG).arg(flag(
-        alloc,
-        "strip",
-        help::STRIP_COMPARED,
-    ))?;
-    over_files(alloc, command, help::NULL)
-}
-
-// Returns one of the two files of a comparison, in place of which an option names several.
-fn side<'a>(
-    alloc: Global,
-    id: &'a str,
-    name: &'a str,
-    help: &'a str,
-) -> Result<Arg<'a>, AllocError> {
-    Arg::new(alloc, id)
-        .value_name(name)
-        .help(help)
-        .required_unless_present("from")?
-        .conflicts_with_all(&["from", "to"])
-}
-
-// Returns the option that names the files of a side of a comparison, with the option of the other side.
-fn sides<'a>(
-    alloc: Global,
-    id: &'a str,
-    name: &'a str,
-    other: &'a str,
-    help: &'a str,
-) -> Result<Arg<'a>, AllocError> {
-    Arg::new(alloc, id)
-        .long(id)
-        .value_name(name)
-        .num_args(1..)
-        .action(ArgAction::Append)
-        .help(help)
-        .requires_arg(other)
-}
-
-fn diff<'a>(alloc: Global) -> Result<Command<'a>, AllocError> {
-    described(alloc, "diff", help::DIFF, help::DIFF_LONG)
-        .arg(flag(alloc, "strip", help::STRIP_COMPARED))?
-        .arg(null(alloc, help::NULL_LISTS))?
-        .arg(sides(alloc, "from", "OLD", "to", help::FROM)?)?
-        .arg(sides(alloc, "to", "NEW", "from", help::TO)?)?
-        .arg(side(alloc, "old", "OLD", help::OLD)?)?
-        .arg(side(alloc, "new", "NEW", help::NEW)?)
-}
-
-fn count<'a>(alloc: Global) -> Result<Command<'a>, AllocError> {
-    let command = described(alloc, "count", help::COUNT, help::COUNT_LONG);
-    let command = command.arg(flag(alloc, "each", help::EACH))?;
-    over_files(alloc, command, help::NULL)
-}
-
-// Adds the names of the file that a command reads and of the file that it writes, and how it is written.
-fn file_and_out<'a>(alloc: Global, command: Command<'a>) -> Result<Command<'a>, AllocError> {
-    command
-        .arg(flag(alloc, "atomic", help::ATOMIC))?
-        .arg(one(alloc, "file", "FILE", help::FILE))?
-        .arg(one(alloc, "out", "OUT", help::OUT))
-}
-
-fn normalise<'a>(alloc: Global) -> Result<Command<'a>, AllocError> {
-    let command = described(alloc, "normalise", help::NORMALISE, help::NORMALISE_LONG);
-    file_and_out(alloc, command.visible_alias("normalize")?)
-}
-
-fn dump<'a>(alloc: Global) -> Result<Command<'a>, AllocError> {
-    let class = Arg::new(alloc, "class")
-        .long("class")
-        .value_name("NAME")
-        .help(help::CLASS)
-        .action(ArgAction::Append)
-        .value_parser(ValueParser::NonEmptyString);
-    described(alloc, "dump", help::DUMP, help::DUMP_LONG)
-        .arg(class)?
-        .arg(one(alloc, "file", "FILE", help::FILE))
-}
-
-// Returns the program without its commands.
-fn program<'a>(alloc: Global) -> Result<Command<'a>, AllocError> {
-    Command::new(alloc, "dexkit")
-        .about(help::ABOUT)
-        .version(help::VERSION)
-        .after_help(help::EXAMPLES_AND_STATUSES)
-        .no_binary_name(true)
-        .subcommand_required(true)
-        .bin_name("dexkit")?
-        .arg(flag(alloc, "verbose", help::VERBOSE).global(true))
-}
-
-// Returns the program with its commands, in the order of the help.
-fn command<'a>(alloc: Global) -> Result<Command<'a>, AllocError> {
-    let mut program = program(alloc)?;
-    for command in [
-        check(alloc),
-        merge(alloc),
-        normalise(alloc),
-        digest(alloc),
-        conflicts(alloc),
-        diff(alloc),
-        count(alloc),
-        dump(alloc),
-        file_and_out(
-            alloc,
-            described(alloc, "repair", help::REPAIR, help::REPAIR_LONG),
-        ),
-    ] {
-        program = program.subcommand(command?)?;
+    fn from(_error: AllocFailed<T>) -> NoJob {
+        NoJob::Memory
     }
-    Ok(program)
 }
 
-fn text_of(alloc: Global, matches: &ArgMatches<'_>, id: &str) -> Result<String, AllocError> {
-    String::from_str(alloc, matches.get_str(id).unwrap_or(""))
+// Returns whether an option without a value is set.
+fn is_set(matches: &ArgMatches<'_>, id: &str) -> bool
+    ensures { result ≡ is_set id.now (rows_of (found_of matches.now)) }
+{
+    match matches.get_str(id) {
+        Some(value) => value == "true",
+        None => false,
+    }
+}
+
+// Returns the value of an argument that has one.
+fn text_of(alloc: Global, matches: &ArgMatches<'_>, id: &str) -> Result<String, NoJob>
+    ensures { Returns string_bytes (first_of id.now (rows_of (found_of matches.now))) result }
+{
+    match matches.get_str(id) {
+        Some(text) => Ok(String::from_str(alloc, text)?),
+        None => Err(NoJob::Argument),
+    }
+}
+
+// Returns copies of texts.
+fn copies(alloc: Global, texts: &[&str]) -> Result<Vec<String>, AllocError>
+    ensures { IfOk result (λ copies. map string_bytes copies.items
+        ≡ map (λ text. text.now) texts.now) }
+{
+    let mut copies = Vec::new(alloc);
+    for text in texts {
+        copies.push(String::from_str(alloc, text)?)?;
+    }
+    Ok(copies)
 }
 
 // Returns the values of an argument.
-fn texts_of(alloc: Global, matches: &ArgMatches<'_>, id: &str) -> Result<Vec<String>, AllocError> {
-    let texts = matches.get_strs(id).unwrap_or(&[]).iter();
-    texts
-        .map(|text| String::from_str(alloc, text))
-        .try_collect(alloc)
+fn texts_of(alloc: Global, matches: &ArgMatches<'_>, id: &str) -> Result<Vec<String>, AllocError>
+    ensures { IfOk result (λ texts. map string_bytes texts.items
+        ≡ values_in id.now (rows_of (found_of matches.now))) }
+{
+    match matches.get_strs(id) {
+        Some(texts) => copies(alloc, texts),
+        None => Ok(Vec::new(alloc)),
+    }
 }
 
-// Returns the output of a command, and how it comes under its name; `None` if standard output is to be moved.
-fn out_of(alloc: Global, matches: &ArgMatches<'_>) -> Result<Option<(String, Placing)>, AllocError>
-    ensures { IfOk result (λ out. IfSome out (λ out. IsSoundOut (string_bytes out.0) out.1)) }
+// Returns the number of an option.
+fn number_of(matches: &ArgMatches<'_>, id: &str) -> Option<u32>
+    ensures { result ≡ number_in id.now (rows_of (found_of matches.now)) }
+{
+    matches.get_one(id)
+}
+
+// Returns the output of a command, and how it comes under its name. It is a usage error if standard output is to be
+// moved.
+fn out_of(alloc: Global, matches: &ArgMatches<'_>) -> Result<(String, Placing), NoJob>
+    ensures out { Returns (λ out. (string_bytes out.0, out.1))
+        (out_in (rows_of (found_of matches.now))) result }
+    ensures sound { IfOk result (λ out. IsSoundOut (string_bytes out.0) out.1) }
 {
     let out = text_of(alloc, matches, "out")?;
-    if !matches.get_flag("atomic") {
-        return Ok(Some((out, Placing::InPlace)));
+    if !is_set(matches, "atomic") {
+        return Ok((out, Placing::InPlace));
     }
     if out.as_str() == STANDARD {
-        return Ok(None);
+        return Err(NoJob::MovedStandard);
     }
-    Ok(Some((out, Placing::Atomic)))
+    Ok((out, Placing::Atomic))
 }
 
-// Returns the files of a command; `None` if there are none.
-fn files_of(alloc: Global, matches: &ArgMatches<'_>) -> Result<Option<Vec<String>>, AllocError>
-    ensures { IfOk result (λ files. IfSome files (λ files. 0 < vec_len files)) }
+// Returns the files of a command, of which there is one or more.
+fn files_of(alloc: Global, matches: &ArgMatches<'_>) -> Result<Vec<String>, NoJob>
+    ensures files { Returns (λ files. map string_bytes files.items)
+        (files_in (rows_of (found_of matches.now))) result }
+    ensures some { IfOk result (λ files. 0 < vec_len files) }
 {
     let files = texts_of(alloc, matches, "files")?;
-    Ok((!files.is_empty()).then_some(files))
+    if files.is_empty() {
+        return Err(NoJob::Argument);
+    }
+    Ok(files)
+}
+
+// Returns how many files a merge merges at a time.
+fn fan_of(matches: &ArgMatches<'_>) -> Result<Option<usize>, NoJob>
+    ensures fan { Returns (λ fan. fan) (fan_in (rows_of (found_of matches.now))) result }
+    ensures bounds { IfOk result (λ fan. IfSome fan (λ n. 2 ≤ n) × IfSome fan (λ n. n ≤ 65535)) }
+{
+    match number_of(matches, "fan") {
+        None => Ok(None),
+        Some(fan) if LEAST_FAN <= fan && fan <= GREATEST_FAN => Ok(Some(fan as usize)),
+        Some(_) => Err(NoJob::Argument),
+    }
 }
 
 // Returns the caps of a merge: the values of the options, and the greatest caps otherwise.
-fn caps_of(matches: &ArgMatches<'_>) -> Option<Caps>
-    ensures { IfSome result AreCaps }
+fn caps_of(matches: &ArgMatches<'_>) -> Result<Caps, NoJob>
+    ensures caps { Returns (λ caps. caps) (caps_in (rows_of (found_of matches.now))) result }
+    ensures sound { IfOk result AreCaps }
 {
     let greatest = Caps::greatest();
     let caps = Caps::new(
-        matches.get_one("max-types").unwrap_or(greatest.types()),
-        matches.get_one("max-protos").unwrap_or(greatest.protos()),
-        matches.get_one("max-fields").unwrap_or(greatest.fields()),
-        matches.get_one("max-methods").unwrap_or(greatest.methods()),
+        number_of(matches, "max-types").unwrap_or(greatest.types()),
+        number_of(matches, "max-protos").unwrap_or(greatest.protos()),
+        number_of(matches, "max-fields").unwrap_or(greatest.fields()),
+        number_of(matches, "max-methods").unwrap_or(greatest.methods()),
         greatest.short_strings(),
-        matches.get_one("max-weight").unwrap_or(greatest.weight()),
-    )?;
-    caps.are_caps();
-    Some(caps)
-}
-
-fn merge_of(alloc: Global, matches: &ArgMatches<'_>) -> Result<Option<Job>, AllocError>
-    ensures sound { IfOk result (λ job. IfSome job IsSound) }
-    ensures ending { IfOk result (λ job. IfSome job (λ job.
-        (ending : Ending) → EndsNames ending job)) }
-{
-    let fan = matches.get_one::<u32>("fan");
-    let fan = fan.map(|fan| fan.clamp(LEAST_FAN, GREATEST_FAN) as usize);
-    let Some(caps) = caps_of(matches) else {
-        return Ok(None);
-    };
-    let Some(files) = files_of(alloc, matches)? else {
-        return Ok(None);
-    };
-    let Some((out, placing)) = out_of(alloc, matches)? else {
-        return Ok(None);
-    };
-    let strip = matches.get_flag("strip");
-    Ok(Some(Job::Merge(out, placing, fan, caps, strip, files)))
-}
-
-fn digest_of(
-    alloc: Global,
-    matches: &ArgMatches<'_>,
-    ending: Ending,
-) -> Result<Option<Job>, AllocError>
-    ensures sound { IfOk result (λ job. IfSome job IsSound) }
-    ensures ending { IfOk result (λ job. IfSome job (EndsNames ending)) }
-{
-    let strip = matches.get_flag("strip");
-    let Some(files) = files_of(alloc, matches)? else {
-        return Ok(None);
-    };
-    Ok(Some(Job::Digest(ending, strip, files)))
-}
-
-fn conflicts_of(
-    alloc: Global,
-    matches: &ArgMatches<'_>,
-    ending: Ending,
-) -> Result<Option<Job>, AllocError>
-    ensures sound { IfOk result (λ job. IfSome job IsSound) }
-    ensures ending { IfOk result (λ job. IfSome job (EndsNames ending)) }
-{
-    let strip = matches.get_flag("strip");
-    let Some(files) = files_of(alloc, matches)? else {
-        return Ok(None);
-    };
-    Ok(Some(Job::Conflicts(ending, strip, files)))
-}
-
-// Appends the files of a side of a comparison: of an argument and an option, one has them.
-fn append_side(
-    alloc: Global,
-    matches: &ArgMatches<'_>,
-    ids: [&str; 2],
-    files: &mut Vec<String>,
-) -> Result<(), AllocError> {
-    for id in ids {
-        let mut side = texts_of(alloc, matches, id)?;
-        files.append(&mut side)?;
+        number_of(matches, "max-weight").unwrap_or(greatest.weight()),
+    );
+    match caps {
+        Some(caps) => {
+            caps.are_caps();
+            Ok(caps)
+        }
+        None => Err(NoJob::Argument),
     }
-    Ok(())
 }
 
-fn diff_of(alloc: Global, matches: &ArgMatches<'_>) -> Result<Option<Job>, AllocError>
-    ensures sound { IfOk result (λ job. IfSome job IsSound) }
-    ensures ending { IfOk result (λ job. IfSome job (λ job.
-        (ending : Ending) → EndsNames ending job)) }
+fn merge_of(alloc: Global, matches: &ArgMatches<'_>) -> Result<Job, NoJob>
+    ensures job { Returns request_of (merge_in (rows_of (found_of matches.now))) result }
+    ensures sound { IfOk result IsSound }
+    ensures ending { IfOk result (λ job. (ending : Ending) → EndsNames ending job) }
 {
-    let strip = matches.get_flag("strip");
-    let mut files = Vec::new(alloc);
-    append_side(alloc, matches, ["old", "from"], &mut files)?;
-    let old = files.len();
-    append_side(alloc, matches, ["new", "to"], &mut files)?;
-    if old == 0 || files.len() <= old {
-        return Ok(None);
-    }
-    Ok(Some(Job::Diff(old, strip, files)))
+    let fan = fan_of(matches)?;
+    let caps = caps_of(matches)?;
+    let (out, placing) = out_of(alloc, matches)?;
+    let files = files_of(alloc, matches)?;
+    let strip = is_set(matches, "strip");
+    Ok(Job::Merge(out, placing, fan, caps, strip, files))
 }
 
-fn dump_of(alloc: Global, matches: &ArgMatches<'_>) -> Result<Job, AllocError>
+// Returns whether an argument has a value.
+fn is_named(matches: &ArgMatches<'_>, id: &str) -> bool
+    ensures { result ≡ not (is_empty (values_in id.now (rows_of (found_of matches.now)))) }
+{
+    match matches.get_strs(id) {
+        Some(texts) => !texts.is_empty(),
+        None => false,
+    }
+}
+
+// Returns the arguments that name the old and the new files of a comparison. It is a usage error if both name some.
+fn side_ids(matches: &ArgMatches<'_>) -> Option<(&'static str, &'static str)>
+    ensures { option_map (λ ids. (ids.0.now, ids.1.now)) result
+        ≡ side_ids (rows_of (found_of matches.now)) }
+{
+    let are_options = is_named(matches, "from") || is_named(matches, "to");
+    if !are_options {
+        return Some(("old", "new"));
+    }
+    let are_places = is_named(matches, "old") || is_named(matches, "new");
+    (!are_places).then_some(("from", "to"))
+}
+
+fn diff_of(alloc: Global, matches: &ArgMatches<'_>) -> Result<Job, NoJob>
+    ensures job { Returns request_of (diff_in (rows_of (found_of matches.now))) result }
+    ensures sound { IfOk result IsSound }
+    ensures ending { IfOk result (λ job. (ending : Ending) → EndsNames ending job) }
+{
+    let Some((old, new)) = side_ids(matches) else {
+        return Err(NoJob::Sides);
+    };
+    let mut files = texts_of(alloc, matches, old)?;
+    let mut others = texts_of(alloc, matches, new)?;
+    if files.is_empty() || others.is_empty() {
+        return Err(NoJob::Sides);
+    }
+    let count = files.len();
+    files.append(&mut others)?;
+    Ok(Job::Diff(count, is_set(matches, "strip"), files))
+}
+
+fn dump_of(alloc: Global, matches: &ArgMatches<'_>) -> Result<Job, NoJob>
+    ensures job { Returns request_of (dump_in (rows_of (found_of matches.now))) result }
     ensures sound { IfOk result IsSound }
     ensures ending { IfOk result (λ job. (ending : Ending) → EndsNames ending job) }
 {
     let file = text_of(alloc, matches, "file")?;
     let classes = texts_of(alloc, matches, "class")?;
+    let is_full = is_set(matches, "all");
     if classes.is_empty() {
-        return Ok(Job::Dump(file));
+        return Ok(Job::Dump(is_full, file));
     }
-    Ok(Job::DumpClasses(file, classes))
+    Ok(Job::DumpClasses(is_full, file, classes))
+}
+
+// Returns whether classes are counted by package.
+fn by_of(matches: &ArgMatches<'_>) -> Result<bool, NoJob>
+    ensures { Returns (λ by. by) (by_in (rows_of (found_of matches.now))) result }
+{
+    match matches.get_str("by") {
+        None => Ok(false),
+        Some("package") => Ok(true),
+        Some(_) => Err(NoJob::Counts),
+    }
+}
+
+// Returns the job of counts: of each file, of each package, or of all files.
+fn count_of(alloc: Global, matches: &ArgMatches<'_>, ending: Ending) -> Result<Job, NoJob>
+    ensures job { Returns request_of (count_in ending (rows_of (found_of matches.now))) result }
+    ensures sound { IfOk result IsSound }
+    ensures ending { IfOk result (EndsNames ending) }
+{
+    let by_package = by_of(matches)?;
+    let files = files_of(alloc, matches)?;
+    match (is_set(matches, "each"), by_package) {
+        (true, true) => Err(NoJob::Counts),
+        (true, false) => Ok(Job::CountEach(ending, files)),
+        (false, true) => Ok(Job::CountPackages(files)),
+        (false, false) => Ok(Job::Count(files)),
+    }
+}
+
+// Returns the file that a command reads, the one that it writes, and how that comes under its name.
+fn names_of(alloc: Global, matches: &ArgMatches<'_>) -> Result<(String, String, Placing), NoJob>
+    ensures names { Returns (λ names. (string_bytes names.0, string_bytes names.1, names.2))
+        (names_in (rows_of (found_of matches.now))) result }
+    ensures sound { IfOk result (λ names. IsSoundOut (string_bytes names.1) names.2) }
+{
+    let file = text_of(alloc, matches, "file")?;
+    let (out, placing) = out_of(alloc, matches)?;
+    Ok((file, out, placing))
 }
 
 // Returns whether the options of a command ask for names that end as those of lists do, which are read before.
-fn ends_names(matches: &ArgMatches<'_>, ending: Ending) -> bool {
-    match matches.subcommand() {
-        Some(("check" | "merge" | "digest" | "conflicts" | "diff" | "count", found)) => {
-            found.get_flag(NULL) == (ending == Ending::Null)
+fn ends_names(command: &str, matches: &ArgMatches<'_>, ending: Ending) -> bool
+    ensures { result ≡ ends_names ending command.now (rows_of (found_of matches.now)) }
+{
+    match command {
+        "check" | "merge" | "digest" | "conflicts" | "diff" | "count" => {
+            is_set(matches, NULL) == (ending == Ending::Null)
         }
         _ => true,
     }
 }
 
-fn job_of(
+// Returns the job that a command asks for by the matches of its arguments.
+fn job_of_command(
     alloc: Global,
+    command: &str,
     matches: &ArgMatches<'_>,
     ending: Ending,
-) -> Result<Option<Job>, AllocError>
-    ensures sound { IfOk result (λ job. IfSome job IsSound) }
-    ensures ending { IfOk result (λ job. IfSome job (EndsNames ending)) }
+) -> Result<Job, NoJob>
+    ensures job { Returns request_of
+        (asked_of ending command.now (rows_of (found_of matches.now))) result }
+    ensures sound { IfOk result IsSound }
+    ensures ending { IfOk result (EndsNames ending) }
 {
-    let Some((name, found)) = matches.subcommand() else {
-        return Ok(None);
-    };
-    let text = |id| text_of(alloc, found, id);
-    match name {
-        "check" if found.get_flag("keep-going") => {
-            Ok(files_of(alloc, found)?.map(|files| Job::KeepChecking(ending, files)))
+    match command {
+        "check" => {
+            let files = files_of(alloc, matches)?;
+            Ok(if is_set(matches, "keep-going") {
+                Job::KeepChecking(ending, files)
+            } else {
+                Job::Check(ending, files)
+            })
         }
-        "check" => Ok(files_of(alloc, found)?.map(|files| Job::Check(ending, files))),
-        "merge" => merge_of(alloc, found),
+        "merge" => merge_of(alloc, matches),
         "normalise" => {
-            let Some((out, placing)) = out_of(alloc, found)? else {
-                return Ok(None);
-            };
-            Ok(Some(Job::Normalise(text("file")?, out, placing)))
+            let (file, out, placing) = names_of(alloc, matches)?;
+            Ok(Job::Normalise(file, out, placing))
         }
-        "digest" => digest_of(alloc, found, ending),
-        "conflicts" => conflicts_of(alloc, found, ending),
-        "diff" => diff_of(alloc, found),
-        "count" if found.get_flag("each") => {
-            Ok(files_of(alloc, found)?.map(|files| Job::CountEach(ending, files)))
+        "digest" => {
+            let files = files_of(alloc, matches)?;
+            Ok(Job::Digest(ending, is_set(matches, "strip"), files))
         }
-        "count" => Ok(files_of(alloc, found)?.map(Job::Count)),
-        "dump" => Ok(Some(dump_of(alloc, found)?)),
+        "conflicts" => {
+            let files = files_of(alloc, matches)?;
+            Ok(Job::Conflicts(ending, is_set(matches, "strip"), files))
+        }
+        "diff" => diff_of(alloc, matches),
+        "count" => count_of(alloc, matches, ending),
+        "dump" => dump_of(alloc, matches),
         "repair" => {
-            let Some((out, placing)) = out_of(alloc, found)? else {
-                return Ok(None);
-            };
-            Ok(Some(Job::Repair(text("file")?, out, placing)))
+            let (file, out, placing) = names_of(alloc, matches)?;
+            Ok(Job::Repair(file, out, placing))
         }
-        _ => Ok(None),
+        _ => Err(NoJob::Argument),
+    }
+}
+
+// Returns the job that the command asks for that was met.
+fn job_of(alloc: Global, matches: &ArgMatches<'_>, ending: Ending) -> Result<Job, NoJob>
+    ensures job { Returns request_of (asked_by ending (subcommand_rows_of matches.now)) result }
+    ensures sound { IfOk result IsSound }
+    ensures ending { IfOk result (EndsNames ending) }
+{
+    let Some((command, found)) = matches.subcommand() else {
+        return Err(NoJob::Argument);
+    };
+    if !ends_names(command, found, ending) {
+        return Err(NoJob::Ending);
+    }
+    job_of_command(alloc, command, found, ending)
+}
+
+// Returns the usage error of a fault.
+fn usage_error(command: &mut Command<'_>, fault: NoJob) -> Result<Error, AllocError>
+    ensures { IfOk result (λ error. (fault ≢ Memory) × (kind_of error ≡ ValueValidation)) }
+{
+    let text = match fault {
+        NoJob::Memory => return Err(AllocError),
+        NoJob::MovedStandard => help::MOVED_STANDARD,
+        NoJob::Sides => help::NO_SIDES,
+        NoJob::Counts => help::BY_PACKAGE,
+        NoJob::Ending => help::NOT_ALONE,
+        NoJob::Argument => help::NO_JOB,
+    };
+    command.error(ErrorKind::ValueValidation, text)
+}
+
+// Returns the job that arguments ask for, by the command of the program.
+fn job_in<'a>(
+    alloc: Global,
+    command: &mut Command<'a>,
+    words: &'a [&'a str],
+    ending: Ending,
+) -> Result<Job, Error>
+    requires { app_of command.old ≡ program_app }
+    ensures asked { IfOk result (IsAsked ending (map (λ word. word.now) words.now)) }
+    ensures refused { IfErr result (HasKind (refusal ending (map (λ word. word.now) words.now))) }
+    ensures sound { IfOk result IsSound }
+    ensures ending { IfOk result (EndsNames ending) }
+{
+    let matches = command.try_get_matches_from_mut(words)?;
+    match job_of(alloc, &matches, ending) {
+        Ok(job) => Ok(job),
+        Err(fault) => Err(usage_error(command, fault)?),
     }
 }
 
@@ -465,18 +438,14 @@ fn job_of(
 /// of [`ending_of`](crate::ending_of).
 ///
 /// Error: that of `clap`, if the arguments are a usage error, ask for help or the version, or allocation failed. It is a
-/// usage error if an option asks for another ending: `-z` in a list, or among other letters.
+/// usage error if an option asks for another ending (`-z` in a list, or among other letters), if standard output is to
+/// be moved, and if `diff` has files of a side both by name and by option, or none.
 pub fn read_words(alloc: Global, words: &[&str], ending: Ending) -> Result<Job, Error>
+    ensures asked { IfOk result (IsAsked ending (map (λ word. word.now) words.now)) }
+    ensures refused { IfErr result (HasKind (refusal ending (map (λ word. word.now) words.now))) }
     ensures sound { IfOk result IsSound }
     ensures ending { IfOk result (EndsNames ending) }
 {
     let mut command = command(alloc)?;
-    let matches = command.try_get_matches_from_mut(words)?;
-    if !ends_names(&matches, ending) {
-        return Err(command.error(ErrorKind::ValueValidation, help::NOT_ALONE)?);
-    }
-    match job_of(alloc, &matches, ending)? {
-        Some(job) => Ok(job),
-        None => Err(command.error(ErrorKind::ValueValidation, help::NO_JOB)?),
-    }
+    job_in(alloc, &mut command, words, ending)
 }

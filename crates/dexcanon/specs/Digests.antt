@@ -27,7 +27,8 @@ pub record IsFileAlone (d : Definition) : Type 0 where
 
 -- definitions whose files alone are equal are equal
 abbrev pub EqualByFiles : Type 0
-EqualByFiles = (d e : Definition) → IsFileAlone d → IsFileAlone e → canonical (class_alone d) ≡ canonical (class_alone e) → d ≡ e
+EqualByFiles =
+    (d e : Definition) → IsFileAlone d → IsFileAlone e → canonical (class_alone d) ≡ canonical (class_alone e) → d ≡ e
 
 -- what the sums of the canonical file of a class alone are taken of: the file after them
 abbrev pub summed_file : Definition → List ℕ
@@ -40,4 +41,6 @@ pub record IsCollision (one other : List ℕ) : Type 0 where
 
 -- definitions of one digest are equal, or their files are a collision of SHA-1
 abbrev pub EqualByDigests : Type 0
-EqualByDigests = (d e : Definition) → IsFileAlone d → IsFileAlone e → class_digest d ≡ class_digest e → (d ≡ e) ⊎ IsCollision (summed_file d) (summed_file e)
+EqualByDigests =
+    (d e : Definition) → IsFileAlone d → IsFileAlone e → class_digest d ≡ class_digest e
+    → (d ≡ e) ⊎ IsCollision (summed_file d) (summed_file e)

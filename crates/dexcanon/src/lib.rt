@@ -1,6 +1,7 @@
 //! The canonical file of a program.
 //!
-//! Public contracts use the definitions of `specs/Digests`, `specs/Sums` and `specs/Written`, and of `dexout`.
+//! Of the definitions that its contracts use, read `specs/Written` (what is written is the canonical file, and what it
+//! denotes) and `specs/Digests` first; the bytes themselves are `dexspec`'s `Canonical`.
 //!
 //! Source: the Android page "Dalvik Executable format"; the order of the sections and of their contents is this
 //! project's rule.

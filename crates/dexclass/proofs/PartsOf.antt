@@ -1,5 +1,9 @@
 -- Some of the classes that can be merged, and the classes of a program, can be merged.
-use Rattle.dexclass.proofs.Common.{◌≡◌, ℕ, ◌+◌, List, [], ◌∷◌, ◌++◌, map, take, drop, sym, ap, ◌∙◌, subst, arith, append-nil, All, Contains, flat_map, get_or-take, get_or-drop, length-take, length-drop, take-map, drop-map, take-append-drop, map-append, append_assoc, flat_map-append, All-take, All-drop, Contains-append_left, Contains-append_right, AreDistinct, Definition, Collection, definitions, Mentions, mentions, in_class_order, AreWellFormed, IsGood, greatest_caps, IsGood-within, mentions-same, definitions-distinct, in_class_order-only, in_class_order-has, class_names-apart, IsNumbering, AreAmong-map}
+use Rattle.dexclass.proofs.Common.{◌≡◌, ℕ, ◌+◌, ◌<◌, Bool, true, false, List, [], ◌∷◌, ◌++◌, length, get_or, map, take, drop, refl, sym, ap, ◌∙◌, subst, arith, append-nil, All, All-nil, All-cons, All-head, All-tail, Contains, flat_map, get_or-take, get_or-drop, length-take, length-drop, take-map, drop-map, take-append-drop, map-append, append_assoc, flat_map-append, All-take, All-drop, Contains-append_left, Contains-append_right, AreDistinct, Definition, Collection, definitions, Mentions, mentions, in_class_order, AreWellFormed, IsGood, greatest_caps, IsGood-within, mentions-same, definitions-distinct, in_class_order-only, in_class_order-has, class_names-apart, IsNumbering, AreAmong-map}
+use Rattle.dexspec.proofs.lists.Members.{AreDistinct-first, AreDistinct-rest}
+use Rattle.dexspec.proofs.lists.Searches.{AreDistinct-cons}
+use Rattle.dexpool.specs.Cut.{kept}
+use Rattle.dexpool.proofs.KeptPlaces.{kept_among}
 use Rattle.dexclass.specs.{NumberedClass, definition_of, IsKnownClass, AreClassesOf, AreMergeable}
 use Rattle.dexclass.specs.internal.Parts.{AreGoodClasses}
 use Rattle.dexclass.proofs.Places.{one_place, seen_apart}
@@ -19,6 +23,43 @@ AreDistinct-take n xs h i j d less lt e =
 -- and so has a suffix
 AreDistinct-drop : {X : Type 0} (n : ℕ) (xs : List X) → AreDistinct xs → AreDistinct (drop n xs)
 AreDistinct-drop n xs h i j d less lt e = h (n + i) (n + j) d (omega (arith, less)) (omega (arith, lt, (length-drop n xs))) (sym (get_or-drop n xs i d) ∙ e ∙ get_or-drop n xs j d)
+
+-- ---- lists of which some members are kept
+
+AreDistinct-kept : {X : Type 0} (marks : List Bool) (xs : List X) → AreDistinct xs → AreDistinct (kept marks xs)
+AreDistinct-kept (true ∷ marks) (x ∷ xs) h =
+    AreDistinct-cons x (kept marks xs) (λ c. AreDistinct-first x xs h x (kept_among marks xs x c) refl) (AreDistinct-kept marks xs (AreDistinct-rest x xs h))
+AreDistinct-kept (false ∷ marks) (x ∷ xs) h = AreDistinct-kept marks xs (AreDistinct-rest x xs h)
+AreDistinct-kept _ _ h = λ i j d less lt e. absurd (omega (arith, less, lt))
+
+kept-map : {X Y : Type 0} (f : X → Y) (marks : List Bool) (xs : List X) → kept marks (map f xs) ≡ map f (kept marks xs)
+kept-map f (true ∷ marks) (x ∷ xs) = ap (λ ys. f x ∷ ys) (kept-map f marks xs)
+kept-map f (false ∷ marks) (x ∷ xs) = kept-map f marks xs
+kept-map f _ _ = refl
+
+All-kept : {X : Type 0} (P : X → Type 0) (marks : List Bool) (xs : List X) → All P xs → All P (kept marks xs)
+All-kept P (true ∷ marks) (x ∷ xs) all = All-cons P x (kept marks xs) (All-head P x xs all) (All-kept P marks xs (All-tail P x xs all))
+All-kept P (false ∷ marks) (x ∷ xs) all = All-kept P marks xs (All-tail P x xs all)
+All-kept P _ _ all = All-nil P
+
+pub kept-nil : {X : Type 0} (marks : List Bool) → kept {R = X} marks [] ≡ []
+kept-nil [] = refl
+kept-nil (true ∷ marks) = refl
+kept-nil (false ∷ marks) = refl
+
+-- one more member that is kept, or not
+kept_more : {X : Type 0} (marks : List Bool) (xs : List X) (x : X) → length xs < length marks → kept marks (xs ++ x ∷ []) ≡ kept marks xs ++ kept (get_or marks (length xs) false ∷ []) (x ∷ [])
+kept_more (true ∷ marks) [] x lt = ap (λ l. x ∷ l) (kept-nil marks)
+kept_more (false ∷ marks) [] x lt = kept-nil marks
+kept_more (true ∷ marks) (y ∷ xs) x lt = ap (λ ys. y ∷ ys) (kept_more marks xs x (omega (arith, lt)))
+kept_more (false ∷ marks) (y ∷ xs) x lt = kept_more marks xs x (omega (arith, lt))
+kept_more [] xs x lt = absurd (omega (arith, lt))
+
+-- the list of those that are kept with one more member
+pub kept_pushed : {X : Type 0} (marks : List Bool) (xs : List X) (x : X) (mark : Bool) (old new : List X) → length xs < length marks → mark ≡ get_or marks (length xs) false → old ≡ kept marks xs → (mark ≡ true → new ≡ old ++ x ∷ []) → (mark ≡ false → new ≡ old) →
+    new ≡ kept marks (xs ++ x ∷ [])
+kept_pushed marks xs x true old new lt at is pushed same = pushed refl ∙ ap (λ l. l ++ x ∷ []) is ∙ ap (λ t. kept marks xs ++ kept (t ∷ []) (x ∷ [])) at ∙ sym (kept_more marks xs x lt)
+kept_pushed marks xs x false old new lt at is pushed same = same refl ∙ is ∙ sym (append-nil (kept marks xs)) ∙ ap (λ t. kept marks xs ++ kept (t ∷ []) (x ∷ [])) at ∙ sym (kept_more marks xs x lt)
 
 -- ---- some of the classes
 
@@ -55,6 +96,24 @@ module _ (m : Mentions) (cs : List NumberedClass) where
     good = IsGood-within (map (definition_of m) (drop n cs)) D (back_within n) greatest_caps h.good;
     formed = λ d c. h.formed d (back_within n d c);
   }
+
+  -- those that are kept are among all
+  kept_within : (flags : List Bool) (d : Definition) → Contains (map (definition_of m) (kept flags cs)) d → Contains (map (definition_of m) cs) d
+  kept_within flags = AreAmong-map (definition_of m) (kept flags cs) cs (kept_among flags cs)
+
+  -- and are good where all are
+  pub kept_good : AreGoodClasses m cs → (flags : List Bool) → AreGoodClasses m (kept flags cs)
+  kept_good h flags = record {
+    known = All-kept (IsKnownClass m) flags cs h.known;
+    names_differ = subst AreDistinct (kept-map (λ (d : Definition). d.0) flags (map (definition_of m) cs) ∙ ap (map (λ (d : Definition). d.0)) (kept-map (definition_of m) flags cs))
+        (AreDistinct-kept flags (map (λ (d : Definition). d.0) (map (definition_of m) cs)) h.names_differ);
+    good = IsGood-within (map (definition_of m) (kept flags cs)) (map (definition_of m) cs) (kept_within flags) greatest_caps h.good;
+    formed = λ d c. h.formed d (kept_within flags d c);
+  }
+
+  -- and denote what is kept of the definitions
+  pub kept_denote : (flags : List Bool) → map (definition_of m) (kept flags cs) ≡ kept flags (map (definition_of m) cs)
+  kept_denote flags = sym (kept-map (definition_of m) flags cs)
 
   -- trimmed, good classes can be merged
   pub trimmed_good : AreGoodClasses m cs → (n : Mentions) (new : List NumberedClass) → AreTrimmed D n new → AreMergeable n new

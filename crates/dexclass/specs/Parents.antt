@@ -16,7 +16,8 @@ parent_numbers c = parent_types c.superclass c.interfaces
 
 -- a class of nothing
 abbrev pub no_class : NumberedClass
-no_class = record { name = 0; flags = 0; superclass = None; interfaces = []; source = None; members = no_members; weight = 0 }
+no_class =
+    record { name = 0; flags = 0; superclass = None; interfaces = []; source = None; members = no_members; weight = 0 }
 
 -- the name of class i
 abbrev pub name_number : List NumberedClass → ℕ → ℕ
@@ -40,4 +41,5 @@ pub record AreNamed (m : Mentions) (cs : List NumberedClass) : Type 0 where
 -- a place for each type; the depth of each definition is at the number of its name
 pub record AreDepthsByName (m : Mentions) (D : List Definition) (by_name : List (Option ℕ)) : Type 0 where
   pub count : length by_name ≡ length m.types
-  pub each : (d : Definition) → Contains D d → (t : ℕ) → t < length m.types → type_at m t ≡ d.0 → slice_index_or by_name t None ≡ Some (depth D d.0)
+  pub each : (d : Definition) → Contains D d → (t : ℕ) → t < length m.types → type_at m t ≡ d.0
+      → slice_index_or by_name t None ≡ Some (depth D d.0)

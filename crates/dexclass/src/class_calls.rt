@@ -34,8 +34,8 @@ impl<'a> Class<'a> {
         })
     }
 
-    /// Whether the two classes are equal once the numbers of each are remapped as `renumber` does. The names are
-    /// compared first.
+    /// Returns whether the two classes are equal once the numbers of each are remapped as `renumber` does. The names
+    /// are compared first.
     pub fn same_mapped(&self, mine: &Remap, other: &Class<'_>, theirs: &Remap) -> bool
         ensures { IsTrue result ↔ (renumbered mine.now self.now ≡ renumbered theirs.now other.now) }
     {
@@ -50,7 +50,7 @@ impl<'a> Class<'a> {
     }
 }
 
-// Whether two lists of types are mapped to the same numbers.
+// Returns whether two lists of types are mapped to the same numbers.
 fn eq_mapped(mine: &Remap, numbers: &[usize], theirs: &Remap, others: &[usize]) -> bool
     ensures { IsTrue result
         ↔ (remapped_types mine.now numbers.now ≡ remapped_types theirs.now others.now) }

@@ -32,7 +32,7 @@ pub(crate) struct KnownFile<'j, 'a> {
 }
 
 impl<'j, 'a> KnownFile<'j, 'a> {
-    // Whether the index is that of a class.
+    // Returns whether the index is that of a class.
     fn is_class(&self, index: u32) -> bool
         requires { IsKnown self.now.frame.now self.now.pools.now self.now.defined.now }
         ensures { IsTrue result ↔ IsClassIndex self.now.frame.now index }
@@ -41,7 +41,7 @@ impl<'j, 'a> KnownFile<'j, 'a> {
         (index as usize) < self.pools.len(SymbolKind::Typ) && is_class(self.pools.typ(index))
     }
 
-    // Whether the index of a source name is none or that of a text.
+    // Returns whether the index of a source name is none or that of a text.
     fn is_source(&self, index: u32) -> bool
         requires { IsKnown self.now.frame.now self.now.pools.now self.now.defined.now }
         ensures { IsTrue result ↔ IsSourceIndex self.now.frame.now index }
@@ -49,7 +49,7 @@ impl<'j, 'a> KnownFile<'j, 'a> {
         index == NO_INDEX || (index as usize) < self.pools.len(SymbolKind::Text)
     }
 
-    // Whether a type that the file defines is defined before row `r`.
+    // Returns whether a type that the file defines is defined before row `r`.
     fn is_before(&self, index: u32) -> bool
         requires known { IsKnown self.now.frame.now self.now.pools.now self.now.defined.now }
         requires index { index < table_size self.now.frame.now TypeIds }
@@ -60,7 +60,7 @@ impl<'j, 'a> KnownFile<'j, 'a> {
         !self.defined[index as usize] || self.seen[index as usize]
     }
 
-    // Whether the index is that of a class, which is defined before row `r` if the file defines it.
+    // Returns whether the index is that of a class, which is defined before row `r` if the file defines it.
     fn is_class_before(&self, index: u32) -> bool
         requires known { IsKnown self.now.frame.now self.now.pools.now self.now.defined.now }
         requires seen { (r : ℕ) × AreDefinedMarks self.now.frame.now r self.now.seen.now }
@@ -70,8 +70,8 @@ impl<'j, 'a> KnownFile<'j, 'a> {
         self.is_class(index) && self.is_before(index)
     }
 
-    // Whether each number of two bytes in a range of the file is the index of a class, which is defined before row `r` if
-    // the file defines it.
+    // Returns whether each number of two bytes in a range of the file is the index of a class, which is defined before
+    // row `r` if the file defines it.
     fn are_interfaces(&self, range: Range16) -> bool
         requires known { IsKnown self.now.frame.now self.now.pools.now self.now.defined.now }
         requires seen { (r : ℕ) × AreDefinedMarks self.now.frame.now r self.now.seen.now }
@@ -89,8 +89,9 @@ impl<'j, 'a> KnownFile<'j, 'a> {
         true
     }
 
-    // Whether each number of a list is so. Where class rows share long lists, or these overlap, what was checked of them
-    // for one row is not read again for the next: a class that is defined before a row is so before the rows after it.
+    // Returns whether each number of a list is so. Where class rows share long lists, or these overlap, what was
+    // checked of them for one row is not read again for the next: a class that is defined before a row is so before the
+    // rows after it.
     fn is_class_list(&self, checked: &mut CheckedLists, list: Range16) -> Result<bool, AllocError>
         requires known { IsKnown self.now.frame.now self.now.pools.now self.now.defined.now }
         requires seen { (r : ℕ) × AreDefinedMarks self.now.frame.now r self.now.seen.now }
@@ -117,7 +118,7 @@ impl<'j, 'a> KnownFile<'j, 'a> {
         Ok(true)
     }
 
-    // Whether the offset is 0 or that of a list of interfaces.
+    // Returns whether the offset is 0 or that of a list of interfaces.
     fn has_interfaces(&self, checked: &mut CheckedLists, off: u32) -> Result<bool, AllocError>
         requires known { IsKnown self.now.frame.now self.now.pools.now self.now.defined.now }
         requires seen { (r : ℕ) × AreDefinedMarks self.now.frame.now r self.now.seen.now }
@@ -139,8 +140,8 @@ impl<'j, 'a> KnownFile<'j, 'a> {
         self.is_class_list(checked, Range16 { start, end })
     }
 
-    // Whether the index of a superclass is none or that of a class, which is defined before row `r` if the file defines
-    // it.
+    // Returns whether the index of a superclass is none or that of a class, which is defined before row `r` if the file
+    // defines it.
     fn is_parent(&self, index: u32) -> bool
         requires known { IsKnown self.now.frame.now self.now.pools.now self.now.defined.now }
         requires seen { (r : ℕ) × AreDefinedMarks self.now.frame.now r self.now.seen.now }
@@ -150,7 +151,7 @@ impl<'j, 'a> KnownFile<'j, 'a> {
         index == NO_INDEX || self.is_class_before(index)
     }
 
-    // Whether the class row meets condition 16, where the types of the rows before it are seen.
+    // Returns whether the class row meets condition 16, where the types of the rows before it are seen.
     fn holds(&self, checked: &mut CheckedLists, row: &ClassDef) -> Result<bool, AllocError>
         requires known { IsKnown self.now.frame.now self.now.pools.now self.now.defined.now }
         requires seen { (r : ℕ) × AreDefinedMarks self.now.frame.now r self.now.seen.now }

@@ -13,7 +13,7 @@ use std::alloc::{AllocError, Global};
 // What the descriptor of a class starts with, and no other descriptor.
 const CLASS_START: u16 = b'L' as u16;
 
-/// Whether the descriptor is that of a class.
+/// Returns whether the descriptor is that of a class.
 pub(crate) fn is_class(descriptor: &Text<'_>) -> bool
     requires { IsDescriptor descriptor.now }
     ensures { IsTrue result ↔ IsClass descriptor.now }

@@ -1,7 +1,7 @@
 //! Class definitions of a file, and programs: sets of class definitions.
 //!
-//! Public contracts use the definitions of `specs/Checking`, `specs/Numbered`, `specs/Parents`, `specs/Programs`,
-//! `specs/Renumbering` and `specs/Uses`.
+//! Of the definitions that its contracts use, read `specs/Programs` (what a program is), `specs/Numbered` (a class with
+//! numbers for symbols, and the definition that it denotes) and `specs/Checking` first.
 //!
 //! Source: the Android page "Dalvik Executable format", under the headings "class_def_item" and "type_list".
 #![tactic(auto)]

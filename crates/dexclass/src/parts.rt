@@ -1,13 +1,14 @@
 //! Parts of a program: some of its classes, over the numbering of just what these mention.
 
-ghost use Rattle.std.specs.Prelude.{◌≡◌, ◌<◌, ◌≤◌, All, length, IfOk};
+ghost use Rattle.std.specs.Prelude.{◌≡◌, ◌<◌, ◌≤◌, All, length, map, not, vec_len, IfOk};
 ghost use Rattle.std.specs.List.{flat_map};
+ghost use Rattle.dexpool.specs.Cut.{kept};
 ghost use Rattle.dexspec.specs.Files.{definitions, IsCollectionOf};
 ghost use Rattle.dexspec.specs.Depth.{in_class_order};
 
 use crate::classes::Class;
 use crate::programs::Program;
-use crate::trimming::trim;
+use crate::trimming::{into_trimmed, trim};
 use dexpool::Numbering;
 use std::alloc::{AllocError, Global};
 use std::marker::Model;
@@ -44,6 +45,41 @@ impl<'a> Model for Part<'a> {
     ghost view = { λ p. map (definition_of p.numbering) p.classes.items };
 
     ghost invariant = { λ p. AreMergeable p.numbering p.classes.items };
+}
+
+// Classes whose flags are set, and the others.
+#[derive(Drop)]
+struct Divided<'a> {
+    chosen: Vec<Class<'a>>,
+    others: Vec<Class<'a>>,
+}
+
+// Divides classes by their flags.
+fn divide<'a>(
+    alloc: Global,
+    classes: Vec<Class<'a>>,
+    flags: &[bool],
+) -> Result<Divided<'a>, AllocError>
+    requires { length flags.now ≡ vec_len classes }
+    ensures chosen { IfOk result (λ divided.
+        divided.chosen.items ≡ kept flags.now classes.entry.items) }
+    ensures others { IfOk result (λ divided.
+        divided.others.items ≡ kept (map not flags.now) classes.entry.items) }
+{
+    let mut divided = Divided {
+        chosen: Vec::new(alloc),
+        others: Vec::new(alloc),
+    };
+    let mut place = 0;
+    for class in classes {
+        if flags[place] {
+            divided.chosen.push(class)?;
+        } else {
+            divided.others.push(class)?;
+        }
+        place += 1;
+    }
+    Ok(divided)
 }
 
 impl<'a> Part<'a> {
@@ -89,6 +125,40 @@ impl<'a> Part<'a> {
             classes = others;
         }
         Ok(parts)
+    }
+
+    /// The classes whose flags are set, and the others, each in their order. The time grows with the tables of this
+    /// part and with what its classes mention.
+    ///
+    /// Condition: there is a flag for each class.
+    ///
+    /// Source: this project's rule, that a file has the symbols that its classes mention and no others.
+    pub fn partition(
+        self,
+        alloc: Global,
+        flags: &[bool],
+    ) -> Result<(Part<'a>, Part<'a>), AllocError>
+        requires { length flags.now ≡ length self }
+        ensures chosen { IfOk result (λ parts. parts.0 ≡ kept flags.now self.entry) }
+        ensures others { IfOk result (λ parts. parts.1 ≡ kept (map not flags.now) self.entry) }
+    {
+        let Part { numbering, classes } = self;
+        numbering.is_numbering();
+        let Divided {
+            mut chosen,
+            mut others,
+        } = divide(alloc, classes, flags)?;
+        let chosen_numbering = trim(alloc, &numbering, &mut chosen)?;
+        let other_numbering = into_trimmed(alloc, numbering, &mut others)?;
+        let chosen_part = Part {
+            numbering: chosen_numbering,
+            classes: chosen,
+        };
+        let other_part = Part {
+            numbering: other_numbering,
+            classes: others,
+        };
+        Ok((chosen_part, other_part))
     }
 
     /// The program of the classes.

@@ -88,7 +88,8 @@ struct Bodies<'a> {
     weight: u64,
 }
 
-// Reads the class rows, from row 0 on, until the classes weigh more than `most`.
+// Reads the class rows, from row 0 on, until the classes weigh more than `most`. What the members of a row may weigh is
+// what is left for them: what is read is not weighed again.
 fn read_bodies_within<'a>(
     alloc: Global,
     frame: &Frame<'a>,
@@ -112,16 +113,16 @@ fn read_bodies_within<'a>(
         let row = ClassDef::at(frame, r);
         let count = interface_count(frame, row.interfaces_off);
         let own = row_weight(count);
-        let left = most.saturating_sub(bodies.weight + own) as u32;
+        let before = bodies.weight + own;
+        let left = most.saturating_sub(before) as u32;
         let (members, weight) = match read_members(alloc, frame, pools, &row, left) {
             Ok(found) => found,
             Err(fault) => return Err(at_row(fault, r)),
         };
-        let body = own + u64::from(weight);
-        let weight = bodies.weight + body;
-        if weight > most {
+        if before > most {
             return Err(too_heavy(r));
         }
+        let body = own + u64::from(weight);
         let interfaces = interfaces_at(alloc, frame, row.interfaces_off, count)?;
         let class = Class {
             name: row.class_idx as usize,
@@ -133,7 +134,7 @@ fn read_bodies_within<'a>(
             weight: body,
         };
         bodies.classes.push(class)?;
-        bodies.weight = weight;
+        bodies.weight += body;
     }
     Ok(bodies)
 }

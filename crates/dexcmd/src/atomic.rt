@@ -101,18 +101,19 @@ impl<'a, R: Files> AtomicFile<'a, R> {
         Ok(())
     }
 
-    // Lets all of the file reach the disk, closes it, and moves it to its path. The kit has no call that says how closing
-    // ended; what was synced is on the disk whatever that says.
+    // Lets all of the file reach the disk, closes it, and moves it to its path. The kit has no call that says how
+    // closing ended; what was synced is on the disk whatever that says.
     fn settle(&self, file: R::File) -> io::Result<()> {
         file.sync_all()?;
         drop(file);
         fs::rename(self.rt, self.temporary.as_str(), self.path)
     }
 
-    /// Moves what was written to the path of the file, in one step, once all of it is on the disk. A file to which nothing
-    /// was written is empty.
+    /// Moves what was written to the path of the file, in one step, once all of it is on the disk. A file to which
+    /// nothing was written is empty.
     ///
-    /// Error: exactly where it is not moved. Then the path is as it was, and the file under the temporary name is removed.
+    /// Error: exactly where it is not moved. Then the path is as it was, and the file under the temporary name is
+    /// removed.
     pub fn place(&mut self) -> io::Result<()>
         ensures path { atomic_path self.new ≡ atomic_path self.old }
         ensures placed { OnOk result (IsPlaced self.new) }
@@ -159,7 +160,8 @@ impl<'a, R: Files> Write for AtomicFile<'a, R> {
         ensures path { atomic_path self.new ≡ atomic_path self.old }
         ensures made { OnOk result (IsUnmade self.old → IsMade self.new) }
         ensures unplaced { IsUnplaced self.old → IsUnplaced self.new }
-        ensures to { (file : R.File) → IsMadeAs file self.old → IsPutInto R.File.Write.contents file self.old self.new result buf.now }
+        ensures to { (file : R.File) → IsMadeAs file self.old
+            → IsPutInto R.File.Write.contents file self.old self.new result buf.now }
     {
         self.open()?;
         match &mut self.stage {

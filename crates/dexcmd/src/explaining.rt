@@ -2,10 +2,11 @@
 
 ghost use Rattle.std.specs.Prelude.{◌≡◌, ◌++◌, ◌∷◌, [], map, IfOk, OnOk, None, is_some, option_map, string_bytes};
 ghost use Rattle.dexcmd.specs.Reports.{IsReport};
-ghost use Rattle.dexcmd.specs.Explaining.{IsReasonAdded, first_kind, later_kinds, reason_of, reasons_after, note_of, line_with, note_lines, explained_lines};
+ghost use Rattle.dexcmd.specs.Explaining.{IsReasonAdded, first_kind, later_kinds, reason_of, reasons_after, note_of, line_with, note_lines, condition_lines, noted_lines, explained_lines, IsExplainedOrPlain};
 
 use crate::device_error::DeviceError;
 use crate::outcome_report::{LineKind, Report};
+use dexruns::{ConditionSet, condition_text};
 use std::alloc::{AllocError, Global};
 
 /// Why devices failed.
@@ -91,8 +92,10 @@ fn next_reason<'a>(
     unwritten: Option<&'a str>,
 ) -> (Option<&'a str>, &'a [String])
     ensures reason { option_map (λ reason. reason.now) result.0
-        ≡ reason_of kind (map string_bytes unread.now) (option_map (λ reason. reason.now) unwritten.entry) }
-    ensures after { map string_bytes result.1.now ≡ reasons_after kind (map string_bytes unread.now) }
+        ≡ reason_of kind (map string_bytes unread.now)
+        (option_map (λ reason. reason.now) unwritten.entry) }
+    ensures after { map string_bytes result.1.now
+        ≡ reasons_after kind (map string_bytes unread.now) }
 {
     match kind {
         LineKind::Unread => match unread.split_first() {
@@ -146,6 +149,43 @@ fn push_note(alloc: Global, note: Option<&str>, lines: &mut Vec<String>) -> Resu
     Ok(())
 }
 
+// Appends the lines of a condition: that files are refused by it, what that means, and what to do.
+fn push_condition(
+    alloc: Global,
+    number: u8,
+    remedies: &Remedies<'_>,
+    lines: &mut Vec<String>,
+) -> Result<(), AllocError>
+    ensures { OnOk result (map string_bytes lines.new.items ≡ map string_bytes lines.old.items
+        ++ condition_lines (map (λ text. text.now) remedies.now.meanings.now)
+        (map (λ text. text.now) remedies.now.remedies.now) number) }
+{
+    let kind = LineKind::Refused(number);
+    let text = condition_text(alloc, number)?;
+    lines.push(format!(in alloc; "dexkit: {text}")?)?;
+    push_note(alloc, note_of(kind, remedies.meanings), lines)?;
+    push_note(alloc, note_of(kind, remedies.remedies), lines)
+}
+
+// Appends the lines of the conditions of a set, in the order of their numbers.
+fn push_conditions(
+    alloc: Global,
+    conditions: &ConditionSet,
+    remedies: &Remedies<'_>,
+    lines: &mut Vec<String>,
+) -> Result<(), AllocError>
+    ensures { OnOk result (map string_bytes lines.new.items ≡ map string_bytes lines.old.items
+        ++ noted_lines (map (λ text. text.now) remedies.now.meanings.now)
+        (map (λ text. text.now) remedies.now.remedies.now) conditions.now) }
+{
+    for number in 0..ConditionSet::NUMBERS {
+        if conditions.contains(number) {
+            push_condition(alloc, number, remedies, lines)?;
+        }
+    }
+    Ok(())
+}
+
 /// What is said of each condition, at its number: what it means that a file does not meet it, and what to do then.
 #[derive(Clone, Copy, Debug)]
 pub struct Remedies<'a> {
@@ -158,7 +198,9 @@ pub struct Remedies<'a> {
 impl Report {
     /// Returns the report with `: ` and a reason after each line of a device that failed, as long as there are reasons,
     /// and after each line of a refused file two more lines, of two blanks and the meaning of its condition, and of two
-    /// blanks and the remedy. Other lines are as they were. It has no kinds: all is said.
+    /// blanks and the remedy. Other lines are as they were. At the end there are three lines for each of its conditions,
+    /// in the order of their numbers: that files are refused by it, and the same two. It has no kinds and no conditions:
+    /// all is said.
     ///
     /// Error: allocation failed.
     pub fn explained(
@@ -172,7 +214,9 @@ impl Report {
             (map (λ text. text.now) remedies.now.remedies.now)
             (option_map string_bytes reasons.now.unwritten)
             (map string_bytes reasons.now.unread.items)
-            (map string_bytes self.now.lines.items) self.now.kinds.items)) }
+            (map string_bytes self.now.lines.items) self.now.kinds.items
+            ++ noted_lines (map (λ text. text.now) remedies.now.meanings.now)
+            (map (λ text. text.now) remedies.now.remedies.now) self.now.conditions)) }
     {
         let mut lines = Vec::with_capacity(alloc, self.lines.len())?;
         let mut plain = self.lines.as_slice();
@@ -189,10 +233,30 @@ impl Report {
             kinds = others;
             unread = after;
         }
+        push_conditions(alloc, &self.conditions, remedies, &mut lines)?;
         Ok(Report {
             status: self.status,
             lines,
             kinds: Vec::new(alloc),
+            conditions: ConditionSet::new(),
         })
+    }
+    /// Returns the report as [`explained`](Report::explained) does, or as it is where there is no memory for that, or
+    /// was none for the reasons.
+    pub fn explained_or_plain(
+        self,
+        alloc: Global,
+        reasons: Result<Reasons, AllocError>,
+        remedies: &Remedies<'_>,
+    ) -> Report
+        ensures { IsExplainedOrPlain remedies.now reasons self result }
+    {
+        let Ok(reasons) = reasons else {
+            return self;
+        };
+        match self.explained(alloc, &reasons, remedies) {
+            Ok(explained) => explained,
+            Err(AllocError) => self,
+        }
     }
 }

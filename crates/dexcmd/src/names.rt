@@ -18,9 +18,10 @@ pub fn input_names(job: &Job) -> &[String]
         | Job::Conflicts(_, _, files)
         | Job::Diff(_, _, files)
         | Job::Count(files)
-        | Job::CountEach(_, files) => files.as_slice(),
-        Job::Dump(file)
-        | Job::DumpClasses(file, _)
+        | Job::CountEach(_, files)
+        | Job::CountPackages(files) => files.as_slice(),
+        Job::Dump(_, file)
+        | Job::DumpClasses(_, file, _)
         | Job::Normalise(file, _, _)
         | Job::Repair(file, _, _) => slice::from_ref(file),
     }
@@ -36,14 +37,15 @@ pub fn output_name(job: &Job) -> Option<&str>
             Some(out.as_str())
         }
         Job::Check(_, _)
-        | Job::Dump(_)
-        | Job::DumpClasses(_, _)
+        | Job::Dump(_, _)
+        | Job::DumpClasses(_, _, _)
         | Job::KeepChecking(_, _)
         | Job::Digest(_, _, _)
         | Job::Conflicts(_, _, _)
         | Job::Diff(_, _, _)
         | Job::Count(_)
-        | Job::CountEach(_, _) => None,
+        | Job::CountEach(_, _)
+        | Job::CountPackages(_) => None,
     }
 }
 
@@ -56,13 +58,14 @@ pub fn placing(job: &Job) -> Placing
         | Job::Merge(_, placing, _, _, _, _)
         | Job::Repair(_, _, placing) => *placing,
         Job::Check(_, _)
-        | Job::Dump(_)
-        | Job::DumpClasses(_, _)
+        | Job::Dump(_, _)
+        | Job::DumpClasses(_, _, _)
         | Job::KeepChecking(_, _)
         | Job::Digest(_, _, _)
         | Job::Conflicts(_, _, _)
         | Job::Diff(_, _, _)
         | Job::Count(_)
-        | Job::CountEach(_, _) => Placing::InPlace,
+        | Job::CountEach(_, _)
+        | Job::CountPackages(_) => Placing::InPlace,
     }
 }

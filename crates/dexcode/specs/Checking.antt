@@ -36,5 +36,6 @@ pub record HasProgramOf (b : List ℕ) (off weight : ℕ) : Type 0 where
 
 -- the code_item at an offset has the offset of a debug program, where there is none; a failed allocation says nothing
 abbrev pub IsProgramFault : List ℕ → ℕ → ItemFault → Type 0
-IsProgramFault b off (Refused number) = (number ≡ 20) × (uint_at b (off + 8) ≢ 0) × ((d : Debug) → DebugAt b (uint_at b (off + 8)) d → ⊥)
+IsProgramFault b off (Refused number) =
+    (number ≡ 20) × (uint_at b (off + 8) ≢ 0) × ((d : Debug) → DebugAt b (uint_at b (off + 8)) d → ⊥)
 IsProgramFault b off Memory = Unit {0}

@@ -27,16 +27,21 @@ handler_count h = option_map_or (λ address. pos 0 -ℤ pos (length h.catches)) 
 
 -- an encoded_catch_handler
 abbrev pub numbered_handler_bytes : NumberedHandler → List ℕ
-numbered_handler_bytes h = sleb128 (handler_count h) ++ (flat_map numbered_catch_bytes h.catches ++ flat_map uleb128 (option_to_list h.catch_all_addr))
+numbered_handler_bytes h =
+    sleb128 (handler_count h)
+    ++ (flat_map numbered_catch_bytes h.catches ++ flat_map uleb128 (option_to_list h.catch_all_addr))
 
 -- where the handler begins, of handlers of which the first begins at a place
 abbrev pub numbered_handler_off : ℕ → List NumberedHandler → NumberedHandler → ℕ
 numbered_handler_off from [] h = from
-numbered_handler_off from (k ∷ ks) h = if same_handler k h then from else numbered_handler_off (from + length (numbered_handler_bytes k)) ks h
+numbered_handler_off from (k ∷ ks) h =
+    if same_handler k h then from else numbered_handler_off (from + length (numbered_handler_bytes k)) ks h
 
 -- a try_item
 abbrev pub numbered_try_bytes : List NumberedHandler → NumberedTry → List ℕ
-numbered_try_bytes hs t = uint t.start_addr ++ (ushort t.insn_count ++ ushort (numbered_handler_off (length (uleb128 (length hs))) hs t.handler))
+numbered_try_bytes hs t =
+    uint t.start_addr
+    ++ (ushort t.insn_count ++ ushort (numbered_handler_off (length (uleb128 (length hs))) hs t.handler))
 
 -- an encoded_catch_handler_list
 abbrev pub numbered_list_bytes : List NumberedHandler → List ℕ
@@ -57,7 +62,8 @@ numbered_tries_bytes count (t ∷ ts) = gap_bytes count ++ numbered_table_bytes 
 
 -- the numbers before the units, whose count is `units`
 abbrev pub numbered_head_bytes : ℕ → ℕ → NumberedCode → ℕ → List ℕ
-numbered_head_bytes debug_off tries c units = ushort c.registers ++ (ushort c.ins ++ (ushort c.outs ++ (ushort tries ++ (uint debug_off ++ uint units))))
+numbered_head_bytes debug_off tries c units =
+    ushort c.registers ++ (ushort c.ins ++ (ushort c.outs ++ (ushort tries ++ (uint debug_off ++ uint units))))
 
 -- how many units there are
 abbrev pub unit_count : NumberedCode → ℕ
@@ -65,7 +71,9 @@ unit_count c = length (flat_map numbered_units c.pieces)
 
 -- a code_item of this code and these tries, whose debug program has this offset
 unfoldable pub numbered_item_bytes : ℕ → NumberedCode → List NumberedTry → List ℕ
-numbered_item_bytes debug_off c tries = numbered_head_bytes debug_off (length tries) c (unit_count c) ++ (numbered_bytes c.pieces ++ numbered_tries_bytes (unit_count c) tries)
+numbered_item_bytes debug_off c tries =
+    numbered_head_bytes debug_off (length tries) c (unit_count c)
+    ++ (numbered_bytes c.pieces ++ numbered_tries_bytes (unit_count c) tries)
 
 -- a code_item whose debug program has this offset, its numbers put in
 abbrev pub numbered_code_bytes : ℕ → NumberedItem → List ℕ
@@ -110,16 +118,21 @@ placed_try_bytes places t = uint t.start_addr ++ (ushort t.insn_count ++ ushort 
 
 -- the length is that of the code_item of each code that the numbers denote, under a numbering whose symbols rise
 abbrev pub IsCodeLen : NumberedItem → ℕ → Type 0
-IsCodeLen c len = (m : Mentions) (debug_off : ℕ) (x : symbolic.Code) → AreRising m → DenotesCode m c x → len ≡ length (code_bytes m debug_off x)
+IsCodeLen c len =
+    (m : Mentions) (debug_off : ℕ) (x : symbolic.Code) → AreRising m → DenotesCode m c x
+    → len ≡ length (code_bytes m debug_off x)
 
 -- what is put is the code_item of the code that the numbers denote
 abbrev pub PutsDenotedCode : {T E : Type 0} → Mentions → ℕ → NumberedItem → Vec ℕ → Vec ℕ → Result T E → Type 0
-PutsDenotedCode m debug_off c old new r = (x : symbolic.Code) → DenotesCode m c x → Puts (code_bytes m debug_off x) old new r
+PutsDenotedCode m debug_off c old new r =
+    (x : symbolic.Code) → DenotesCode m c x → Puts (code_bytes m debug_off x) old new r
 
 -- the code that the numbers denote weighs at least 3 more than the bytes
 abbrev pub DenotedWeighsMore : Mentions → ℕ → NumberedItem → Type 0
-DenotedWeighsMore m debug_off c = (x : symbolic.Code) → DenotesCode m c x → length (numbered_code_bytes debug_off c) + 3 ≤ code_weight x
+DenotedWeighsMore m debug_off c =
+    (x : symbolic.Code) → DenotesCode m c x → length (numbered_code_bytes debug_off c) + 3 ≤ code_weight x
 
 -- the call succeeds if the spare capacity is the weight of the code that the numbers denote, less 3
 abbrev pub IsOkWithRoomForDenoted : {T E : Type 0} → Mentions → NumberedItem → Vec ℕ → Result T E → Type 0
-IsOkWithRoomForDenoted m c old r = (x : symbolic.Code) → DenotesCode m c x → vec_len old + code_weight x ≤ vec_capacity old + 3 → IsOk r
+IsOkWithRoomForDenoted m c old r =
+    (x : symbolic.Code) → DenotesCode m c x → vec_len old + code_weight x ≤ vec_capacity old + 3 → IsOk r

@@ -11,8 +11,10 @@ use Rattle.dexcode.specs.declared.handlers.Catch.{Catch}
 use Rattle.dexcode.specs.Numbered.{NumberedHandler, same_catch, same_handler}
 
 -- a test of two parts decides whether both are equal
-both_decide : {P Q R : Type 0} (a b : Bool) → Decides a P → Decides b Q → (P → Q → R) → (R → P) → (R → Q) → Decides (a && b) R
-both_decide a b p q join first second = (λ e. join (p.0 (first_so a b e)) (q.0 (second_so a b e)), λ e. both a b (p.1 (first e)) (q.1 (second e)))
+both_decide : {P Q R : Type 0} (a b : Bool) → Decides a P → Decides b Q → (P → Q → R) → (R → P) → (R → Q)
+    → Decides (a && b) R
+both_decide a b p q join first second =
+    (λ e. join (p.0 (first_so a b e)) (q.0 (second_so a b e)), λ e. both a b (p.1 (first e)) (q.1 (second e)))
 
 pub catch_decides : (c d : Catch) → Decides (same_catch c d) (c ≡ d)
 catch_decides c d =

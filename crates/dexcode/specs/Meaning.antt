@@ -21,7 +21,10 @@ symbol_at m kinds.Text i = TextSymbol (text_at m i)
 symbol_at m kinds.Typ i = TypeSymbol (type_at m i)
 symbol_at m kinds.Proto i = ProtoSymbol (slice_index_or m.protos i (record { return_type = []; parameters = [] }))
 symbol_at m kinds.Field i = FieldSymbol (slice_index_or m.fields i (record { class = []; name = []; type = [] }))
-symbol_at m kinds.Method i = MethodSymbol (slice_index_or m.methods i (record { class = []; name = []; proto = record { return_type = []; parameters = [] } }))
+symbol_at m kinds.Method i =
+    MethodSymbol
+    (slice_index_or m.methods i
+    (record { class = []; name = []; proto = record { return_type = []; parameters = [] } }))
 
 -- the piece with the symbol of its number, of the kind that its units name; of a text where they name none
 abbrev pub piece_in : Mentions → NumberedPiece → Piece

@@ -56,7 +56,8 @@ no_handler = record { catches = []; catch_all_addr = None }
 
 -- the try with its handler, one of a list
 abbrev pub named : List NumberedHandler → Try → NumberedTry
-named hs t = record { start_addr = t.start_addr; insn_count = t.insn_count; handler = slice_index_or hs t.handler no_handler }
+named hs t =
+    record { start_addr = t.start_addr; insn_count = t.insn_count; handler = slice_index_or hs t.handler no_handler }
 
 -- tries with their handlers
 abbrev pub all_named : List NumberedHandler → List Try → List NumberedTry

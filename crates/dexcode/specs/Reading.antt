@@ -69,7 +69,8 @@ module _ (starts : List Bool) (types : ℕ) where
     pub encodes : Sequence HandlerAt b o (take i hs) before
 
   -- the handler begins `off` bytes from the start of the list at offset o, which begins with a count
-  pub record IsHandler (b : List ℕ) (o count_size : ℕ) (hs : List NumberedHandler) (off : ℕ) (h : NumberedHandler) : Type 0 where
+  pub record IsHandler (b : List ℕ) (o count_size : ℕ) (hs : List NumberedHandler) (off : ℕ) (h : NumberedHandler) :
+      Type 0 where
     pub index : ℕ
     pub before : ℕ
     pub begins : BeginsAt b (o + count_size) hs index before
@@ -77,7 +78,8 @@ module _ (starts : List Bool) (types : ℕ) where
     pub is : (d : NumberedHandler) → slice_index_or hs index d ≡ h
 
   -- at offset o is a try_item whose handler is in the list
-  pub record TryAt (units list count_size : ℕ) (hs : List NumberedHandler) (b : List ℕ) (o : ℕ) (t : NumberedTry) (n : ℕ) : Type 0 where
+  pub record TryAt (units list count_size : ℕ) (hs : List NumberedHandler) (b : List ℕ) (o : ℕ) (t : NumberedTry)
+      (n : ℕ) : Type 0 where
     pub start_is : uint_at b o ≡ t.start_addr
     pub count_is : ushort_at b (o + 4) ≡ t.insn_count
     pub some : 0 < t.insn_count
@@ -87,12 +89,16 @@ module _ (starts : List Bool) (types : ℕ) where
 
   -- numbers are by the bytes of the list at offset o, as far as 16 bits count them: the number of each of its handlers,
   -- which are from another offset on, is where it begins
-  pub record AreNumbered (b : List ℕ) (o first : ℕ) (hs : List NumberedHandler) (numbers : List (Option ℕ)) : Type 0 where
-    pub begins : (k i : ℕ) → slice_index_or numbers k None ≡ Some i → (before : ℕ) × BeginsAt b first hs i before × (o + k ≡ first + before)
-    pub known : (k i before : ℕ) → k < 2 ^ 16 → BeginsAt b first hs i before → o + k ≡ first + before → slice_index_or numbers k None ≡ Some i
+  pub record AreNumbered (b : List ℕ) (o first : ℕ) (hs : List NumberedHandler) (numbers : List (Option ℕ)) :
+      Type 0 where
+    pub begins : (k i : ℕ) → slice_index_or numbers k None ≡ Some i
+        → (before : ℕ) × BeginsAt b first hs i before × (o + k ≡ first + before)
+    pub known : (k i before : ℕ) → k < 2 ^ 16 → BeginsAt b first hs i before → o + k ≡ first + before
+        → slice_index_or numbers k None ≡ Some i
 
   -- `count` handlers were read, in n bytes
-  pub record HandlersRead (b : List ℕ) (o first count : ℕ) (hs : List NumberedHandler) (numbers : List (Option ℕ)) (n : ℕ) : Type 0 where
+  pub record HandlersRead (b : List ℕ) (o first count : ℕ) (hs : List NumberedHandler) (numbers : List (Option ℕ))
+      (n : ℕ) : Type 0 where
     pub are_encoded : Sequence HandlerAt b first hs n
     pub many : length hs ≡ count
     pub within : first + n ≤ length b
@@ -141,7 +147,8 @@ AreApartFrom from [] to = from ≡ to
 AreApartFrom from (t ∷ ts) to = (from ≤ t.start_addr) × AreApartFrom (t.start_addr + t.insn_count) ts to
 
 -- `count` try_items were read
-pub record TriesRead (units : ℕ) (numbers : List (Option ℕ)) (b : List ℕ) (o count : ℕ) (ts : List Try) (to : ℕ) : Type 0 where
+pub record TriesRead (units : ℕ) (numbers : List (Option ℕ)) (b : List ℕ) (o count : ℕ) (ts : List Try) (to : ℕ) :
+    Type 0 where
   pub are_encoded : Sequence (ListedTryAt units numbers) b o ts (8 * count)
   pub many : length ts ≡ count
   pub apart : AreApartFrom 0 ts to
@@ -151,8 +158,11 @@ pub record TriesRead (units : ℕ) (numbers : List (Option ℕ)) (b : List ℕ) 
 abbrev pub TriesAt : List Bool → ℕ → List ℕ → ℕ → List NumberedTry → Type 0
 TriesAt starts types b o ts =
     ((ushort_at b (o + 6) ≡ 0) × (ts ≡ []))
-    ⊎ ((ushort_at b (o + 6) ≢ 0) × (((uint_at b (o + 12) % 2 ≡ 0) × TryItemsAt starts types (uint_at b (o + 12)) b (o + 16 + 2 * uint_at b (o + 12)) (ushort_at b (o + 6)) ts)
-    ⊎ ((uint_at b (o + 12) % 2 ≡ 1) × (ushort_at b (o + 16 + 2 * uint_at b (o + 12)) ≡ 0) × TryItemsAt starts types (uint_at b (o + 12)) b (o + 18 + 2 * uint_at b (o + 12)) (ushort_at b (o + 6)) ts)))
+    ⊎ ((ushort_at b (o + 6) ≢ 0)
+    × (((uint_at b (o + 12) % 2 ≡ 0)
+    × TryItemsAt starts types (uint_at b (o + 12)) b (o + 16 + 2 * uint_at b (o + 12)) (ushort_at b (o + 6)) ts)
+    ⊎ ((uint_at b (o + 12) % 2 ≡ 1) × (ushort_at b (o + 16 + 2 * uint_at b (o + 12)) ≡ 0)
+    × TryItemsAt starts types (uint_at b (o + 12)) b (o + 18 + 2 * uint_at b (o + 12)) (ushort_at b (o + 6)) ts)))
 
 -- ---- the whole
 
@@ -173,6 +183,9 @@ pub record HasPieces (b : List ℕ) (off : ℕ) : Type 0 where
 abbrev pub IsCodeFault : List ℕ → ℕ → ItemFault → Type 0
 IsCodeFault b off (Refused number) =
     ((number ≡ 18) × (HasPieces b off → ⊥))
-    ⊎ (((number ≡ 19) × HasPieces b off × ((cuts : List Cut) (ps : List Piece) (tries : List whole.Try) → PiecesAt b off cuts ps → whole.TriesAt b off cuts tries → ⊥))
-    ⊎ ((number ≡ 20) × HasPieces b off × (uint_at b (off + 8) ≢ 0) × ((d : Debug) → DebugAt b (uint_at b (off + 8)) d → ⊥)))
+    ⊎ (((number ≡ 19) × HasPieces b off
+    × ((cuts : List Cut) (ps : List Piece) (tries : List whole.Try) → PiecesAt b off cuts ps
+    → whole.TriesAt b off cuts tries → ⊥))
+    ⊎ ((number ≡ 20) × HasPieces b off × (uint_at b (off + 8) ≢ 0)
+    × ((d : Debug) → DebugAt b (uint_at b (off + 8)) d → ⊥)))
 IsCodeFault b off Memory = Unit {0}

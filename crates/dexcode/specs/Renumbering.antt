@@ -74,11 +74,17 @@ renumbered_handler r h = record { catches = map (renumbered_catch r) h.catches; 
 
 -- the try with those of its handler
 abbrev pub renumbered_try : Maps → NumberedTry → NumberedTry
-renumbered_try r t = record { start_addr = t.start_addr; insn_count = t.insn_count; handler = renumbered_handler r t.handler }
+renumbered_try r t =
+    record { start_addr = t.start_addr; insn_count = t.insn_count; handler = renumbered_handler r t.handler }
 
 -- the code with the images of its numbers
 abbrev pub renumbered_item : Maps → NumberedItem → NumberedItem
-renumbered_item r c = record { body = renumbered r c.body; tries = map (renumbered_try r) c.tries; debug = option_map (renumbered_debug r) c.debug }
+renumbered_item r c =
+    record {
+      body = renumbered r c.body;
+      tries = map (renumbered_try r) c.tries;
+      debug = option_map (renumbered_debug r) c.debug;
+    }
 
 -- ---- as they are stored
 

@@ -55,7 +55,8 @@ pub fn code_kept_law()
     ensures marked { (us : List Use) (old new : Marks) → AreMarkedToo us old new
         → All (IsMarkedUse new) us }
     ensures images { MarkedUsesHaveImages }
-    ensures code { (r : Maps) (c : NumberedItem) → All (IsMappedUse r) (item_uses c) → HasImages r c }
+    ensures code { (r : Maps) (c : NumberedItem) → All (IsMappedUse r) (item_uses c)
+        → HasImages r c }
 {}
 
 /// Each number has an image just where each symbol that occurs has one.

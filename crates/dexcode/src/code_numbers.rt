@@ -83,8 +83,8 @@ impl<'a> Code<'a> {
         mark(self, marks);
     }
 
-    /// Whether this and other code are equal once the numbers of each are remapped by a map of its own. Of numbers that
-    /// map to none, those of types that are caught stay, and the others count as equal.
+    /// Returns whether this and other code are equal once the numbers of each are remapped by a map of its own. Of
+    /// numbers that map to none, those of types that are caught stay, and the others count as equal.
     ///
     /// Source: "code_item".
     pub fn same_mapped(&self, mine: &Remap, other: &Code<'_>, theirs: &Remap) -> bool

@@ -1,7 +1,7 @@
 //! Code with its tries and handlers. The debug programs that it has are those of `dexdebug`.
 //!
-//! Public contracts use the definitions of `specs/Checking`, `specs/CodePut`, `specs/Equality`, `specs/Laws`,
-//! `specs/Meaning`, `specs/Numbered`, `specs/Reading` and `specs/Renumbering`, and those of `dexdebug`.
+//! Of the definitions that its contracts use, read `specs/Numbered` (tries with numbers for types), `specs/Meaning`
+//! (what numbered code denotes) and `specs/Reading` (when code is refused) first.
 //!
 //! Source: the Android page "Dalvik Executable format", under the headings "code_item", "try_item",
 //! "encoded_catch_handler_list", "encoded_catch_handler" and "encoded_type_addr_pair".

@@ -1,6 +1,6 @@
 //! The reader of tries and their handlers.
 
-ghost use Rattle.std.specs.Prelude.{◌≡◌, ◌^◌, ◌<◌, ◌≤◌, ◌+◌, ◌*◌, ℕ, List, [], Option, Some, None, length, slice_index, unwrap_or, IfOk, IfErr, IfSome, IfNone};
+ghost use Rattle.std.specs.Prelude.{◌≡◌, ◌^◌, ◌<◌, ◌≤◌, ◌+◌, ◌*◌, ℕ, List, [], Option, Some, None, length, slice_index, unwrap_or, IfOk, IfErr, IfSome, IfNone, vec_capacity};
 ghost use Rattle.dexspec.specs.Bytes.{uint_at};
 ghost use Rattle.dexspec.specs.Lists.{Sequence};
 ghost use Rattle.dexspec.specs.Numbers.{Uleb128At};
@@ -165,7 +165,8 @@ impl TriesReader<'_, '_> {
         Ok(StoredTries { tries, handlers })
     }
 
-    // Reads `count` tries at an offset, where the handlers of the list are numbered by its bytes.
+    // Reads `count` tries at an offset, where the handlers of the list are numbered by its bytes, into a vector without
+    // spare room.
     fn read_try_items(
         &self,
         at: usize,
@@ -176,6 +177,7 @@ impl TriesReader<'_, '_> {
         requires { at + 8 * count ≤ length self.now.bytes.now }
         ensures tries { IfOk result (λ tries.
             AreTriesRead units numbers.now self.now.bytes.now at count tries.items) }
+        ensures full { IfOk result (λ tries. vec_capacity tries ≡ count) }
         ensures fault { IfErr result
             (IsTriesFault (NoTries units numbers.now self.now.bytes.now at count)) }
     {
@@ -190,7 +192,7 @@ impl TriesReader<'_, '_> {
                 return Err(ItemFault::Refused(Condition::Tries as u8));
             }
             end = item.start_addr + u32::from(item.insn_count);
-            tries.push(item)?;
+            tries.push_reserved(item);
             place += 8;
         }
         Ok(tries)
@@ -265,12 +267,13 @@ impl TriesReader<'_, '_> {
         ensures built { (cs : List Caught) (n : ℕ) → length cs ≡ count
             → Sequence (CatchAt self.now.starts.now self.now.types) self.now.bytes.now at cs n
             → IfOk result (λ x. (x.0.items ≡ cs) × (x.1 ≡ n)) }
+        ensures full { IfOk result (λ x. vec_capacity x.0 ≡ count) }
     {
         let mut catches = Vec::with_capacity(self.alloc, count)?;
         let mut size = 0;
         for _ in 0..count {
             let (caught, len) = self.read_catch(at + size).unwrap();
-            catches.push(caught)?;
+            catches.push_reserved(caught);
             size += len;
         }
         Ok((catches, size))

@@ -17,7 +17,7 @@ fn remapped_parts(remap: &Remap, catch: &Catch) -> (usize, u32)
     (typ, catch.addr)
 }
 
-// Whether the handlers are equal once their types are remapped.
+// Returns whether the handlers are equal once their types are remapped.
 fn same_handler(mine: &Remap, handler: &Handler, theirs: &Remap, other: &Handler) -> bool
     ensures { IsTrue result
         ↔ EqualRemapped renumbered_handler mine.now theirs.now handler.now other.now }
@@ -46,8 +46,8 @@ struct RemappedTries<'s> {
 }
 
 impl RemappedTries<'_> {
-    // Whether a try of these and a try of others are equal once the types of their handlers are remapped. The first
-    // `compared` handlers of both lists are known to be.
+    // Returns whether a try of these and a try of others are equal once the types of their handlers are remapped. The
+    // first `compared` handlers of both lists are known to be.
     fn eq_try(&self, item: Try, others: &RemappedTries<'_>, other: Try, compared: usize) -> bool
         requires within { item.handler < length self.now.handlers.now }
         requires others { other.handler < length others.now.handlers.now }
@@ -67,9 +67,9 @@ impl RemappedTries<'_> {
         same_handler(self.remap, handler, others.remap, other)
     }
 
-    // Whether the tries are equal, one for one, once the types of their handlers are remapped. Handlers are in order of
-    // first use: so two that have one number are compared once, and others only where the tries differ or types map to
-    // one.
+    // Returns whether the tries are equal, one for one, once the types of their handlers are remapped. Handlers are in
+    // order of first use: so two that have one number are compared once, and others only where the tries differ or
+    // types map to one.
     fn eq_tries(&self, others: &RemappedTries<'_>) -> bool
         requires within { All (λ t. t.handler < length self.now.handlers.now) self.now.tries.now }
         requires others { All (λ t. t.handler < length others.now.handlers.now)
@@ -95,7 +95,7 @@ impl RemappedTries<'_> {
 }
 
 impl Tries<'_> {
-    // Whether these and other tries are equal once the types of each are remapped by a map of its own.
+    // Returns whether these and other tries are equal once the types of each are remapped by a map of its own.
     pub(crate) fn same_mapped(&self, mine: &Remap, other: &Tries<'_>, theirs: &Remap) -> bool
         ensures { IsTrue result
             ↔ SameRemapped renumbered_try mine.now theirs.now self.now other.now }

@@ -241,7 +241,7 @@ pub record OperationsBuilt (m : Counts) (b : List ℕ) (from : ℕ) (t : Tally) 
   pub whole : AreTheOperations m b from t (ops ++ rest)
 
 pub are_tallied : (m : Counts) (b : List ℕ) (from : ℕ) (t : Tally) (h : AreTallied m b from t) → AreTheOperations m b from t h.operations
-are_tallied m b from t h = record { many = h.count; program = h.program; formed = h.formed; weight = h.weight }
+are_tallied m b from t h = record { many = h.count; program = h.program; formed = h.formed; indices = h.indices; weight = h.weight }
 
 pub no_operations_built : (m : Counts) (b : List ℕ) (from : ℕ) (t : Tally) (ops : List Operation) → AreTallied m b from t → ops ≡ [] → OperationsBuilt m b from t 0 from ops
 no_operations_built m b from t ops h e = rw e (record { rest = h.operations; left = omega (arith, h.count); ahead = h.program; whole = are_tallied m b from t h })
@@ -306,6 +306,13 @@ more_symbols m b from t counter at is js ks x h on e = record {
   kept = e ∙ ap (λ xs. xs ++ indices_of x.0) h.kept ∙ append_assoc is (flat_map indices_of h.operations) (indices_of x.0)
       ∙ ap (λ xs. is ++ xs) (sym (flat_map-append indices_of h.operations (x.0 ∷ []) ∙ ap (λ xs. flat_map indices_of h.operations ++ xs) (append-nil (indices_of x.0))));
 }
+
+-- the symbols of an operation that is built, and of those before it, are among those of the tally
+pub room_for_next : (m : Counts) (b : List ℕ) (from : ℕ) (t : Tally) (counter at : ℕ) (ops : List Operation) (op : Operation) → OperationsBuilt m b from t counter at (ops ++ op ∷ []) → length (flat_map indices_of ops) + length (indices_of op) ≤ t.indices
+room_for_next m b from t counter at ops op h =
+    let all = ap length (flat_map-append indices_of (ops ++ op ∷ []) h.rest) ∙ length-append (flat_map indices_of (ops ++ op ∷ [])) (flat_map indices_of h.rest) in
+    let first = ap length (flat_map-append indices_of ops (op ∷ [])) ∙ length-append (flat_map indices_of ops) (flat_map indices_of (op ∷ [])) in
+    omega (arith, all, first, length-append (indices_of op) [], h.whole.indices)
 
 -- names that are built up to a place, stored after others
 pub record NamesKept (texts : ℕ) (b : List ℕ) (from count counter at : ℕ) (is js : List Index) : Type 0 where

@@ -39,8 +39,10 @@ DenotesType m i t = BothOrNone (IsAt m.types) i t
 abbrev pub DenotesOperation : Mentions → Operation → symbolic.Operation → Type 0
 DenotesOperation m (AdvancePc addresses) (symbolic.AdvancePc others) = addresses ≡ others
 DenotesOperation m (AdvanceLine lines) (symbolic.AdvanceLine others) = lines ≡ others
-DenotesOperation m (StartLocal register name typ) (symbolic.StartLocal other s t) = (register ≡ other) × DenotesText m name s × DenotesType m typ t
-DenotesOperation m (StartLocalExtended register name typ signature) (symbolic.StartLocalExtended other s t u) = (register ≡ other) × DenotesText m name s × DenotesType m typ t × DenotesText m signature u
+DenotesOperation m (StartLocal register name typ) (symbolic.StartLocal other s t) =
+    (register ≡ other) × DenotesText m name s × DenotesType m typ t
+DenotesOperation m (StartLocalExtended register name typ signature) (symbolic.StartLocalExtended other s t u) =
+    (register ≡ other) × DenotesText m name s × DenotesType m typ t × DenotesText m signature u
 DenotesOperation m (EndLocal register) (symbolic.EndLocal other) = register ≡ other
 DenotesOperation m (RestartLocal register) (symbolic.RestartLocal other) = register ≡ other
 DenotesOperation m SetPrologueEnd symbolic.SetPrologueEnd = Unit {0}
@@ -123,7 +125,8 @@ abbrev pub unindexed_operation : Operation → symbolic.Operation
 unindexed_operation (AdvancePc addresses) = symbolic.AdvancePc addresses
 unindexed_operation (AdvanceLine lines) = symbolic.AdvanceLine lines
 unindexed_operation (StartLocal register name typ) = symbolic.StartLocal register None None
-unindexed_operation (StartLocalExtended register name typ signature) = symbolic.StartLocalExtended register None None None
+unindexed_operation (StartLocalExtended register name typ signature) =
+    symbolic.StartLocalExtended register None None None
 unindexed_operation (EndLocal register) = symbolic.EndLocal register
 unindexed_operation (RestartLocal register) = symbolic.RestartLocal register
 unindexed_operation SetPrologueEnd = symbolic.SetPrologueEnd
@@ -133,7 +136,12 @@ unindexed_operation (Special opcode) = symbolic.Special opcode
 
 -- the debug program, every text and type left out: it weighs as much and has the same positions
 abbrev pub unindexed : NumberedDebug → symbolic.Debug
-unindexed d = record { line_start = d.line_start; parameter_names = map (λ i. None) d.parameter_names; operations = map unindexed_operation d.operations }
+unindexed d =
+    record {
+      line_start = d.line_start;
+      parameter_names = map (λ i. None) d.parameter_names;
+      operations = map unindexed_operation d.operations;
+    }
 
 -- what an operation weighs
 abbrev pub operation_weight : Operation → ℕ
@@ -146,7 +154,8 @@ abbrev pub numbered_operation_bytes : Operation → List ℕ
 numbered_operation_bytes (AdvancePc addresses) = 0x01 ∷ uleb128 addresses
 numbered_operation_bytes (AdvanceLine lines) = 0x02 ∷ sleb128 lines
 numbered_operation_bytes (StartLocal register name typ) = 0x03 ∷ (uleb128 register ++ (uleb128p1 name ++ uleb128p1 typ))
-numbered_operation_bytes (StartLocalExtended register name typ signature) = 0x04 ∷ (uleb128 register ++ (uleb128p1 name ++ (uleb128p1 typ ++ uleb128p1 signature)))
+numbered_operation_bytes (StartLocalExtended register name typ signature) =
+    0x04 ∷ (uleb128 register ++ (uleb128p1 name ++ (uleb128p1 typ ++ uleb128p1 signature)))
 numbered_operation_bytes (EndLocal register) = 0x05 ∷ uleb128 register
 numbered_operation_bytes (RestartLocal register) = 0x06 ∷ uleb128 register
 numbered_operation_bytes SetPrologueEnd = 0x07 ∷ []
@@ -156,7 +165,10 @@ numbered_operation_bytes (Special opcode) = opcode ∷ []
 
 -- a debug_info_item, its numbers put in
 unfoldable pub numbered_debug_bytes : NumberedDebug → List ℕ
-numbered_debug_bytes d = uleb128 d.line_start ++ (uleb128 (length d.parameter_names) ++ (flat_map uleb128p1 d.parameter_names ++ (flat_map numbered_operation_bytes d.operations ++ 0x00 ∷ [])))
+numbered_debug_bytes d =
+    uleb128 d.line_start
+    ++ (uleb128 (length d.parameter_names)
+    ++ (flat_map uleb128p1 d.parameter_names ++ (flat_map numbered_operation_bytes d.operations ++ 0x00 ∷ [])))
 
 -- ---- the symbols that occur
 
@@ -166,7 +178,9 @@ number_uses kind i = map (λ n. record { kind = kind; number = n }) (option_to_l
 
 -- the texts and types of an operation
 abbrev pub operation_uses : Operation → List Use
-operation_uses op = number_uses kinds.Text (name_of op) ++ (number_uses kinds.Typ (type_of op) ++ number_uses kinds.Text (signature_of op))
+operation_uses op =
+    number_uses kinds.Text (name_of op)
+    ++ (number_uses kinds.Typ (type_of op) ++ number_uses kinds.Text (signature_of op))
 
 -- those of parameter names and operations, in order
 abbrev pub debug_uses : NumberedDebug → List Use
@@ -185,8 +199,15 @@ image_or_none r kind (Some n) = image_of r kind n
 
 -- the operation with the images of its numbers
 abbrev pub renumbered_operation : Maps → Operation → Operation
-renumbered_operation r op = with_numbers op (image_or_none r kinds.Text (name_of op)) (image_or_none r kinds.Typ (type_of op)) (image_or_none r kinds.Text (signature_of op))
+renumbered_operation r op =
+    with_numbers op (image_or_none r kinds.Text (name_of op)) (image_or_none r kinds.Typ (type_of op))
+    (image_or_none r kinds.Text (signature_of op))
 
 -- the debug program with the images of its numbers
 abbrev pub renumbered_debug : Maps → NumberedDebug → NumberedDebug
-renumbered_debug r d = record { line_start = d.line_start; parameter_names = map (image_or_none r kinds.Text) d.parameter_names; operations = map (renumbered_operation r) d.operations }
+renumbered_debug r d =
+    record {
+      line_start = d.line_start;
+      parameter_names = map (image_or_none r kinds.Text) d.parameter_names;
+      operations = map (renumbered_operation r) d.operations;
+    }

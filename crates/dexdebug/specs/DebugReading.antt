@@ -63,7 +63,8 @@ abbrev pub OperandsAt : Counts → ℕ → Item Operation
 OperandsAt m c b o (AdvancePc addresses) n = (c ≡ 0x01) × Uleb128At b o addresses n
 OperandsAt m c b o (AdvanceLine lines) n = (c ≡ 0x02) × Sleb128At b o lines n
 OperandsAt m c b o (StartLocal register name typ) n = (c ≡ 0x03) × LocalAt m b o register name typ n
-OperandsAt m c b o (StartLocalExtended register name typ signature) n = (c ≡ 0x04) × ExtendedAt m b o register name typ signature n
+OperandsAt m c b o (StartLocalExtended register name typ signature) n =
+    (c ≡ 0x04) × ExtendedAt m b o register name typ signature n
 OperandsAt m c b o (EndLocal register) n = (c ≡ 0x05) × Uleb128At b o register n
 OperandsAt m c b o (RestartLocal register) n = (c ≡ 0x06) × Uleb128At b o register n
 OperandsAt m c b o SetPrologueEnd n = (c ≡ 0x07) × (n ≡ 0)
@@ -107,8 +108,11 @@ text_index i = record { kind = kinds.Text; number = i }
 
 -- the numbers of the symbols of an operation, in the order of its operands
 abbrev pub indices_of : Operation → List Index
-indices_of (StartLocal register name typ) = record { kind = kinds.Text; number = name } ∷ record { kind = kinds.Typ; number = typ } ∷ []
-indices_of (StartLocalExtended register name typ signature) = record { kind = kinds.Text; number = name } ∷ record { kind = kinds.Typ; number = typ } ∷ record { kind = kinds.Text; number = signature } ∷ []
+indices_of (StartLocal register name typ) =
+    record { kind = kinds.Text; number = name } ∷ record { kind = kinds.Typ; number = typ } ∷ []
+indices_of (StartLocalExtended register name typ signature) =
+    record { kind = kinds.Text; number = name } ∷ record { kind = kinds.Typ; number = typ }
+    ∷ record { kind = kinds.Text; number = signature } ∷ []
 indices_of (SetFile name) = record { kind = kinds.Text; number = name } ∷ []
 indices_of _ = []
 
@@ -190,6 +194,7 @@ pub record AreTheOperations (m : Counts) (b : List ℕ) (o : ℕ) (t : Tally) (o
   pub many : length ops ≡ t.operations
   pub program : ProgramAt m b o ops
   pub formed : All IsFormedOperation ops
+  pub indices : length (flat_map indices_of ops) ≡ t.indices
   pub weight : sum_by operation_weight ops ≡ t.weight
 
 -- these `count` names at offset o are stored after others

@@ -24,4 +24,5 @@ pub option_decides : (a b : Option ℕ) → Decides (option_eq ◌==◌ a b) (a 
 option_decides None None = (λ e. refl, λ e. refl)
 option_decides None (Some b) = (λ e. absurd (false_is_not_true e), λ e. ap is_there e)
 option_decides (Some a) None = (λ e. absurd (false_is_not_true e), λ e. sym (ap is_there e))
-option_decides (Some a) (Some b) = (λ e. ap Some ((unsigned_Decides a b).0 e), λ e. (unsigned_Decides a b).1 (ap (value_of 0) e))
+option_decides (Some a) (Some b) =
+    (λ e. ap Some ((unsigned_Decides a b).0 e), λ e. (unsigned_Decides a b).1 (ap (value_of 0) e))

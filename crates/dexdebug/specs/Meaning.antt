@@ -20,8 +20,11 @@ type_at m i = slice_index_or m.types i []
 abbrev pub operation_in : Mentions → Operation → symbolic.Operation
 operation_in m (AdvancePc addresses) = symbolic.AdvancePc addresses
 operation_in m (AdvanceLine lines) = symbolic.AdvanceLine lines
-operation_in m (StartLocal register name typ) = symbolic.StartLocal register (option_map (text_at m) name) (option_map (type_at m) typ)
-operation_in m (StartLocalExtended register name typ signature) = symbolic.StartLocalExtended register (option_map (text_at m) name) (option_map (type_at m) typ) (option_map (text_at m) signature)
+operation_in m (StartLocal register name typ) =
+    symbolic.StartLocal register (option_map (text_at m) name) (option_map (type_at m) typ)
+operation_in m (StartLocalExtended register name typ signature) =
+    symbolic.StartLocalExtended register (option_map (text_at m) name) (option_map (type_at m) typ)
+    (option_map (text_at m) signature)
 operation_in m (EndLocal register) = symbolic.EndLocal register
 operation_in m (RestartLocal register) = symbolic.RestartLocal register
 operation_in m SetPrologueEnd = symbolic.SetPrologueEnd

@@ -55,13 +55,17 @@ number_in is place = (slice_index_or is place (record { kind = kinds.Text; numbe
 
 -- the operation at offset o, whose numbers are the first of these
 unfoldable pub operation_in : List ℕ → ℕ → List Index → Operation
-operation_in b o is = operation_of (slice_index_or b o 0) (sum_of_groups (chain_at b (o + 1))) (signed_sum (chain_at b (o + 1))) (number_in is 0) (number_in is 1) (number_in is 2)
+operation_in b o is =
+    operation_of (slice_index_or b o 0) (sum_of_groups (chain_at b (o + 1))) (signed_sum (chain_at b (o + 1)))
+    (number_in is 0) (number_in is 1) (number_in is 2)
 
 -- `count` operations from offset o on, which take the numbers in order
 abbrev pub operations_in : ℕ → List ℕ → ℕ → List Index → List Operation
 operations_in zero b o is = []
 operations_in (suc count) b o is =
-    operation_in b o is ∷ operations_in count b (after_operation b o (operation_in b o is)) (drop (length (indices_of (operation_in b o is))) is)
+    operation_in b o is
+    ∷ operations_in count b (after_operation b o (operation_in b o is))
+    (drop (length (indices_of (operation_in b o is))) is)
 
 -- ---- what is stored
 
@@ -89,7 +93,12 @@ numbers_in is = map (λ (i : Index). i.number) is
 
 -- the debug program of these names and the operations from offset o on, which take the numbers after the names
 abbrev pub stored_debug : ℕ → ℕ → ℕ → List ℕ → ℕ → List Index → NumberedDebug
-stored_debug line_start names count b o is = record { line_start = line_start; parameter_names = numbers_in (take names is); operations = operations_in count b o (drop names is) }
+stored_debug line_start names count b o is =
+    record {
+      line_start = line_start;
+      parameter_names = numbers_in (take names is);
+      operations = operations_in count b o (drop names is);
+    }
 
 -- the first are as many names, and those after them are of the operations from offset o on
 pub record IsStored (names count : ℕ) (b : List ℕ) (o : ℕ) (is : List Index) : Type 0 where

@@ -36,8 +36,6 @@ impl CheckedDebugs {
 /// Condition: what was checked before is of this file, whose pools these are.
 ///
 /// Error: as of [`check_debug`]. The contents of `checked` are then unspecified.
-///
-/// Source: "debug_info_item".
 pub fn checked_debug_at(
     frame: &Frame<'_>,
     pools: &Pools<'_>,

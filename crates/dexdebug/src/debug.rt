@@ -9,8 +9,6 @@ use std::marker::Model;
 
 /// A debug_info_item: the line that it starts at, the names of parameters, and operations, whose bytes are borrowed from
 /// the file. Its texts and types are numbers, and contracts see them so.
-///
-/// Source: "debug_info_item".
 #[derive(Clone)]
 pub struct Debug<'a> {
     /// The bytes of the file.

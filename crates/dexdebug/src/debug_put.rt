@@ -133,8 +133,6 @@ impl Debug<'_> {
     }
 
     /// Returns the number of bytes that [`put_debug`] appends.
-    ///
-    /// Source: "debug_info_item".
     pub fn item_len(&self) -> usize
         ensures numbered { result ≡ length (numbered_debug_bytes self.now) }
         ensures symbolic { ForDenotedDebug self.now (λ m x. result ≡ length (debug_bytes m x)) }
@@ -151,8 +149,6 @@ impl Debug<'_> {
 ///
 /// Error: the allocation failed; the vector is then as it was. It does not fail where the spare room is at least the
 /// length of the item ([`Debug::item_len`]), or its weight ([`Debug::weight`]).
-///
-/// Source: "debug_info_item".
 #[tactic(auto, using(crate::proofs::DebugMeanings::bytes_most, crate::proofs::StoredOperations::names_many, crate::proofs::StoredOperations::operations_many))]
 pub fn put_debug(
     debug: &Debug<'_>,

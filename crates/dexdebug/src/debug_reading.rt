@@ -1,6 +1,6 @@
 //! Debug programs read from a file.
 
-ghost use Rattle.std.specs.Prelude.{◌≡◌, ◌↔◌, ℕ, ℤ, ◌+◌, ◌^◌, ◌<◌, ◌≤◌, Option, Some, IsTrue, IfOk, IfErr, IfSome, MatchOption, OnOk, length};
+ghost use Rattle.std.specs.Prelude.{◌≡◌, ◌↔◌, ℕ, ℤ, ◌+◌, ◌^◌, ◌<◌, ◌≤◌, Option, Some, IsTrue, IfOk, IfErr, IfSome, MatchOption, length, vec_capacity, vec_len};
 ghost use Rattle.dexspec.specs.Numbers.{Uleb128At, Sleb128At};
 ghost use Rattle.dexpool.specs.Pools.{ArePools};
 ghost use Rattle.dexdebug.specs.declared.debug_operation.Operation.{Operation};
@@ -65,7 +65,7 @@ pub(crate) struct DebugReader<'b> {
     pub(crate) counts: Counts,
 }
 
-// Whether the number, if there is one, is below a count.
+// Returns whether the number, if there is one, is below a count.
 #[inline(always)]
 fn is_below(number: Option<u32>, count: usize) -> bool
     ensures { IsTrue result ↔ IfSome number (λ n. n < count) }
@@ -91,7 +91,8 @@ impl<'b> DebugReader<'b> {
         requires { at ≤ length self.now.bytes.now }
         ensures found { IfSome result (λ read. Sleb128At self.now.bytes.now at read.0 read.1) }
         ensures within { IfSome result (λ read. at + read.1 ≤ length self.now.bytes.now) }
-        ensures only { (v : ℤ) (n : ℕ) → Sleb128At self.now.bytes.now at v n → result ≡ Some (v, n) }
+        ensures only { (v : ℤ) (n : ℕ) → Sleb128At self.now.bytes.now at v n
+            → result ≡ Some (v, n) }
     {
         read_s(self.bytes, at).ok()
     }
@@ -102,7 +103,8 @@ impl<'b> DebugReader<'b> {
         requires { at ≤ length self.now.bytes.now }
         ensures found { IfSome result (λ read. IndexAt count self.now.bytes.now at read.0 read.1) }
         ensures within { IfSome result (λ read. at + read.1 ≤ length self.now.bytes.now) }
-        ensures only { (i : Option ℕ) (n : ℕ) → IndexAt count self.now.bytes.now at i n → result ≡ Some (i, n) }
+        ensures only { (i : Option ℕ) (n : ℕ) → IndexAt count self.now.bytes.now at i n
+            → result ≡ Some (i, n) }
     {
         let (number, len) = read_p1(self.bytes, at).ok()?;
         is_below(number, count).then_some((number, len))
@@ -130,9 +132,11 @@ impl<'b> DebugReader<'b> {
     pub(crate) fn operation_at(&self, at: usize, opcode: u8) -> Option<(Operation, usize)>
         requires within { at ≤ length self.now.bytes.now }
         requires some { 0 < opcode }
-        ensures found { IfSome result (λ read. OperandsAt self.now.counts opcode self.now.bytes.now at read.0 read.1) }
+        ensures found { IfSome result
+            (λ read. OperandsAt self.now.counts opcode self.now.bytes.now at read.0 read.1) }
         ensures within { IfSome result (λ read. at + read.1 ≤ length self.now.bytes.now) }
-        ensures only { (op : Operation) (n : ℕ) → OperandsAt self.now.counts opcode self.now.bytes.now at op n
+        ensures only { (op : Operation) (n : ℕ)
+            → OperandsAt self.now.counts opcode self.now.bytes.now at op n
             → result ≡ Some (op, n) }
     {
         match opcode {
@@ -248,39 +252,44 @@ impl<'b> DebugReader<'b> {
         })
     }
 
-    // Stores the names.
-    fn keep_names(&self, indices: &mut Vec<Index>, shape: DebugShape) -> Result<(), AllocError>
+    // Stores the names. There is room for them, and then for the symbols of the operations.
+    fn keep_names(&self, indices: &mut Vec<Index>, shape: DebugShape)
         requires within { shape.names_at ≤ length self.now.bytes.now }
-        requires are_encoded { HaveNames self.now.counts.texts self.now.bytes.now shape.names_at shape.names }
-        ensures { OnOk result (KeepsNames self.now.counts.texts self.now.bytes.now shape.names_at shape.names indices.old.items
-            indices.new.items) }
+        requires are_encoded { HaveNames self.now.counts.texts self.now.bytes.now shape.names_at
+            shape.names }
+        requires room { vec_capacity indices.old
+            ≡ vec_len indices.old + shape.names + shape.tally.indices }
+        ensures kept { KeepsNames self.now.counts.texts self.now.bytes.now shape.names_at
+            shape.names indices.old.items indices.new.items }
+        ensures room { vec_capacity indices.new ≡ vec_len indices.new + shape.tally.indices }
     {
         let mut at = shape.names_at;
         for _ in 0..shape.names {
             let (name, len) = self.index_at(at, self.counts.texts).unwrap();
-            indices.push(Index::new(SymbolKind::Text, name))?;
+            indices.push_reserved(Index::new(SymbolKind::Text, name));
             at += len;
         }
-        Ok(())
     }
 
-    // Stores the symbols of the operations.
-    fn keep_symbols(&self, indices: &mut Vec<Index>, shape: DebugShape) -> Result<(), AllocError>
+    // Stores the symbols of the operations. There is room for them, and for nothing else.
+    fn keep_symbols(&self, indices: &mut Vec<Index>, shape: DebugShape)
         requires within { shape.operations_at ≤ length self.now.bytes.now }
-        requires tallied { AreTallied self.now.counts self.now.bytes.now shape.operations_at shape.tally }
-        ensures { OnOk result (KeepsSymbols self.now.counts self.now.bytes.now shape.operations_at shape.tally
-            indices.old.items indices.new.items) }
+        requires tallied { AreTallied self.now.counts self.now.bytes.now shape.operations_at
+            shape.tally }
+        requires room { vec_capacity indices.old ≡ vec_len indices.old + shape.tally.indices }
+        ensures kept { KeepsSymbols self.now.counts self.now.bytes.now shape.operations_at
+            shape.tally indices.old.items indices.new.items }
+        ensures full { vec_capacity indices.new ≡ vec_len indices.new }
     {
         if shape.tally.indices == 0 {
-            return Ok(());
+            return;
         }
         let mut at = shape.operations_at;
         for _ in 0..shape.tally.operations {
             let (operation, len) = self.operation_at(at + 1, self.bytes[at]).unwrap();
-            keep_indices(indices, operation)?;
+            keep_indices(indices, operation);
             at += 1 + len;
         }
-        Ok(())
     }
 
     // The debug program at an offset, in exactly the memory that it takes.
@@ -291,8 +300,8 @@ impl<'b> DebugReader<'b> {
         ensures { IfOk result (NumberedDebugAt self.now.counts self.now.bytes.now at) }
     {
         let mut indices = Vec::with_capacity(alloc, shape.names as usize + shape.tally.indices)?;
-        self.keep_names(&mut indices, shape)?;
-        self.keep_symbols(&mut indices, shape)?;
+        self.keep_names(&mut indices, shape);
+        self.keep_symbols(&mut indices, shape);
         Ok(Debug {
             bytes: self.bytes,
             indices,
@@ -331,8 +340,6 @@ fn shape_at(frame: &Frame<'_>, pools: &Pools<'_>, off: u32) -> Option<DebugShape
 ///
 /// Error: `Refused(20)` exactly where no debug_info_item is there: where it is not in the data, or is cut off before
 /// its end, where a number is not spelled as it has to be, or where an index is out of range of its pool.
-///
-/// Source: "debug_info_item".
 #[tactic(auto, using(crate::proofs::DebugBridge::shaped))]
 pub fn check_debug(frame: &Frame<'_>, pools: &Pools<'_>, off: u32) -> Result<DebugShape, ItemFault>
     ensures shape { IfOk result (IsShapeAt frame.now off pools.now) }
@@ -349,8 +356,6 @@ pub fn check_debug(frame: &Frame<'_>, pools: &Pools<'_>, off: u32) -> Result<Deb
 /// The debug program at an offset, in exactly the memory that it takes.
 ///
 /// Condition: its shape is that which [`check_debug`] returned.
-///
-/// Source: "debug_info_item".
 #[tactic(auto, using(crate::proofs::DebugBridge::ok_named))]
 pub fn build_debug<'a>(
     alloc: Global,
@@ -370,8 +375,6 @@ pub fn build_debug<'a>(
 /// Reads the debug_info_item at an offset, whose indices count in the pools: those of the file.
 ///
 /// Error: as of [`check_debug`]; `Memory` where an allocation failed.
-///
-/// Source: "debug_info_item".
 pub fn read_debug<'a>(
     alloc: Global,
     frame: &Frame<'a>,

@@ -1,7 +1,7 @@
 //! Debug programs: read, written, compared, and under other numbers.
 //!
-//! Public contracts use the definitions of `specs/Checking`, `specs/Debug`, `specs/DebugEquality`, `specs/DebugReading`,
-//! `specs/Laws`, `specs/Meaning`, `specs/Operations` and `specs/Positions`.
+//! Of the definitions that its contracts use, read `specs/Debug` and `specs/Meaning` (debug programs with numbers for
+//! symbols, and what they denote) and `specs/DebugReading` (when one is refused) first.
 //!
 //! Source: the Android page "Dalvik Executable format", under the heading "debug_info_item".
 #![tactic(auto)]

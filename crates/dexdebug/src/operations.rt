@@ -1,6 +1,6 @@
 //! The names of parameters and the operations of a debug program, as they are stored.
 
-ghost use Rattle.std.specs.Prelude.{◌≡◌, ◌++◌, OnOk};
+ghost use Rattle.std.specs.Prelude.{◌≡◌, ◌≤◌, ◌+◌, ◌++◌, length, vec_capacity, vec_len};
 ghost use Rattle.std.specs.Iterator.{YieldsFirst, item_count};
 ghost use Rattle.dexdebug.specs.Debug.{IsFormedOperation};
 ghost use Rattle.dexdebug.specs.DebugReading.{indices_of};
@@ -11,7 +11,6 @@ use crate::debug_operation::Operation;
 use crate::debug_reading::{DebugReader, EVERY};
 use crate::indices::Index;
 use dexpool::SymbolKind;
-use std::alloc::AllocError;
 use std::marker::Model;
 
 /// The numbers of the texts that are the names of parameters, or `None` where one has no name, those that are left, in
@@ -112,19 +111,32 @@ impl<'p> Iterator for OperationIter<'p> {
     }
 }
 
-// Stores the numbers of the symbols of an operation.
-pub(crate) fn keep_indices(indices: &mut Vec<Index>, operation: Operation) -> Result<(), AllocError>
-    requires { IsFormedOperation operation }
-    ensures { OnOk result (indices.new.items ≡ indices.old.items ++ indices_of operation) }
+// Appends numbers to those that are stored. There is room for them.
+fn append_reserved(indices: &mut Vec<Index>, more: &[Index])
+    requires { vec_len indices.old + length more.now ≤ vec_capacity indices.old }
+    ensures kept { indices.new.items ≡ indices.old.items ++ more.now }
+    ensures capacity { vec_capacity indices.new ≡ vec_capacity indices.old }
+{
+    for index in more {
+        indices.push_reserved(*index);
+    }
+}
+
+// Stores the numbers of the symbols of an operation. There is room for them.
+pub(crate) fn keep_indices(indices: &mut Vec<Index>, operation: Operation)
+    requires formed { IsFormedOperation operation }
+    requires room { vec_len indices.old + length (indices_of operation) ≤ vec_capacity indices.old }
+    ensures kept { indices.new.items ≡ indices.old.items ++ indices_of operation }
+    ensures capacity { vec_capacity indices.new ≡ vec_capacity indices.old }
 {
     let count = operation.index_count();
     if count == 0 {
-        return Ok(());
+        return;
     }
     let all = [
         Index::new(SymbolKind::Text, operation.name_idx()),
         Index::new(SymbolKind::Typ, operation.type_idx()),
         Index::new(SymbolKind::Text, operation.sig_idx()),
     ];
-    indices.extend_from_slice(&all[..count])
+    append_reserved(indices, &all[..count]);
 }

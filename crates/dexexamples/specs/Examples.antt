@@ -64,7 +64,15 @@ string_code s = record {
 
 -- the public static method `m()V` with this code
 abbrev pub method_m : Code → MethodDef
-method_m code = record { name = codes "m"; proto = void_proto; flags = 9; code = Some code; annotations = []; parameter_annotations = [] }
+method_m code =
+    record {
+      name = codes "m";
+      proto = void_proto;
+      flags = 9;
+      code = Some code;
+      annotations = [];
+      parameter_annotations = [];
+    }
 
 -- `LA;` with such a method, which loads a text
 abbrev pub class_p : Text → Definition
@@ -98,11 +106,17 @@ annotated set fields = (codes "LA;", record (body_under object) { annotations = 
 
 -- `LA;` and its field with one set, and the field has the value 5
 abbrev pub class_set_twice : Definition
-class_set_twice = (codes "LA;", record (annotated set_n (int_field (codes "x") set_n ∷ [])).1 { static_values = ThenValue (IntValue (pos 5)) NoValues })
+class_set_twice = (
+  codes "LA;",
+  record (annotated set_n (int_field (codes "x") set_n ∷ [])).1
+      { static_values = ThenValue (IntValue (pos 5)) NoValues },
+)
 
 -- the set of `LA;` is that of its second field
 abbrev pub class_set_first_use : Definition
-class_set_first_use = annotated (set_v (IntValue (pos 1))) (int_field (codes "x") (set_v (IntValue (pos 2))) ∷ int_field (codes "y") (set_v (IntValue (pos 1))) ∷ [])
+class_set_first_use =
+    annotated (set_v (IntValue (pos 1)))
+    (int_field (codes "x") (set_v (IntValue (pos 2))) ∷ int_field (codes "y") (set_v (IntValue (pos 1))) ∷ [])
 
 -- the sets of `LA;` and its field have one type, and different values
 abbrev pub class_equal_sets : Definition
@@ -129,11 +143,19 @@ method_at name line = record (method_m (code_at line)) { name = name }
 
 -- `LA;` with two methods that have equal debug programs
 abbrev pub class_debug_twice : Definition
-class_debug_twice = (codes "LA;", record (body_under object) { direct_methods = method_at (codes "m") 10 ∷ method_at (codes "n") 10 ∷ [] })
+class_debug_twice = (
+  codes "LA;",
+  record (body_under object)
+      { direct_methods = method_at (codes "m") 10 ∷ method_at (codes "n") 10 ∷ [] },
+)
 
 -- the debug program of the first method is that of the third
 abbrev pub class_debug_first_use : Definition
-class_debug_first_use = (codes "LA;", record (body_under object) { direct_methods = method_at (codes "m") 10 ∷ method_at (codes "n") 11 ∷ method_at (codes "o") 10 ∷ [] })
+class_debug_first_use = (
+  codes "LA;",
+  record (body_under object)
+      { direct_methods = method_at (codes "m") 10 ∷ method_at (codes "n") 11 ∷ method_at (codes "o") 10 ∷ [] },
+)
 
 -- `LA;` and `LB;` with the interface `LI;`, and `LA;` with a method `m(LI;)V`
 abbrev pub classes_list_thrice : List Definition
@@ -141,14 +163,24 @@ classes_list_thrice = (
   codes "LA;",
   record (body_under object) {
     interfaces = codes "LI;" ∷ [];
-    direct_methods = record { name = codes "m"; proto = record { return_type = codes "V"; parameters = codes "LI;" ∷ [] }; flags = 9; code = None; annotations = []; parameter_annotations = [] } ∷ [];
+    direct_methods =
+        record {
+          name = codes "m";
+          proto = record { return_type = codes "V"; parameters = codes "LI;" ∷ [] };
+          flags = 9;
+          code = None;
+          annotations = [];
+          parameter_annotations = [];
+        } ∷ [];
   },
 )
     ∷ (codes "LB;", record (body_under object) { interfaces = codes "LI;" ∷ [] }) ∷ []
 
 -- the sets of `LA;` and its field have an equal annotation, and are different
 abbrev pub class_annotation_twice : Definition
-class_annotation_twice = annotated set_n (int_field (codes "x") (set_n ++ record { visibility = 1; type = codes "LP;"; elements = NoElements } ∷ []) ∷ [])
+class_annotation_twice =
+    annotated set_n
+    (int_field (codes "x") (set_n ++ record { visibility = 1; type = codes "LP;"; elements = NoElements } ∷ []) ∷ [])
 
 -- a class of this name with the interface `LI;`, a set, and a method `m(LI;)V` with a debug program
 abbrev pub class_sharing : Text → Definition
@@ -157,7 +189,9 @@ class_sharing name = (
   record (body_under object) {
     interfaces = codes "LI;" ∷ [];
     annotations = set_v (IntValue (pos 7));
-    direct_methods = record (method_at (codes "m") 10) { proto = record { return_type = codes "V"; parameters = codes "LI;" ∷ [] } } ∷ [];
+    direct_methods =
+        record (method_at (codes "m") 10) { proto = record { return_type = codes "V"; parameters = codes "LI;" ∷ [] } }
+        ∷ [];
   },
 )
 

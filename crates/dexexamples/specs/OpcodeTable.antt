@@ -98,8 +98,12 @@ expected_mnemonics =
     codes "nop move move/from16 move/16 move-wide move-wide/from16 move-wide/16 move-object " ++ (
     codes "move-object/from16 move-object/16 move-result move-result-wide move-result-object move-exception return-void return " ++ (
     codes "return-wide return-object const/4 const/16 const const/high16 const-wide/16 const-wide/32 " ++ (
-    codes "const-wide const-wide/high16 const-string const-string/jumbo const-class monitor-enter monitor-exit check-cast " ++ (
-    codes "instance-of array-length new-instance new-array filled-new-array filled-new-array/range fill-array-data throw " ++ (
+    codes
+    "const-wide const-wide/high16 const-string const-string/jumbo const-class monitor-enter monitor-exit check-cast "
+    ++ (
+    codes
+    "instance-of array-length new-instance new-array filled-new-array filled-new-array/range fill-array-data throw "
+    ++ (
     codes "goto goto/16 goto/32 packed-switch sparse-switch cmpl-float cmpg-float cmpl-double " ++ (
     codes "cmpg-double cmp-long if-eq if-ne if-lt if-ge if-gt if-le " ++ (
     codes "if-eqz if-nez if-ltz if-gez if-gtz if-lez . . " ++ (
@@ -111,18 +115,25 @@ expected_mnemonics =
     codes "sput-wide sput-object sput-boolean sput-byte sput-char sput-short invoke-virtual invoke-super " ++ (
     codes "invoke-direct invoke-static invoke-interface . invoke-virtual/range invoke-super/range invoke-direct/range invoke-static/range " ++ (
     codes "invoke-interface/range . . neg-int not-int neg-long not-long neg-float " ++ (
-    codes "neg-double int-to-long int-to-float int-to-double long-to-int long-to-float long-to-double float-to-int " ++ (
-    codes "float-to-long float-to-double double-to-int double-to-long double-to-float int-to-byte int-to-char int-to-short " ++ (
+    codes "neg-double int-to-long int-to-float int-to-double long-to-int long-to-float long-to-double float-to-int "
+    ++ (
+    codes
+    "float-to-long float-to-double double-to-int double-to-long double-to-float int-to-byte int-to-char int-to-short "
+    ++ (
     codes "add-int sub-int mul-int div-int rem-int and-int or-int xor-int " ++ (
     codes "shl-int shr-int ushr-int add-long sub-long mul-long div-long rem-long " ++ (
     codes "and-long or-long xor-long shl-long shr-long ushr-long add-float sub-float " ++ (
     codes "mul-float div-float rem-float add-double sub-double mul-double div-double rem-double " ++ (
-    codes "add-int/2addr sub-int/2addr mul-int/2addr div-int/2addr rem-int/2addr and-int/2addr or-int/2addr xor-int/2addr " ++ (
+    codes
+    "add-int/2addr sub-int/2addr mul-int/2addr div-int/2addr rem-int/2addr and-int/2addr or-int/2addr xor-int/2addr "
+    ++ (
     codes "shl-int/2addr shr-int/2addr ushr-int/2addr add-long/2addr sub-long/2addr mul-long/2addr div-long/2addr rem-long/2addr " ++ (
     codes "and-long/2addr or-long/2addr xor-long/2addr shl-long/2addr shr-long/2addr ushr-long/2addr add-float/2addr sub-float/2addr " ++ (
     codes "mul-float/2addr div-float/2addr rem-float/2addr add-double/2addr sub-double/2addr mul-double/2addr div-double/2addr rem-double/2addr " ++ (
-    codes "add-int/lit16 rsub-int mul-int/lit16 div-int/lit16 rem-int/lit16 and-int/lit16 or-int/lit16 xor-int/lit16 " ++ (
-    codes "add-int/lit8 rsub-int/lit8 mul-int/lit8 div-int/lit8 rem-int/lit8 and-int/lit8 or-int/lit8 xor-int/lit8 " ++ (
+    codes "add-int/lit16 rsub-int mul-int/lit16 div-int/lit16 rem-int/lit16 and-int/lit16 or-int/lit16 xor-int/lit16 "
+    ++ (
+    codes "add-int/lit8 rsub-int/lit8 mul-int/lit8 div-int/lit8 rem-int/lit8 and-int/lit8 or-int/lit8 xor-int/lit8 "
+    ++ (
     codes "shl-int/lit8 shr-int/lit8 ushr-int/lit8 . . . . . " ++ (
     codes ". . . . . . . . " ++ (
     codes ". . . . . . . . " ++ (

@@ -98,8 +98,11 @@ valued_f = (
     interfaces = ((codes "Ljava/lang/Object;") ∷ []);
     source = None;
     annotations = [];
-    static_fields = (record { name = (92 ∷ 57344 ∷ 57344 ∷ 55296 ∷ []); type = codes "B"; flags = 0x10001; annotations = [] } ∷ []);
-    instance_fields = (record { name = codes " -"; type = codes "S"; flags = 0x1; annotations = [] } ∷ record { name = codes "b"; type = codes "D"; flags = 0x9; annotations = [] } ∷ []);
+    static_fields =
+        (record { name = (92 ∷ 57344 ∷ 57344 ∷ 55296 ∷ []); type = codes "B"; flags = 0x10001; annotations = [] } ∷ []);
+    instance_fields =
+        (record { name = codes " -"; type = codes "S"; flags = 0x1; annotations = [] }
+        ∷ record { name = codes "b"; type = codes "D"; flags = 0x9; annotations = [] } ∷ []);
     direct_methods = [];
     virtual_methods = (record {
       name = (92 ∷ 0 ∷ 92 ∷ []);
@@ -109,14 +112,41 @@ valued_f = (
         registers = 0;
         ins = 0;
         outs = 2;
-        pieces = (Instruction (0xf8a2 ∷ 0xa326 ∷ []) None ∷ Instruction (0xe337 ∷ 0x0004 ∷ []) None ∷ Instruction (0x6032 ∷ 0x0000 ∷ []) None ∷ Instruction (0xfe28 ∷ []) None ∷ []);
-        tries = (record { start = 2; count = 2; handler = record { catches = (record { type = (76 ∷ 122 ∷ 57 ∷ 53 ∷ 47 ∷ 0 ∷ 62 ∷ 59 ∷ []); address = 6 } ∷ []); catch_all = Some 6 } } ∷ record { start = 5; count = 1; handler = record { catches = (record { type = (76 ∷ 122 ∷ 57 ∷ 53 ∷ 47 ∷ 0 ∷ 62 ∷ 59 ∷ []); address = 6 } ∷ []); catch_all = Some 6 } } ∷ record { start = 6; count = 1; handler = record { catches = (record { type = codes "B"; address = 4 } ∷ []); catch_all = None } } ∷ []);
+        pieces =
+            (Instruction (0xf8a2 ∷ 0xa326 ∷ []) None ∷ Instruction (0xe337 ∷ 0x0004 ∷ []) None
+            ∷ Instruction (0x6032 ∷ 0x0000 ∷ []) None ∷ Instruction (0xfe28 ∷ []) None ∷ []);
+        tries =
+            (record {
+              start = 2;
+              count = 2;
+              handler =
+                  record {
+                    catches = (record { type = (76 ∷ 122 ∷ 57 ∷ 53 ∷ 47 ∷ 0 ∷ 62 ∷ 59 ∷ []); address = 6 } ∷ []);
+                    catch_all = Some 6;
+                  };
+            }
+            ∷ record {
+              start = 5;
+              count = 1;
+              handler =
+                  record {
+                    catches = (record { type = (76 ∷ 122 ∷ 57 ∷ 53 ∷ 47 ∷ 0 ∷ 62 ∷ 59 ∷ []); address = 6 } ∷ []);
+                    catch_all = Some 6;
+                  };
+            }
+            ∷ record {
+              start = 6;
+              count = 1;
+              handler = record { catches = (record { type = codes "B"; address = 4 } ∷ []); catch_all = None };
+            } ∷ []);
         debug = None;
       });
       annotations = [];
       parameter_annotations = [];
     } ∷ []);
-    static_values = (ThenValue (FieldValue (record { class = codes "Lz1/nab;"; name = (34 ∷ 55296 ∷ 62 ∷ []); type = codes "C" })) NoValues);
+    static_values =
+        (ThenValue (FieldValue (record { class = codes "Lz1/nab;"; name = (34 ∷ 55296 ∷ 62 ∷ []); type = codes "C" }))
+        NoValues);
   },
 )
 

@@ -26,7 +26,17 @@ varied_a = (
         ins = 1;
         outs = 0;
         pieces = (Instruction (0x0029 ∷ 0x0002 ∷ []) None ∷ Instruction (0xcf35 ∷ 0x0000 ∷ []) None ∷ []);
-        tries = (record { start = 1; count = 1; handler = record { catches = (record { type = codes "F"; address = 2 } ∷ []); catch_all = Some 0 } } ∷ record { start = 3; count = 1; handler = record { catches = (record { type = codes "F"; address = 2 } ∷ []); catch_all = Some 0 } } ∷ []);
+        tries =
+            (record {
+              start = 1;
+              count = 1;
+              handler = record { catches = (record { type = codes "F"; address = 2 } ∷ []); catch_all = Some 0 };
+            }
+            ∷ record {
+              start = 3;
+              count = 1;
+              handler = record { catches = (record { type = codes "F"; address = 2 } ∷ []); catch_all = Some 0 };
+            } ∷ []);
         debug = None;
       });
       annotations = [];
@@ -44,7 +54,14 @@ varied_b = (
     superclass = None;
     interfaces = ((codes "Lc1;") ∷ []);
     source = None;
-    annotations = (record { visibility = 1; type = (91 ∷ 76 ∷ 57344 ∷ 127 ∷ 62 ∷ 120 ∷ 47 ∷ 4096 ∷ 65535 ∷ 47 ∷ 121 ∷ 49 ∷ 59 ∷ []); elements = (ThenElement (92 ∷ []) (ByteValue (pos 0)) (ThenElement (128 ∷ 48 ∷ 55295 ∷ []) (CharValue 65535) NoElements)) } ∷ []);
+    annotations =
+        (record {
+          visibility = 1;
+          type = (91 ∷ 76 ∷ 57344 ∷ 127 ∷ 62 ∷ 120 ∷ 47 ∷ 4096 ∷ 65535 ∷ 47 ∷ 121 ∷ 49 ∷ 59 ∷ []);
+          elements =
+              (ThenElement (92 ∷ []) (ByteValue (pos 0)) (ThenElement (128 ∷ 48 ∷ 55295 ∷ []) (CharValue 65535) NoElements));
+        }
+        ∷ []);
     static_fields = [];
     instance_fields = [];
     direct_methods = [];
@@ -61,12 +78,31 @@ varied_c = (
     superclass = None;
     interfaces = ((codes "Ljava/lang/Object;") ∷ []);
     source = None;
-    annotations = (record { visibility = 1; type = codes "LB1/x;"; elements = NoElements } ∷ record { visibility = 1; type = codes "Lx;"; elements = (ThenElement [] (MethodValue (record { class = codes "Lc1;"; name = codes "y5"; proto = record { return_type = codes "Lm1/a15;"; parameters = [] } })) (ThenElement (codes "aab") (ArrayValue (ThenValue (ShortValue (pos 0)) NoValues)) NoElements)) } ∷ []);
+    annotations =
+        (record { visibility = 1; type = codes "LB1/x;"; elements = NoElements }
+        ∷ record {
+          visibility = 1;
+          type = codes "Lx;";
+          elements =
+              (ThenElement []
+              (MethodValue
+              (record {
+                class = codes "Lc1;";
+                name = codes "y5";
+                proto = record { return_type = codes "Lm1/a15;"; parameters = [] };
+              }))
+              (ThenElement (codes "aab") (ArrayValue (ThenValue (ShortValue (pos 0)) NoValues)) NoElements));
+        } ∷ []);
     static_fields = [];
     instance_fields = [];
     direct_methods = (record {
       name = codes "m";
-      proto = record { return_type = codes "J"; parameters = ((codes "LB1/x;") ∷ (codes "C") ∷ (codes "F") ∷ (codes "D") ∷ (76 ∷ 55296 ∷ 60 ∷ 127 ∷ 59 ∷ []) ∷ []) };
+      proto =
+          record {
+            return_type = codes "J";
+            parameters =
+                ((codes "LB1/x;") ∷ (codes "C") ∷ (codes "F") ∷ (codes "D") ∷ (76 ∷ 55296 ∷ 60 ∷ 127 ∷ 59 ∷ []) ∷ []);
+          };
       flags = 0x11;
       code = None;
       annotations = [];
@@ -80,7 +116,9 @@ varied_c = (
         registers = 5;
         ins = 0;
         outs = 65535;
-        pieces = (Instruction (0x101f ∷ 0x0000 ∷ []) (Some (TypeSymbol (codes "B"))) ∷ Instruction (0xd3cc ∷ []) None ∷ Instruction (0x734a ∷ 0xb38d ∷ []) None ∷ []);
+        pieces =
+            (Instruction (0x101f ∷ 0x0000 ∷ []) (Some (TypeSymbol (codes "B"))) ∷ Instruction (0xd3cc ∷ []) None
+            ∷ Instruction (0x734a ∷ 0xb38d ∷ []) None ∷ []);
         tries = [];
         debug = Some (record { line_start = 2097151; parameter_names = []; operations = [] });
       });
@@ -99,7 +137,21 @@ varied_d = (
     superclass = None;
     interfaces = ((codes "Ljava/lang/Object;") ∷ (codes "Ljava/lang/Object;") ∷ []);
     source = Some (codes "VL");
-    annotations = (record { visibility = 1; type = codes "LB1/x;"; elements = NoElements } ∷ record { visibility = 1; type = codes "Lx;"; elements = (ThenElement [] (MethodValue (record { class = codes "Lc1;"; name = codes "y5"; proto = record { return_type = codes "Lm1/a15;"; parameters = [] } })) (ThenElement (codes "aab") (ArrayValue (ThenValue (ShortValue (pos 0)) NoValues)) NoElements)) } ∷ []);
+    annotations =
+        (record { visibility = 1; type = codes "LB1/x;"; elements = NoElements }
+        ∷ record {
+          visibility = 1;
+          type = codes "Lx;";
+          elements =
+              (ThenElement []
+              (MethodValue
+              (record {
+                class = codes "Lc1;";
+                name = codes "y5";
+                proto = record { return_type = codes "Lm1/a15;"; parameters = [] };
+              }))
+              (ThenElement (codes "aab") (ArrayValue (ThenValue (ShortValue (pos 0)) NoValues)) NoElements));
+        } ∷ []);
     static_fields = [];
     instance_fields = [];
     direct_methods = [];
@@ -135,8 +187,15 @@ varied_e = (
         registers = 1;
         ins = 65535;
         outs = 0;
-        pieces = (Instruction (0x0ca1 ∷ 0x914e ∷ []) None ∷ Instruction (0x0028 ∷ []) None ∷ Instruction (0xed38 ∷ 0x0000 ∷ []) None ∷ []);
-        tries = (record { start = 1; count = 1; handler = record { catches = (record { type = codes "L ;"; address = 3 } ∷ []); catch_all = None } } ∷ []);
+        pieces =
+            (Instruction (0x0ca1 ∷ 0x914e ∷ []) None ∷ Instruction (0x0028 ∷ []) None
+            ∷ Instruction (0xed38 ∷ 0x0000 ∷ []) None ∷ []);
+        tries =
+            (record {
+              start = 1;
+              count = 1;
+              handler = record { catches = (record { type = codes "L ;"; address = 3 } ∷ []); catch_all = None };
+            } ∷ []);
         debug = None;
       });
       annotations = (record { visibility = 2; type = codes "LA/yyyyyyyyyyyyyyyyyyyyyyyyyyyyyyyyyyyyyyyyyyyyyyyyyyyyyyyyyyyyyyyyyyyyyyyyyyyyyyyyyyyyyyyyyyyyyyyyyyyyyyyyyyyyyyyyyyyyyyyyyyyyyyyyyyyyyyyyyyyyyyyyyyyyyyyyyyyyyyyyyyyyyyyyyyyyyyyyyyyyyyyyyyyyyyyyyyyyyyyyyyyyyyyyyyyyyyyyyyyyyyyyyyyyyyyyyyyyyyyyyyyyyyyyyyyyyyyyyyyyyyyyyyyyyyyyyyyyyyyyyyyyyyyyyyyyyyyyyyyy;"; elements = (ThenElement (codes "LA;") (AnnotationValue (76 ∷ 56319 ∷ 127 ∷ 56320 ∷ 59 ∷ []) NoElements) NoElements) } ∷ record { visibility = 2; type = codes "Lm1/a15;"; elements = (ThenElement (codes "B1") (ArrayValue NoValues) NoElements) } ∷ []);
@@ -154,7 +213,21 @@ varied_f = (
     superclass = Some (codes "Lc1;");
     interfaces = [];
     source = None;
-    annotations = (record { visibility = 1; type = codes "LB1/x;"; elements = NoElements } ∷ record { visibility = 1; type = codes "Lx;"; elements = (ThenElement [] (MethodValue (record { class = codes "Lc1;"; name = codes "y5"; proto = record { return_type = codes "Lm1/a15;"; parameters = [] } })) (ThenElement (codes "aab") (ArrayValue (ThenValue (ShortValue (pos 0)) NoValues)) NoElements)) } ∷ []);
+    annotations =
+        (record { visibility = 1; type = codes "LB1/x;"; elements = NoElements }
+        ∷ record {
+          visibility = 1;
+          type = codes "Lx;";
+          elements =
+              (ThenElement []
+              (MethodValue
+              (record {
+                class = codes "Lc1;";
+                name = codes "y5";
+                proto = record { return_type = codes "Lm1/a15;"; parameters = [] };
+              }))
+              (ThenElement (codes "aab") (ArrayValue (ThenValue (ShortValue (pos 0)) NoValues)) NoElements));
+        } ∷ []);
     static_fields = (record { name = codes "Cab"; type = codes "I"; flags = 0x1; annotations = (record { visibility = 0; type = codes "B"; elements = NoElements } ∷ []) } ∷ record { name = codes "m93"; type = codes "J"; flags = 0x11; annotations = [] } ∷ record { name = codes "xxxxxxxxxxxxxxxxxxxxxxxxxxxxxxxxxxxxxxxxxxxxxxxxxxxxxxxxxxxxxxxxxxxxxxxxxxxxxxxxxxxxxxxxxxxxxxxxxxxxxxxxxxxxxxxxxxxxxxxxxxxxxxx"; type = codes "[Lx;"; flags = 0x10001; annotations = [] } ∷ []);
     instance_fields = (record { name = codes "Cab"; type = codes "Lx;"; flags = 0x11; annotations = (record { visibility = 2; type = codes "Lb/xab;"; elements = (ThenElement (2048 ∷ []) (LongValue (pos 3209255545290515113)) NoElements) } ∷ []) } ∷ record { name = codes "x1"; type = codes "LA/yyyyyyyyyyyyyyyyyyyyyyyyyyyyyyyyyyyyyyyyyyyyyyyyyyyyyyyyyyyyyyyyyyyyyyyyyyyyyyyyyyyyyyyyyyyyyyyyyyyyyyyyyyyyyyyyyyyyyyyyyyyyyyyyyyyyyyyyyyyyyyyyyyyyyyyyyyyyyyyyyyyyyyyyyyyyyyyyyyyyyyyyyyyyyyyyyyyyyyyyyyyyyyyyyyyyyyyyyyyyyyyyyyyyyyyyyyyyyyyyyyyyyyyyyyyyyyyyyyyyyyyyyyyyyyyyyyyyyyyyyyyyyyyyyyyyyyyyyyyy;"; flags = 0x40000; annotations = [] } ∷ []);
     direct_methods = [];
@@ -166,7 +239,11 @@ varied_f = (
         registers = 65535;
         ins = 65535;
         outs = 2;
-        pieces = (Instruction (0xfa1b ∷ 0x0000 ∷ 0x0000 ∷ []) (Some (TextSymbol (codes "I"))) ∷ Instruction (0x5fcf ∷ []) None ∷ Instruction (0xa9c7 ∷ []) None ∷ Instruction (0x0029 ∷ 0x0002 ∷ []) None ∷ Instruction (0x002a ∷ 0x0000 ∷ 0x0000 ∷ []) None ∷ Payload (0x0300 ∷ 0x0002 ∷ 0x0001 ∷ 0x0000 ∷ 0xd00f ∷ []) ∷ []);
+        pieces =
+            (Instruction (0xfa1b ∷ 0x0000 ∷ 0x0000 ∷ []) (Some (TextSymbol (codes "I")))
+            ∷ Instruction (0x5fcf ∷ []) None ∷ Instruction (0xa9c7 ∷ []) None ∷ Instruction (0x0029 ∷ 0x0002 ∷ []) None
+            ∷ Instruction (0x002a ∷ 0x0000 ∷ 0x0000 ∷ []) None
+            ∷ Payload (0x0300 ∷ 0x0002 ∷ 0x0001 ∷ 0x0000 ∷ 0xd00f ∷ []) ∷ []);
         tries = (record { start = 0; count = 5; handler = record { catches = []; catch_all = Some 7 } } ∷ []);
         debug = None;
       });

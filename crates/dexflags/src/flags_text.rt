@@ -20,7 +20,7 @@ fn shown_byte(byte: u8) -> u8
     }
 }
 
-// Whether the bit of a named flag is set.
+// Returns whether the bit of a named flag is set.
 #[tactic(auto, using(crate::proofs::SingleBits::single_bit))]
 fn has_flag<F: Flags>(flags: &F, flag: &Flag<F>) -> bool
     requires exact { F.exact }

@@ -9,7 +9,8 @@ use Rattle.dexhead.specs.Pushing.{Pushes, HasRoomFor}
 pub counted_nothing : (a : ℕ) → a < 2 ^ 64 → a ≡ min (2 ^ 64 - 1) (a + 0)
 counted_nothing a small = omega arith
 
-pub counted_both : (x y : List ℕ) (a b c : ℕ) → (a < 2 ^ 64 → b ≡ min (2 ^ 64 - 1) (a + length x)) → (b < 2 ^ 64 → c ≡ min (2 ^ 64 - 1) (b + length y)) → a < 2 ^ 64 → c ≡ min (2 ^ 64 - 1) (a + length (x ++ y))
+pub counted_both : (x y : List ℕ) (a b c : ℕ) → (a < 2 ^ 64 → b ≡ min (2 ^ 64 - 1) (a + length x))
+    → (b < 2 ^ 64 → c ≡ min (2 ^ 64 - 1) (b + length y)) → a < 2 ^ 64 → c ≡ min (2 ^ 64 - 1) (a + length (x ++ y))
 counted_both x y a b c h g small =
     let first = h small in
     let second = g (omega (arith, first)) in
@@ -18,7 +19,8 @@ counted_both x y a b c h g small =
 pub pushed_nothing : (a : Vec ℕ) → HasRoomFor [] a → Pushes [] a a
 pushed_nothing a room = record { items = sym (append-nil a.items); len = omega arith; capacity = omega arith }
 
-pub pushed_both : (x y : List ℕ) (a b c : Vec ℕ) → (HasRoomFor x a → Pushes x a b) → (HasRoomFor y b → Pushes y b c) → HasRoomFor (x ++ y) a → Pushes (x ++ y) a c
+pub pushed_both : (x y : List ℕ) (a b c : Vec ℕ) → (HasRoomFor x a → Pushes x a b) → (HasRoomFor y b → Pushes y b c)
+    → HasRoomFor (x ++ y) a → Pushes (x ++ y) a c
 pushed_both x y a b c h g room =
     let first = h (omega (arith, room, length-append x y)) in
     let second = g (omega (arith, room, length-append x y, first.len, first.capacity)) in
@@ -29,7 +31,8 @@ pushed_both x y a b c h g room =
     }
 
 -- a call that appends and may fail, where there is room
-pub puts_pushes : {T E : Type 0} (x : List ℕ) (a b : Vec ℕ) (r : Result T E) → Puts x a b r → HasRoomFor x a → Pushes x a b
+pub puts_pushes : {T E : Type 0} (x : List ℕ) (a b : Vec ℕ) (r : Result T E) → Puts x a b r → HasRoomFor x a
+    → Pushes x a b
 puts_pushes x a b (Ok t) h room = record { items = h.ok; len = h.len; capacity = h.capacity }
 puts_pushes x a b (Err e) h room = let ok = h.room room in absurd cc
 

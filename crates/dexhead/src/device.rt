@@ -21,14 +21,16 @@ pub trait Source {
     // Whether it has failed.
     ghost has_failed: { Self → Bool };
 
-    /// Whether the device has failed: from the first fault on, and not before.
+    // How many bytes in all are expected to come.
+    ghost expected_len: { Self → ℕ };
+
+    /// Returns whether the device has failed: from the first fault on, and not before.
     fn failed(&self) -> bool
         ensures { result ≡ has_failed self.now };
 
     /// How many bytes in all are expected to come, 0 where nobody knows. It is a hint for the first allocation.
-    fn expected(&self) -> usize {
-        0
-    }
+    fn expected(&self) -> usize
+        ensures { result ≡ expected_len self.now };
 
     /// Moves a prefix of the bytes to come to the start of the buffer, and returns its length, which for a buffer that
     /// is not empty is 0 only at the end of the bytes.
@@ -62,7 +64,7 @@ pub trait Sink {
     // Whether it has failed.
     ghost has_failed: { Self → Bool };
 
-    /// Whether the device has failed: from the first fault on, and not before.
+    /// Returns whether the device has failed: from the first fault on, and not before.
     fn failed(&self) -> bool
         ensures { result ≡ has_failed self.now };
 
@@ -165,13 +167,13 @@ impl<T: Read> Source for Device<T> {
 
     ghost has_failed = { λ d. d.is_broken };
 
+    ghost expected_len = { expected_of };
+
     fn failed(&self) -> bool {
         self.is_broken
     }
 
-    fn expected(&self) -> usize
-        ensures { result ≡ expected_of self.now }
-    {
+    fn expected(&self) -> usize {
         self.expected
     }
 

@@ -156,7 +156,7 @@ impl<'a> Frame<'a> {
         rest
     }
 
-    /// Whether `len` bytes from an offset on are wholly in the data.
+    /// Returns whether `len` bytes from an offset on are wholly in the data.
     ///
     /// Source: "Dalvik Executable format", "header_item", the fields `data_off` and `data_size`.
     pub fn is_in_data(&self, off: u32, len: u64) -> bool

@@ -1,8 +1,9 @@
 //! The first things that are read of a file and the last that are written: the checksum and the
 //! signature, the header, the map, and the devices that bytes come from and go to.
 //!
-//! Public contracts use the definitions of `specs/Conditions`, `specs/Device`, `specs/Laid`, `specs/Laws`,
-//! `specs/OutputLaws`, `specs/Pushing`, `specs/Sections`, `specs/Sums`, `specs/Tables` and `specs/Written`.
+//! Of the definitions that its contracts use, read `specs/Conditions` (which condition a refusal names),
+//! `specs/Written` (the bytes of a header and a map) and `specs/OutputLaws` (bytes written one after the other) first;
+//! the traits of the devices say in their contracts what a device does.
 #![tactic(auto)]
 
 mod condition;

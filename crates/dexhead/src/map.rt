@@ -94,7 +94,7 @@ impl<'a> Map<'a> {
         }
     }
 
-    /// Whether none of the first entries is of the kind.
+    /// Returns whether none of the first entries is of the kind.
     fn lacks(&self, kind: u16, count: usize) -> bool
         requires { count ≤ self.now.count }
         ensures { IsTrue result ↔ All (λ e. e.kind ≢ kind) (take count (entries self.now)) }

@@ -58,7 +58,9 @@ pub record AreNoted (us : List ℕ) (words : List ℕ) : Type 0 where
 
 -- the answer says whether the piece at a unit has no target or a valid one
 abbrev pub HasTargetsAt : List ℕ → List ℕ → List ℕ → ℕ → Bool → Type 0
-HasTargetsAt us starts noted at answer = (cs : List Cut) (n : ℕ) → AreBitsOf begins_instruction us cs starts → AreBitsOf is_noted us cs noted → answer ≡ has_right_targets us cs (record { unit = at; units = n })
+HasTargetsAt us starts noted at answer =
+    (cs : List Cut) (n : ℕ) → AreBitsOf begins_instruction us cs starts → AreBitsOf is_noted us cs noted
+    → answer ≡ has_right_targets us cs (record { unit = at; units = n })
 
 -- from a unit on no bit is set
 abbrev pub HasNoBit : List ℕ → ℕ → Type 0
@@ -72,8 +74,12 @@ pub record IsNextBit (words : List ℕ) (from unit : ℕ) : Type 0 where
 
 -- the answer says whether each piece has no target or a valid one
 abbrev pub AreAllRight : List ℕ → List ℕ → List ℕ → Bool → Type 0
-AreAllRight us starts noted true = (cs : List Cut) → All (IsPieceAt us) cs → AreBitsOf begins_instruction us cs starts → AreBitsOf is_noted us cs noted → All (λ c. IsTrue (has_right_targets us cs c)) cs
-AreAllRight us starts noted false = (cs : List Cut) → AreBitsOf begins_instruction us cs starts → AreBitsOf is_noted us cs noted → All (λ c. IsTrue (has_right_targets us cs c)) cs → ⊥
+AreAllRight us starts noted true =
+    (cs : List Cut) → All (IsPieceAt us) cs → AreBitsOf begins_instruction us cs starts → AreBitsOf is_noted us cs noted
+    → All (λ c. IsTrue (has_right_targets us cs c)) cs
+AreAllRight us starts noted false =
+    (cs : List Cut) → AreBitsOf begins_instruction us cs starts → AreBitsOf is_noted us cs noted
+    → All (λ c. IsTrue (has_right_targets us cs c)) cs → ⊥
 
 -- ---- indices
 
@@ -84,7 +90,8 @@ IsOutside us m at = (c : Cut) → c.unit ≡ at → IsInRange us m c → ⊥
 -- each piece that begins at the unit is in range, and has `count` indices
 pub record IndexCount (us : List ℕ) (m : Mentions) (at count : ℕ) : Type 0 where
   pub in_range : (n : ℕ) → IsInRange us m (record { unit = at; units = n })
-  pub counted : (n : ℕ) → length (with_index_at (index_pool (drop at us)) us (record { unit = at; units = n }) []) ≡ count
+  pub counted : (n : ℕ)
+      → length (with_index_at (index_pool (drop at us)) us (record { unit = at; units = n }) []) ≡ count
   pub few : count ≤ 1
   pub fit : (n : ℕ) → All (FitsAt us) (with_index_at (index_pool (drop at us)) us (record { unit = at; units = n }) [])
 

@@ -14,32 +14,49 @@ use Rattle.dexinsn.specs.Numbered.{NumberedPiece, Denote, uses_of, numbered_unit
 
 -- where symbols rise, the units of numbered pieces are those of the pieces that they denote
 abbrev pub UnitsAreDenoted : Type 0
-UnitsAreDenoted = (m : Mentions) (ps : List NumberedPiece) (qs : List Piece) → AreRising m → Denote m ps qs → flat_map numbered_units ps ≡ flat_map (piece_units m) qs
+UnitsAreDenoted =
+    (m : Mentions) (ps : List NumberedPiece) (qs : List Piece) → AreRising m → Denote m ps qs
+    → flat_map numbered_units ps ≡ flat_map (piece_units m) qs
 
 -- pieces that are renumbered denote what they denoted before
 abbrev pub RenumberedDenote : Type 0
-RenumberedDenote = (m n : Mentions) (r : Maps) (ps : List NumberedPiece) (qs : List Piece) → AllMapTo m n r → All (HasImage r) ps → Denote m ps qs → Denote n (map (renumbered_piece r) ps) qs
+RenumberedDenote =
+    (m n : Mentions) (r : Maps) (ps : List NumberedPiece) (qs : List Piece) → AllMapTo m n r → All (HasImage r) ps
+    → Denote m ps qs → Denote n (map (renumbered_piece r) ps) qs
 
 -- the symbols that occur are those of the pieces that are denoted, one for one
 abbrev pub UsesAreDenoted : Type 0
-UsesAreDenoted = (m : Mentions) (ps : List NumberedPiece) (qs : List Piece) → Denote m ps qs → AllZip (IsUseOf m) (uses_of ps) (flat_map piece_symbols qs)
+UsesAreDenoted =
+    (m : Mentions) (ps : List NumberedPiece) (qs : List Piece) → Denote m ps qs
+    → AllZip (IsUseOf m) (uses_of ps) (flat_map piece_symbols qs)
 
 -- where there is a mark for each symbol, there is one for each that occurs
 abbrev pub UsesHaveMarks : Type 0
-UsesHaveMarks = (m : Mentions) (marks : Marks) (ps : List NumberedPiece) (qs : List Piece) → AreMarksOf m marks → Denote m ps qs → All (HasMark marks) (uses_of ps)
+UsesHaveMarks =
+    (m : Mentions) (marks : Marks) (ps : List NumberedPiece) (qs : List Piece) → AreMarksOf m marks → Denote m ps qs
+    → All (HasMark marks) (uses_of ps)
 
 -- numbers that fit, and that map to none that is greater, have images that fit
 abbrev pub FitMappedDown : Type 0
-FitMappedDown = (r : Maps) (ps : List NumberedPiece) → MapsDown r → FitPlaces ps → All (IsMappedUse r) (uses_of ps) → All (HasPlace r) ps
+FitMappedDown =
+    (r : Maps) (ps : List NumberedPiece) → MapsDown r → FitPlaces ps → All (IsMappedUse r) (uses_of ps)
+    → All (HasPlace r) ps
 
 -- where the greatest number of a short string has an image that fits, and images elsewhere fit, all images fit
 abbrev pub FitWhereGreatestDoes : Type 0
-FitWhereGreatestDoes = (r : Maps) (ps : List NumberedPiece) (greatest : Option ℕ) → KeepOrder r → ImagesFit r → IsGreatest (short_strings ps) greatest → MapsShort r greatest → All (IsMappedUse r) (uses_of ps) → All (HasPlace r) ps
+FitWhereGreatestDoes =
+    (r : Maps) (ps : List NumberedPiece) (greatest : Option ℕ) → KeepOrder r → ImagesFit r
+    → IsGreatest (short_strings ps) greatest → MapsShort r greatest → All (IsMappedUse r) (uses_of ps)
+    → All (HasPlace r) ps
 
 -- each text that a const-string names is numbered by a short string
 abbrev pub ConstStringsAreShort : Type 0
-ConstStringsAreShort = (m : Mentions) (ps : List NumberedPiece) (qs : List Piece) (s : Text) → Denote m ps qs → HasConstString qs s → (n : ℕ) × Contains (short_strings ps) n × IsAt m.texts n s
+ConstStringsAreShort =
+    (m : Mentions) (ps : List NumberedPiece) (qs : List Piece) (s : Text) → Denote m ps qs → HasConstString qs s
+    → (n : ℕ) × Contains (short_strings ps) n × IsAt m.texts n s
 
 -- each short string is the number of a text that a const-string names
 abbrev pub ShortStringsAreConst : Type 0
-ShortStringsAreConst = (m : Mentions) (ps : List NumberedPiece) (qs : List Piece) (n : ℕ) → Denote m ps qs → Contains (short_strings ps) n → (s : Text) × IsAt m.texts n s × HasConstString qs s
+ShortStringsAreConst =
+    (m : Mentions) (ps : List NumberedPiece) (qs : List Piece) (n : ℕ) → Denote m ps qs → Contains (short_strings ps) n
+    → (s : Text) × IsAt m.texts n s × HasConstString qs s

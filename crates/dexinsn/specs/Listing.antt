@@ -33,7 +33,8 @@ kind_of (Payload us) = payload_shown us
 -- the pieces in their order, the first at a unit
 abbrev pub listed : ℕ → List NumberedPiece → List Piece
 listed at [] = []
-listed at (p ∷ ps) = record { unit = at; units = length (units_of p); kind = kind_of p } ∷ listed (at + length (units_of p)) ps
+listed at (p ∷ ps) =
+    record { unit = at; units = length (units_of p); kind = kind_of p } ∷ listed (at + length (units_of p)) ps
 
 -- ---- by the units and the indices
 
@@ -44,7 +45,9 @@ symbol_by (Some pool) is = option_map (λ n. (kind_of_pool pool, n)) (first_numb
 
 -- what is shown of the first piece, if this is its symbol
 abbrev pub kind_from : List ℕ → Option (SymbolKind × ℕ) → PieceKind
-kind_from us symbol = if is_payload_ident (slice_index us 0) then payload_shown us else kinds.Instruction (low_byte (slice_index us 0)) symbol
+kind_from us symbol =
+    if is_payload_ident (slice_index us 0) then payload_shown us
+    else kinds.Instruction (low_byte (slice_index us 0)) symbol
 
 -- the pieces from a unit on, with these indices
 unfoldable pub listing : List ℕ → ℕ → List Index → List Piece

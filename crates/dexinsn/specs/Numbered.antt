@@ -31,7 +31,8 @@ pub record NumberedCode : Type 0 where
 -- the piece is the symbolic one, where symbols are numbered so
 abbrev pub Denotes : Mentions → NumberedPiece → Piece → Type 0
 Denotes m (Instruction us None) (symbolic.Instruction xs None) = us ≡ xs
-Denotes m (Instruction us (Some n)) (symbolic.Instruction xs (Some s)) = (us ≡ xs) × (index_pool us ≡ Some (pool_of s)) × IsNumbered m n s
+Denotes m (Instruction us (Some n)) (symbolic.Instruction xs (Some s)) =
+    (us ≡ xs) × (index_pool us ≡ Some (pool_of s)) × IsNumbered m n s
 Denotes m (Payload us) (symbolic.Payload xs) = us ≡ xs
 Denotes m _ _ = ⊥
 
@@ -114,4 +115,5 @@ renumbered_piece r p = p
 
 -- the code with the images of its numbers
 abbrev pub renumbered : Maps → NumberedCode → NumberedCode
-renumbered r c = record { registers = c.registers; ins = c.ins; outs = c.outs; pieces = map (renumbered_piece r) c.pieces }
+renumbered r c =
+    record { registers = c.registers; ins = c.ins; outs = c.outs; pieces = map (renumbered_piece r) c.pieces }

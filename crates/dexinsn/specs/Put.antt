@@ -11,4 +11,6 @@ use Rattle.dexinsn.specs.Numbered.{NumberedPiece, Denote}
 
 -- what is put are the units of the symbolic pieces that the numbered ones denote
 abbrev pub PutsDenoted : {T E : Type 0} → Mentions → List NumberedPiece → Vec ℕ → Vec ℕ → Result T E → Type 0
-PutsDenoted m ps old new r = (symbolic : List Piece) → Denote m ps symbolic → Puts (flat_map ushort (flat_map (piece_units m) symbolic)) old new r
+PutsDenoted m ps old new r =
+    (symbolic : List Piece) → Denote m ps symbolic
+    → Puts (flat_map ushort (flat_map (piece_units m) symbolic)) old new r

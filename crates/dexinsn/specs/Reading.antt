@@ -31,7 +31,8 @@ HasPiecesAt b off m code = ArePiecesAt b off m code.pieces
 
 -- there are no pieces at the offset; a failed allocation says nothing
 abbrev pub IsPiecesFault : List ℕ → ℕ → ItemFault → Type 0
-IsPiecesFault b off (Refused number) = (number ≡ 18) × ((cuts : List Cut) (ps : List Piece) → PiecesAt b off cuts ps → ⊥)
+IsPiecesFault b off (Refused number) =
+    (number ≡ 18) × ((cuts : List Cut) (ps : List Piece) → PiecesAt b off cuts ps → ⊥)
 IsPiecesFault b off Memory = Unit {0}
 
 -- there is room for the units of a code_item
@@ -57,7 +58,9 @@ indices_at us (c ∷ cs) = with_index_at (index_pool (drop c.unit us)) us c (ind
 
 -- the index of the piece, if it has one, is below the number of symbols of its kind
 abbrev pub IsInRange : List ℕ → Mentions → Cut → Type 0
-IsInRange us m c = MatchOption (index_pool (drop c.unit us)) (Unit {0}) (λ pool. index_in (drop c.unit us) < count_of (kind_of_pool pool) m)
+IsInRange us m c =
+    MatchOption (index_pool (drop c.unit us)) (Unit {0})
+    (λ pool. index_in (drop c.unit us) < count_of (kind_of_pool pool) m)
 
 -- these are the indices of the pieces, and they are in range
 pub record AreIndicesOf (us : List ℕ) (m : Mentions) (cs : List Cut) (is : List Index) : Type 0 where
@@ -80,4 +83,6 @@ IsCodeFault us m Memory = Unit {0}
 
 -- for each unit of the code_item at an offset, whether an instruction begins there
 abbrev pub AreStartsAt : List ℕ → ℕ → List Bool → Type 0
-AreStartsAt b off starts = (cuts : List Cut) (ps : List Piece) (k : ℕ) → PiecesAt b off cuts ps → slice_index_or starts k false ≡ is_instruction_start (code_units b off) cuts (pos k)
+AreStartsAt b off starts =
+    (cuts : List Cut) (ps : List Piece) (k : ℕ) → PiecesAt b off cuts ps
+    → slice_index_or starts k false ≡ is_instruction_start (code_units b off) cuts (pos k)

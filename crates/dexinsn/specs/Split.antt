@@ -36,7 +36,8 @@ are_right_targets us cs at targets = list_all (λ target. is_instruction_start u
 
 -- a payload with this first unit begins at the place, and its targets are right
 abbrev pub targets_payload : ℕ → List ℕ → List Cut → ℕ → ℤ → Bool
-targets_payload ident us cs at z = is_payload_start ident us cs z && are_right_targets us cs at (payload_targets us (nat_abs z))
+targets_payload ident us cs at z =
+    is_payload_start ident us cs z && are_right_targets us cs at (payload_targets us (nat_abs z))
 
 -- the instruction at a unit, which has this format, has no target or a valid one
 abbrev pub branches_right : List ℕ → List Cut → ℕ → Format → Bool

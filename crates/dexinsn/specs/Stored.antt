@@ -13,7 +13,9 @@ use Rattle.dexpool.specs.Numberings.{Maps, image_of}
 -- n pieces at most, cut from units of which the first is at a place
 abbrev pub cuts_from : ℕ → ℕ → List ℕ → List Cut
 cuts_from zero at us = []
-cuts_from (suc n) at us = option_map_or (λ size. record { unit = at; units = size } ∷ cuts_from n (at + size) (drop size us)) (piece_size at us) []
+cuts_from (suc n) at us =
+    option_map_or (λ size. record { unit = at; units = size } ∷ cuts_from n (at + size) (drop size us))
+    (piece_size at us) []
 
 -- the pieces into which units are cut, up to where none begins
 unfoldable pub cuts_in : List ℕ → List Cut
@@ -81,11 +83,13 @@ uses_at us is = flat_map (λ i. use_at us i ∷ []) is
 
 -- its number has an image that fits the place
 abbrev pub HasPlaceAt : Maps → List ℕ → Index → Type 0
-HasPlaceAt r us i = (j : ℕ) × (image_of r (kind_in (drop i.unit us)) i.number ≡ Some j) × (j < index_room (drop i.unit us))
+HasPlaceAt r us i =
+    (j : ℕ) × (image_of r (kind_in (drop i.unit us)) i.number ≡ Some j) × (j < index_room (drop i.unit us))
 
 -- the index with the image of its number
 abbrev pub renumbered_index : Maps → List ℕ → Index → Index
-renumbered_index r us i = record { unit = i.unit; number = unwrap_or (image_of r (kind_in (drop i.unit us)) i.number) 0 }
+renumbered_index r us i =
+    record { unit = i.unit; number = unwrap_or (image_of r (kind_in (drop i.unit us)) i.number) 0 }
 
 -- an instruction begins at the unit, with room for an index
 pub record IsIndexed (us : List ℕ) (i : Index) : Type 0 where
@@ -107,7 +111,10 @@ after_index false unit = unit + 2
 -- the units from a place on, with these numbers put in
 abbrev pub spelled_from : List ℕ → ℕ → List Index → List ℕ
 spelled_from us from [] = drop from us
-spelled_from us from (i ∷ is) = take (i.unit + 1 - from) (drop from us) ++ (index_units (is_wide_index (drop i.unit us)) i.number ++ spelled_from us (after_index (is_wide_index (drop i.unit us)) i.unit) is)
+spelled_from us from (i ∷ is) =
+    take (i.unit + 1 - from) (drop from us)
+    ++ (index_units (is_wide_index (drop i.unit us)) i.number
+    ++ spelled_from us (after_index (is_wide_index (drop i.unit us)) i.unit) is)
 
 -- the indices are one after the other, from a place on
 abbrev pub Follow : List ℕ → ℕ → List Index → Type 0

@@ -2,9 +2,8 @@
 //!
 //! Sources: the Android pages "Dalvik bytecode" and "Dalvik executable instruction formats".
 //!
-//! Public contracts use the definitions of `specs/Bits`, `specs/Blank`, `specs/Checking`, `specs/Fitting`,
-//! `specs/Laws`, `specs/Listing`, `specs/Numbered`, `specs/Opcode`, `specs/Payload`, `specs/Put`, `specs/Reading`,
-//! `specs/Split`, `specs/Stored` and `specs/Units`.
+//! Of the definitions that its contracts use, read `specs/Numbered` (pieces with numbers for symbols, and what they
+//! denote), `specs/Split` (why units are no code) and `specs/Reading` first.
 #![tactic(auto)]
 
 pub use checking::check_pieces;

@@ -28,7 +28,7 @@ fn renumber_indices(units: &Units<'_>, indices: &mut Vec<Index>, remap: &Remap)
     }
 }
 
-// Whether the index's number maps to one that fits the place.
+// Returns whether the index's number maps to one that fits the place.
 fn has_place(units: &Units<'_>, index: Index, remap: &Remap) -> bool
     requires { IsIndexed units.now index }
     ensures { IsTrue result ↔ HasPlaceAt remap.now units.now index }
@@ -45,7 +45,7 @@ fn has_place(units: &Units<'_>, index: Index, remap: &Remap) -> bool
     }
 }
 
-// Whether each number maps to one that fits its place.
+// Returns whether each number maps to one that fits its place.
 fn have_places(units: &Units<'_>, indices: &[Index], remap: &Remap) -> bool
     requires { All (IsIndexed units.now) indices.now }
     ensures { IsTrue result ↔ All (HasPlaceAt remap.now units.now) indices.now }
@@ -77,7 +77,7 @@ impl Symbols for Pieces<'_> {
     }
 }
 
-// Whether the index at a unit names a text and has 16 bits.
+// Returns whether the index at a unit names a text and has 16 bits.
 fn is_short_string(units: &Units<'_>, unit: usize) -> bool
     requires { unit < length units.now }
     ensures { result ≡ is_short_string (drop unit units.now) }
@@ -140,7 +140,8 @@ impl<'a> Pieces<'a> {
         renumber_indices(&units, &mut self.indices, remap);
     }
 
-    /// Whether each number maps to one that fits its place: one below 2^16, or below 2^32 for const-string/jumbo.
+    /// Returns whether each number maps to one that fits its place: one below 2^16, or below 2^32 for
+    /// const-string/jumbo.
     pub fn fits(&self, remap: &Remap) -> bool
         ensures { IsTrue result ↔ All (HasPlace remap.now) self.now.pieces }
     {

@@ -1,21 +1,19 @@
 //! The program `dexkit`: checks, lists, normalises, merges, repairs and counts DEX files, and writes digests of their
 //! classes.
 //!
-//! Its arguments are those of `dexargs`, with lists of arguments expanded, and what it does for them is `finish_job` of
-//! `dexcmd`, over the devices of the job's names. The exit status is 0 if all was done, or help or the version was asked
+//! Its arguments are those of `dexargs`, with lists of arguments expanded, and what it does for them is `run_named` of
+//! `dexcmd`, over the devices of the system. The exit status is 0 if all was done, or help or the version was asked
 //! for, 1 if a file or a merge was refused, 2 for a usage error, 3 if input or output failed, and 4 if it ran out of
 //! memory.
 #![tactic(auto)]
-
-ghost use Rattle.dexargs.specs.Words.{IsSound};
 
 use clap::Error;
 use clap::error::ErrorKind;
 use dexargs::{MEANINGS, REMEDIES, is_verbose};
 use dexcmd::{
-    DeviceError, ExitStatus, Inputs, Job, ListsFault, NamedInput, NamedOutput, Reasons, Remedies,
-    Report, SystemDevices, ending_of, expand_arguments, explain_argument, explain_lists,
-    explain_output, finish_job, input_names, print_report, read_words,
+    DeviceError, ExitStatus, ListsFault, Reasons, Remedies, Report, SystemDevices, ending_of,
+    expand_arguments, explain_argument, explain_lists, explain_output, print_report, read_words,
+    run_named,
 };
 use dexhead::Device;
 use std::alloc::{AllocError, Global};
@@ -26,18 +24,11 @@ use std::rt::{Env, Files};
 use std::str::from_utf8;
 use std::{env, io};
 
-// A report with what is known of its faults, or as it is where there is no memory for that.
-fn explained(alloc: Global, report: Report, reasons: Result<Reasons, AllocError>) -> Report {
-    let Ok(reasons) = reasons else {
-        return report;
-    };
-    let remedies = Remedies {
+// What is said of each condition.
+fn remedies() -> Remedies<'static> {
+    Remedies {
         meanings: &MEANINGS,
         remedies: &REMEDIES,
-    };
-    match report.explained(alloc, &reasons, &remedies) {
-        Ok(explained) => explained,
-        Err(AllocError) => report,
     }
 }
 
@@ -77,7 +68,7 @@ fn explain<R: Print + Eprint>(
                 return Ok(report);
             }
             let reasons = reason_of_output(alloc, Some(DeviceError::of(error)));
-            Ok(explained(alloc, report, reasons))
+            Ok(report.explained_or_plain(alloc, reasons, &remedies()))
         }
     }
 }
@@ -93,41 +84,7 @@ fn explain_unread(
         return Ok(report);
     }
     let reasons = reason_of_input(alloc, fault.error());
-    Ok(explained(alloc, report, reasons))
-}
-
-// The reasons of the inputs of a job, in their order, and of its output.
-fn reasons_of<'a, R: Files + Print + Input>(
-    alloc: Global,
-    devices: &SystemDevices<'a, R>,
-    inputs: Vec<Device<NamedInput<'a, R>>>,
-    out: &NamedOutput<'a, R>,
-) -> Result<Reasons, AllocError> {
-    let mut reasons = Reasons::new(alloc);
-    for input in inputs {
-        reasons.add_input(alloc, devices.error(input))?;
-    }
-    reasons.set_output(alloc, out.error())?;
-    Ok(reasons)
-}
-
-// Does a job that arguments ask for over the devices of its names, and finishes its output.
-fn run_named<'a, R: Files + Print + Input>(
-    alloc: Global,
-    devices: &SystemDevices<'a, R>,
-    job: &'a Job,
-    is_verbose: bool,
-) -> Result<Report, AllocError>
-    requires { IsSound job.now }
-{
-    let mut inputs = devices.inputs(alloc, input_names(job))?;
-    let mut out = devices.output_of(alloc, job)?;
-    let report = finish_job(alloc, job, inputs.as_mut_slice(), &mut out)?;
-    if !is_verbose {
-        return Ok(report);
-    }
-    let reasons = reasons_of(alloc, devices, inputs, &out);
-    Ok(explained(alloc, report, reasons))
+    Ok(report.explained_or_plain(alloc, reasons, &remedies()))
 }
 
 // Does what the arguments ask for.
@@ -144,7 +101,11 @@ fn start<R: Files + Print + Eprint + Input>(
     };
     let words: Vec<&str> = expanded.iter().map(String::as_str).collect(alloc)?;
     match read_words(alloc, &words, ending) {
-        Ok(job) => run_named(alloc, &devices, &job, is_verbose(&expanded)),
+        Ok(job) => {
+            let all = remedies();
+            let remedies = is_verbose(&expanded).then_some(&all);
+            run_named(alloc, &devices, &job, remedies)
+        }
         Err(error) => explain(rt, alloc, &error, is_verbose(&expanded)),
     }
 }

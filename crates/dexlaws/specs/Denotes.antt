@@ -42,7 +42,8 @@ HasOneDefinition b r = (n m : Text) (c d : Body) → AreBytes b → ClassRow b r
 
 -- a name has at most one class row
 abbrev pub NamesHaveOneRow : List ℕ → Type 0
-NamesHaveOneRow b = (r s : ℕ) (name : Text) (c d : Body) → HoldBelow 17 b → ClassRow b r name c → ClassRow b s name d → r ≡ s
+NamesHaveOneRow b =
+    (r s : ℕ) (name : Text) (c d : Body) → HoldBelow 17 b → ClassRow b r name c → ClassRow b s name d → r ≡ s
 
 -- if the definitions are those of the class rows, a collection that the file denotes has the same
 abbrev pub DenotesRows : List ℕ → List Definition → Collection → Type 0

@@ -50,12 +50,20 @@ pub record HasFields (K : Ordered) (b : List ℕ) : Type 0 where
 
 -- each row of each table is at the offset that the header gives
 pub record HasRows (K : Ordered) (b : List ℕ) : Type 0 where
-  pub strings : (i : ℕ) → i < length K.pools.texts → BytesAt b (row_at b StringIds i) (uint (slice_index (offsets (string_section K)) i))
-  pub types : (i : ℕ) (d : Text) → i < length K.pools.types → BytesAt b (row_at b TypeIds i) (uint (text_index K.pools (slice_index_or K.pools.types i d)))
-  pub protos : (i : ℕ) (d : Proto) → i < length K.pools.protos → BytesAt b (row_at b ProtoIds i) (proto_row_bytes K.pools (slice_index_or K.pools.protos i d) (slice_index (uses_offsets (type_list_section K)) i))
-  pub fields : (i : ℕ) (d : Field) → i < length K.pools.fields → BytesAt b (row_at b FieldIds i) (field_row_bytes K.pools (slice_index_or K.pools.fields i d))
-  pub methods : (i : ℕ) (d : Method) → i < length K.pools.methods → BytesAt b (row_at b MethodIds i) (method_row_bytes K.pools (slice_index_or K.pools.methods i d))
-  pub classes : (r : ℕ) (d : Definition) (e : ℕ × ℕ × ℕ × ℕ) → r < length K.classes → BytesAt b (row_at b ClassDefs r) (class_row_bytes K.pools (slice_index_or K.classes r d) (slice_index_or (class_offsets K) r e))
+  pub strings : (i : ℕ) → i < length K.pools.texts
+      → BytesAt b (row_at b StringIds i) (uint (slice_index (offsets (string_section K)) i))
+  pub types : (i : ℕ) (d : Text) → i < length K.pools.types
+      → BytesAt b (row_at b TypeIds i) (uint (text_index K.pools (slice_index_or K.pools.types i d)))
+  pub protos : (i : ℕ) (d : Proto) → i < length K.pools.protos
+      → BytesAt b (row_at b ProtoIds i)
+      (proto_row_bytes K.pools (slice_index_or K.pools.protos i d) (slice_index (uses_offsets (type_list_section K)) i))
+  pub fields : (i : ℕ) (d : Field) → i < length K.pools.fields
+      → BytesAt b (row_at b FieldIds i) (field_row_bytes K.pools (slice_index_or K.pools.fields i d))
+  pub methods : (i : ℕ) (d : Method) → i < length K.pools.methods
+      → BytesAt b (row_at b MethodIds i) (method_row_bytes K.pools (slice_index_or K.pools.methods i d))
+  pub classes : (r : ℕ) (d : Definition) (e : ℕ × ℕ × ℕ × ℕ) → r < length K.classes
+      → BytesAt b (row_at b ClassDefs r)
+      (class_row_bytes K.pools (slice_index_or K.classes r d) (slice_index_or (class_offsets K) r e))
 
 -- the bytes are at the offset, in the data, at a multiple of the alignment
 pub record BytesAligned (b : List ℕ) (align o : ℕ) (x : List ℕ) : Type 0 where
@@ -65,7 +73,8 @@ pub record BytesAligned (b : List ℕ) (align o : ℕ) (x : List ℕ) : Type 0 w
 
 -- each item of each section is at its offset, and the map after them
 pub record HasItems (K : Ordered) (b : List ℕ) : Type 0 where
-  pub items : (p : Placed) → Contains (data_sections K) p → (i : ℕ) (d : List ℕ) → i < length p.items → BytesAligned b p.align (slice_index (offsets p) i) (slice_index_or p.items i d)
+  pub items : (p : Placed) → Contains (data_sections K) p → (i : ℕ) (d : List ℕ) → i < length p.items
+      → BytesAligned b p.align (slice_index (offsets p) i) (slice_index_or p.items i d)
   pub map_list : BytesAligned b 4 (map_off b) (map_bytes (map_of K (map_off b)))
 
 -- the five numbers after the signature of a header, and the rest of it
@@ -93,7 +102,8 @@ entry_of e = record { kind = type_code e.0; size = e.1; off = e.2 }
 
 -- if a map whose numbers fit 32 bits is at the offset, the fact holds
 abbrev pub OnMap : List ℕ → ℕ → List (Section × ℕ × ℕ) → Type 0 → Type 0
-OnMap b o es fact = length es < 2 ^ 32 → All (λ e. (e.1 < 2 ^ 32) × (e.2 < 2 ^ 32)) es → BytesAt b o (map_bytes es) → fact
+OnMap b o es fact =
+    length es < 2 ^ 32 → All (λ e. (e.1 < 2 ^ 32) × (e.2 < 2 ^ 32)) es → BytesAt b o (map_bytes es) → fact
 
 -- the entries of the map at the offset
 abbrev pub HasEntries : List ℕ → ℕ → List (Section × ℕ × ℕ) → Type 0
@@ -109,4 +119,5 @@ IsMentioned m (MethodSymbol x) = Contains m.methods x
 
 -- a symbol that the collection mentions is in the row of its index
 abbrev pub HasItsRow : Collection → Symbol → Type 0
-HasItsRow K s = IsMentioned (mentions (definitions K)) s → SymbolRow (canonical K) (symbol_index (mentions (definitions K)) s) s
+HasItsRow K s =
+    IsMentioned (mentions (definitions K)) s → SymbolRow (canonical K) (symbol_index (mentions (definitions K)) s) s

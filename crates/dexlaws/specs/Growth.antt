@@ -26,7 +26,8 @@ pub record PutsInOrder {K : Type 0} (R : K → K → Ordering) : Type 0 where
 
 -- in a rising list the rank of the member at an index is the index, and a member is at its rank
 pub record RanksArePlaces {K : Type 0} (R : K → K → Ordering) : Type 0 where
-  pub rank_at : (xs : List K) (i : ℕ) (d : K) → IsTrue (rises R xs) → i < length xs → rank R (slice_index_or xs i d) xs ≡ i
+  pub rank_at : (xs : List K) (i : ℕ) (d : K) → IsTrue (rises R xs) → i < length xs
+      → rank R (slice_index_or xs i d) xs ≡ i
   pub within : (xs : List K) (s : K) → IsTrue (rises R xs) → Contains xs s → rank R s xs < length xs
   pub place : (xs : List K) (s d : K) → IsTrue (rises R xs) → Contains xs s → slice_index_or xs (rank R s xs) d ≡ s
 

@@ -26,7 +26,8 @@ HasAtMostOne {X} P = (x y : X) → P x → P y → x ≡ y
 
 -- the bytes determine the item with a given number of members at an offset, and its size
 abbrev pub IsDeterminedByCount : {X : Type 0} → (X → ℕ) → Item X → Type 0
-IsDeterminedByCount {X} count At = (b : List ℕ) (o : ℕ) (x y : X) (n k : ℕ) → count x ≡ count y → At b o x n → At b o y k
+IsDeterminedByCount {X} count At =
+    (b : List ℕ) (o : ℕ) (x y : X) (n k : ℕ) → count x ≡ count y → At b o x n → At b o y k
     → (x ≡ y) × (n ≡ k)
 
 -- at most one symbol of each pool has this row
@@ -52,7 +53,9 @@ signed_read_back z = signed_in (signed_width z) (number_of (bytes_of (signed_wid
 
 -- what is read from the bytes of a bit pattern in its least width
 abbrev pub bits_read_back : ℕ → ℕ → ℕ
-bits_read_back width v = 256 ^ (width - bits_width width v) * number_of (bytes_of (bits_width width v) (v / 256 ^ (width - bits_width width v)))
+bits_read_back width v =
+    256 ^ (width - bits_width width v)
+    * number_of (bytes_of (bits_width width v) (v / 256 ^ (width - bits_width width v)))
 
 -- the signed number that the bytes encode
 abbrev pub signed_of : List ℕ → ℤ
@@ -60,7 +63,8 @@ signed_of bytes = signed_in (length bytes) (number_of bytes)
 
 -- one or more bytes from which the value is read are no fewer than its width
 abbrev pub IsLeastWidth : {X : Type 0} → (X → ℕ) → (List ℕ → X) → X → List ℕ → Type 0
-IsLeastWidth width read x bytes = All (λ byte. byte < 256) bytes → 0 < length bytes → read bytes ≡ x → width x ≤ length bytes
+IsLeastWidth width read x bytes =
+    All (λ byte. byte < 256) bytes → 0 < length bytes → read bytes ≡ x → width x ≤ length bytes
 
 -- one or more bytes from which the bit pattern is read are no fewer than its width
 abbrev pub IsLeastBitsWidth : ℕ → ℕ → List ℕ → Type 0
@@ -96,6 +100,8 @@ pub record AreShared {X : Type 0} (uses : List (Option X)) (items : Items X) : T
   pub distinct : AreDistinct items.written
   pub used : (x : X) → Contains items.written x → Contains uses (Some x)
   pub count : length items.numbers ≡ length uses
-  pub are_mapped : (k : ℕ) → k < length uses → PointsTo items.written (slice_index_or uses k None) (slice_index_or items.numbers k None)
+  pub are_mapped : (k : ℕ) → k < length uses
+      → PointsTo items.written (slice_index_or uses k None) (slice_index_or items.numbers k None)
   -- before a use of an item there is a use of the item before it
-  pub in_order : (k i : ℕ) → k < length uses → slice_index_or items.numbers k None ≡ Some (suc i) → (j : ℕ) × (j < k) × (slice_index_or items.numbers j None ≡ Some i)
+  pub in_order : (k i : ℕ) → k < length uses → slice_index_or items.numbers k None ≡ Some (suc i)
+      → (j : ℕ) × (j < k) × (slice_index_or items.numbers j None ≡ Some i)

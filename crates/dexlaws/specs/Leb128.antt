@@ -9,4 +9,5 @@ pub record IsShortest {V : Type 0} (Says : List ℕ → V → Type 0) (bytes : L
 
 -- bytes of which an encoding is a prefix begin with its number, in the encoding's length, and with no other
 abbrev pub BeginsWithOne : {X : Type 0} → (List ℕ → X → Type 0) → Type 0
-BeginsWithOne {X} Encodes = (a rest : List ℕ) (v w : X) (n : ℕ) → Encodes a v → BeginsWith Encodes (a ++ rest) w n ↔ ((w ≡ v) × (n ≡ length a))
+BeginsWithOne {X} Encodes =
+    (a rest : List ℕ) (v w : X) (n : ℕ) → Encodes a v → BeginsWith Encodes (a ++ rest) w n ↔ ((w ≡ v) × (n ≡ length a))

@@ -48,10 +48,12 @@ OnGood K fact = IsGood greatest_caps (definitions K) → AreWellFormed (definiti
 
 -- the rows of a pool of the canonical file are the mentions of its kind, in order
 abbrev pub RowsAreMentions : {X : Type 0} → (List ℕ → ℕ → X → Type 0) → (Mentions → List X) → Type 0
-RowsAreMentions Row kind = (K : Collection) → OnFitting K (AreListed (Row (canonical K)) (kind (mentions (definitions K))))
+RowsAreMentions Row kind =
+    (K : Collection) → OnFitting K (AreListed (Row (canonical K)) (kind (mentions (definitions K))))
 
 -- each mention is in the row of its rank
-abbrev pub MentionsAreAtRanks : {X : Type 0} → (X → X → Ordering) → (List ℕ → ℕ → X → Type 0) → (Mentions → List X) → Type 0
+abbrev pub MentionsAreAtRanks : {X : Type 0} → (X → X → Ordering) → (List ℕ → ℕ → X → Type 0) → (Mentions → List X)
+    → Type 0
 MentionsAreAtRanks R Row kind = (K : Collection)
     → OnFitting K (AreAtRanks R (Row (canonical K)) (kind (mentions (definitions K))))
 

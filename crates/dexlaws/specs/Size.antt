@@ -41,7 +41,8 @@ pub record ValuesAreWithin (m : Mentions) : Type 0 where
   pub values : (vs : Values) → length (values_bytes m vs) ≤ values_weight vs
   pub elements : (es : Elements) → length (elements_bytes m es) ≤ elements_weight es
   pub annotation : (a : Annotation) → length (annotation_bytes m a) ≤ annotation_weight a
-  pub static_values : (v : Value) (vs : Values) → length (encoded_array_bytes m (ThenValue v vs)) ≤ static_values_weight (ThenValue v vs)
+  pub static_values : (v : Value) (vs : Values)
+      → length (encoded_array_bytes m (ThenValue v vs)) ≤ static_values_weight (ThenValue v vs)
 
 -- a code item with the bytes of its alignment
 abbrev pub CodeIsWithin : Mentions → Type 0
@@ -50,15 +51,22 @@ CodeIsWithin m = (debug_off : ℕ) (c : Code) → length (code_bytes m debug_off
 -- a list of handlers, in which each begins no later than the list ends
 pub record HandlersAreWithin (m : Mentions) : Type 0 where
   pub list : (hs : List Handler) → length (handler_list_bytes m hs) ≤ handlers_weight hs
-  pub places : (hs : List Handler) (h : Handler) → handler_off m (length (uleb128 (length hs))) hs h ≤ length (handler_list_bytes m hs)
+  pub places : (hs : List Handler) (h : Handler)
+      → handler_off m (length (uleb128 (length hs))) hs h ≤ length (handler_list_bytes m hs)
 
 -- five bytes for each of four counts, and for each number of a member
 abbrev pub ClassDataIsWithin : Mentions → Type 0
-ClassDataIsWithin m = (d : Definition) (code_offs : List ℕ) → length (class_data_bytes m d code_offs) ≤ 20 + 10 * length (declared_fields d.1) + 15 * length (declared_methods d.1)
+ClassDataIsWithin m =
+    (d : Definition) (code_offs : List ℕ)
+    → length (class_data_bytes m d code_offs)
+    ≤ 20 + 10 * length (declared_fields d.1) + 15 * length (declared_methods d.1)
 
 -- at most a pair for each field, and two for each method
 abbrev pub DirectoryIsWithin : Mentions → Type 0
-DirectoryIsWithin m = (d : Definition) (sets : SetOffsets) (ref_lists : List ℕ) → IfSome (directory_bytes m d sets ref_lists) (λ bytes. length bytes ≤ 16 + 8 * length (declared_fields d.1) + 16 * length (declared_methods d.1))
+DirectoryIsWithin m =
+    (d : Definition) (sets : SetOffsets) (ref_lists : List ℕ)
+    → IfSome (directory_bytes m d sets ref_lists)
+    (λ bytes. length bytes ≤ 16 + 8 * length (declared_fields d.1) + 16 * length (declared_methods d.1))
 
 -- a type_list
 abbrev pub TypeListHas : Mentions → List Text → Type 0
@@ -86,4 +94,6 @@ IsWithinCap caps D = Fits caps D → length (ordered_file D) ≤ caps.weight
 
 -- the rows and the sections together
 abbrev pub PartsAreWithin : Ordered → Type 0
-PartsAreWithin K = length (table_bytes K) + length (flat_map section_bytes (data_sections K)) ≤ mentions_weight K.pools + sum_by (λ d. body_weight d.1) K.classes
+PartsAreWithin K =
+    length (table_bytes K) + length (flat_map section_bytes (data_sections K))
+    ≤ mentions_weight K.pools + sum_by (λ d. body_weight d.1) K.classes

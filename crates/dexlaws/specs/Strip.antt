@@ -123,10 +123,13 @@ FormsStripped D K = IsCollectionOf (strip D) (strip_collection K)
 -- stripped.
 pub record StripCommutes (caps : Caps) (Ks : List Collection) (plan : Plan) (K : Collection) : Type 0 where
   pub parts : union (map definitions (map strip_collection Ks)) plan ≡ strip (union (map definitions Ks) plan)
-  pub good : IsGood caps (union (map definitions Ks) plan) → IsGood caps (union (map definitions (map strip_collection Ks)) plan)
+  pub good : IsGood caps (union (map definitions Ks) plan)
+      → IsGood caps (union (map definitions (map strip_collection Ks)) plan)
   pub is : IsCollectionOf (union (map definitions (map strip_collection Ks)) plan) (strip_collection K)
-  pub alone : (L : Collection) → IsCollectionOf (union (map definitions (map strip_collection Ks)) plan) L → L ≡ strip_collection K
+  pub alone : (L : Collection) → IsCollectionOf (union (map definitions (map strip_collection Ks)) plan) L
+      → L ≡ strip_collection K
 
 -- stripping commutes with this merge
 abbrev pub MergesStripped : Caps → List Collection → Plan → Type 0
-MergesStripped caps Ks plan = (K : Collection) → IsCollectionOf (union (map definitions Ks) plan) K → StripCommutes caps Ks plan K
+MergesStripped caps Ks plan =
+    (K : Collection) → IsCollectionOf (union (map definitions Ks) plan) K → StripCommutes caps Ks plan K

@@ -33,8 +33,10 @@ abbrev pub AreInRows : List ℕ → Mentions → List Symbol → Type 0
 AreInRows b m ss = (s : Symbol) → Contains ss s → IsInRow b m s
 
 -- the pairs name the entries, and their indices rise strictly and fit 32 bits
-abbrev pub ArePairs : {M X : Type 0} → (List ℕ → ℕ → M → Type 0) → (List ℕ → ℕ → X → Type 0) → List ℕ → List (ℕ × ℕ) → List (M × X) → Type 0
-ArePairs Row At b ps entries = AllZip (PairAt Row At b) ps entries × IsTrue (rises nat_cmp (map (λ p. p.0) ps)) × All (λ p. p.0 < 2 ^ 32) ps
+abbrev pub ArePairs : {M X : Type 0} → (List ℕ → ℕ → M → Type 0) → (List ℕ → ℕ → X → Type 0) → List ℕ → List (ℕ × ℕ)
+    → List (M × X) → Type 0
+ArePairs Row At b ps entries =
+    AllZip (PairAt Row At b) ps entries × IsTrue (rises nat_cmp (map (λ p. p.0) ps)) × All (λ p. p.0 < 2 ^ 32) ps
 
 -- if the bytes are at the offset, so is the item, in their length
 abbrev pub Encodes : {X : Type 0} → Item X → List ℕ → ℕ → X → List ℕ → Type 0
@@ -50,8 +52,10 @@ AreWritten {X} At Is symbols bytes = (b : List ℕ) (m : Mentions) (o : ℕ) (x 
     → Encodes At b o x (bytes m x)
 
 -- the same for an item in the data
-abbrev pub AreWrittenInData : {X : Type 0} → (List ℕ → ℕ → X → Type 0) → (X → Type 0) → (X → List Symbol) → (Mentions → X → List ℕ) → Type 0
-AreWrittenInData {X} At Is symbols bytes = (b : List ℕ) (m : Mentions) (o : ℕ) (x : X) → Is x → AreInRows b m (symbols x)
+abbrev pub AreWrittenInData : {X : Type 0} → (List ℕ → ℕ → X → Type 0) → (X → Type 0) → (X → List Symbol)
+    → (Mentions → X → List ℕ) → Type 0
+AreWrittenInData {X} At Is symbols bytes =
+    (b : List ℕ) (m : Mentions) (o : ℕ) (x : X) → Is x → AreInRows b m (symbols x)
     → data_off b ≤ o → BytesAt b o (bytes m x) → At b o x
 
 -- the bytes of an array of fewer than 2 ^ 32 values encode it
@@ -70,12 +74,17 @@ SetsAreWritten b o = (offs : List ℕ) (set : AnnotationSet) → OnAligned b o (
 
 -- the offsets of sets, or 0 for an empty one, encode a ref list
 abbrev pub RefListsAreWritten : List ℕ → ℕ → Type 0
-RefListsAreWritten b o = (offs : List ℕ) (list : List AnnotationSet) → OnAligned b o (AllZip (OrNone SetAt [] b) offs list
+RefListsAreWritten b o =
+    (offs : List ℕ) (list : List AnnotationSet) → OnAligned b o (AllZip (OrNone SetAt [] b) offs list
     → BytesAt b o (offsets_bytes offs) → RefListAt b o list)
 
 -- the bytes of a directory with these offsets
 abbrev pub directory_of : ℕ → List (ℕ × ℕ) → List (ℕ × ℕ) → List (ℕ × ℕ) → List ℕ
-directory_of own fields methods parameters = uint own ++ (uint (length fields) ++ (uint (length methods) ++ (uint (length parameters) ++ (pairs_bytes fields ++ (pairs_bytes methods ++ pairs_bytes parameters)))))
+directory_of own fields methods parameters =
+    uint own
+    ++ (uint (length fields)
+    ++ (uint (length methods)
+    ++ (uint (length parameters) ++ (pairs_bytes fields ++ (pairs_bytes methods ++ pairs_bytes parameters)))))
 
 -- the counts and the pairs of a directory encode it
 abbrev pub DirectoriesAreWritten : List ℕ → ℕ → ℕ → Type 0
@@ -114,14 +123,19 @@ class_data_of name c code_offs = record {
 
 -- the indices of each of the four lists rise strictly
 abbrev pub IndicesRise : Mentions → Text → Body → Type 0
-IndicesRise m name c = IsTrue (rises nat_cmp (map (λ f. field_index m (field_of name f)) c.static_fields)) × IsTrue (rises nat_cmp (map (λ f. field_index m (field_of name f)) c.instance_fields))
-    × IsTrue (rises nat_cmp (map (λ x. method_index m (method_of name x)) c.direct_methods)) × IsTrue (rises nat_cmp (map (λ x. method_index m (method_of name x)) c.virtual_methods))
+IndicesRise m name c =
+    IsTrue (rises nat_cmp (map (λ f. field_index m (field_of name f)) c.static_fields))
+    × IsTrue (rises nat_cmp (map (λ f. field_index m (field_of name f)) c.instance_fields))
+    × IsTrue (rises nat_cmp (map (λ x. method_index m (method_of name x)) c.direct_methods))
+    × IsTrue (rises nat_cmp (map (λ x. method_index m (method_of name x)) c.virtual_methods))
 
 -- the bytes of class data encode the members of the class, with the offsets of their code
 abbrev pub ClassDataIsWritten : List ℕ → Mentions → ℕ → Type 0
 ClassDataIsWritten b m o = (name : Text) (c : Body) (code_offs : List ℕ) → IsWellFormed (name, c) → IndicesRise m name c
-    → AreInRows b m (symbols_of (name, c)) → length code_offs ≡ length (declared_methods c) → All (λ p. p < 2 ^ 32) code_offs
-    → data_off b ≤ o → BytesAt b o (class_data_bytes m (name, c) code_offs) → ClassDataAt b o (class_data_of name c code_offs)
+    → AreInRows b m (symbols_of (name, c)) → length code_offs ≡ length (declared_methods c)
+    → All (λ p. p < 2 ^ 32) code_offs
+    → data_off b ≤ o → BytesAt b o (class_data_bytes m (name, c) code_offs)
+    → ClassDataAt b o (class_data_of name c code_offs)
 
 -- if the class is a well-formed member of the definitions, the fact holds
 abbrev pub OnMember : List Definition → Text → Body → Type 0 → Type 0
@@ -139,7 +153,8 @@ OnSets D b name c sets ref_lists fact = length b < 2 ^ 32
 -- the bytes of a class's directory encode it
 abbrev pub OwnDirectoryIsWritten : List Definition → List ℕ → ℕ → Type 0
 OwnDirectoryIsWritten D b o = (name : Text) (c : Body) (sets : SetOffsets) (ref_lists bytes : List ℕ)
-    → OnSets D b name c sets ref_lists (directory_bytes (mentions D) (name, c) sets ref_lists ≡ Some bytes → data_off b ≤ o
+    → OnSets D b name c sets ref_lists
+    (directory_bytes (mentions D) (name, c) sets ref_lists ≡ Some bytes → data_off b ≤ o
     → o % 4 ≡ 0 → BytesAt b o bytes → DirectoryAt b o (own_directory name c))
 
 -- if a class's directory has no bytes, it is empty

@@ -1,8 +1,8 @@
 //! The laws of the definitions. Each is the contract of a public function with an empty body; a function that
 //! needs a law calls it. The definitions that state the laws are in `specs`, one module for each module here.
 //!
-//! Public contracts use the definitions of `specs/Causes`, `specs/Denotes`, `specs/Frame`, `specs/Growth`,
-//! `specs/Items`, `specs/Leb128`, `specs/Merge`, `specs/Normal`, `specs/Size`, `specs/Strip` and `specs/Written`.
+//! The statements are in `specs/Merge` (unions), `specs/Denotes` (what a file denotes) and `specs/Normal` (what a
+//! canonical file denotes), and in one file for each other module.
 #![tactic(auto)]
 
 pub mod causes;

@@ -28,7 +28,9 @@ file_end K = map_start K + length (map_list K)
 
 -- debug programs of the file that have the same bytes are the same
 abbrev pub HaveOwnBytes : Ordered → Type 0
-HaveOwnBytes K = (x y : Debug) → Contains (present (debug_uses K)) x → Contains (present (debug_uses K)) y → debug_bytes K.pools x ≡ debug_bytes K.pools y → x ≡ y
+HaveOwnBytes K =
+    (x y : Debug) → Contains (present (debug_uses K)) x → Contains (present (debug_uses K)) y
+    → debug_bytes K.pools x ≡ debug_bytes K.pools y → x ≡ y
 
 -- the classes are those of a numbering, their indices fit, their debug programs differ in their bytes, and the file is
 -- not too long
@@ -121,7 +123,8 @@ pub record IsLaid (m : Mentions) (cs : List NumberedClass) (p : Places) : Type 0
   pub type_lists_are : AreTypeLists m cs p.type_lists
   pub annotations_are : AreAnnotations m cs p.annotations
   pub static_values_are : AreStaticValues m cs p.static_values
-  pub strings_are : AreLaidSo (offsets (string_section (ordered_of m cs))) (end (string_section (ordered_of m cs))) p.strings
+  pub strings_are : AreLaidSo (offsets (string_section (ordered_of m cs))) (end (string_section (ordered_of m cs)))
+      p.strings
   pub debugs_are : AreDebugs m cs p.debugs
   pub codes_are : AreCodes m cs p.codes
   pub class_data_are : AreClassData m cs p.class_data
@@ -136,11 +139,14 @@ IsLayoutOf K p = (cs : List NumberedClass) → AreClassesOf K cs → IsLaid (men
 
 -- the collection's classes can be written, and are laid out as its file has them
 abbrev pub IsWritable : Collection → Type 0
-IsWritable K = (cs : List NumberedClass) → AreClassesOf K cs → AreWritable (mentions (definitions K)) cs × (ordered_of (mentions (definitions K)) cs ≡ ordered (definitions K))
+IsWritable K =
+    (cs : List NumberedClass) → AreClassesOf K cs
+    → AreWritable (mentions (definitions K)) cs × (ordered_of (mentions (definitions K)) cs ≡ ordered (definitions K))
 
 -- ---- before the offsets are known
 
 -- uses that share equal items: what is written, and for each use the number of its item
-pub record AreShared {X Y : Type 0} (meant : X → Y) (items : Items Y) (written : List X) (numbers : List (Option ℕ)) : Type 0 where
+pub record AreShared {X Y : Type 0} (meant : X → Y) (items : Items Y) (written : List X) (numbers : List (Option ℕ)) :
+    Type 0 where
   pub written_are : map meant written ≡ items.written
   pub numbers_are : numbers ≡ items.numbers

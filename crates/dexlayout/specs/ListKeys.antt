@@ -23,5 +23,6 @@ same_numbers_decides xs ys = (
   λ e. (Equal-is (key_cmp xs ys)).1 (ap (key_cmp xs) (sym e) ∙ tied_itself nat_list_cmp_total xs),
 )
 
-pub same_numbers_agree : (xs ys : List ℕ) → IsTrue (same_numbers xs ys) → fed.slice fed.usize xs ≡ fed.slice fed.usize ys
+pub same_numbers_agree : (xs ys : List ℕ) → IsTrue (same_numbers xs ys)
+    → fed.slice fed.usize xs ≡ fed.slice fed.usize ys
 same_numbers_agree xs ys h = ap (fed.slice fed.usize) ((same_numbers_decides xs ys).0 h)

@@ -196,7 +196,7 @@ fn put_item(class: &Class<'_>, code_offs: &[u32], items: &mut Items) -> Result<(
     items.end_item(before)
 }
 
-// Whether a class declares neither fields nor methods.
+// Returns whether a class declares neither fields nor methods.
 fn has_no_members(members: &Members<'_>) -> bool
     ensures { result ≡ has_no_members members.now }
 {

@@ -67,7 +67,8 @@ fn place_strings(alloc: Global, numbering: &Numbering<'_>, from: u32) -> Result<
 // Lays out the sections up to the string data, after the tables.
 fn place_first_sections(input: &Input<'_, '_>, from: u32) -> Result<FirstSections, AllocError>
     requires classes { AreWritable input.now.numbering.now input.now.classes.now }
-    requires written { AreWrittenSets input.now.numbering.now input.now.classes.now input.now.written.now }
+    requires written { AreWrittenSets input.now.numbering.now input.now.classes.now
+        input.now.written.now }
     requires known { AreKnownSets input.now.numbering.now input.now.written.now }
     requires from { from ≡ data_start (ordered_of input.now.numbering.now input.now.classes.now) }
     ensures { IfOk result (AreFirstSections input.now.numbering.now input.now.classes.now) }
@@ -87,7 +88,8 @@ fn place_first_sections(input: &Input<'_, '_>, from: u32) -> Result<FirstSection
 // Lays out the last sections, after the class data.
 fn place_back(input: &Input<'_, '_>, annotations: &Items, from: u32) -> Result<Back, AllocError>
     requires place { CanPlaceSets input.now.classes.now annotations.now from }
-    requires shared { AreSharedBy input.now.classes.now input.now.written.now input.now.numbers.now }
+    requires shared { AreSharedBy input.now.classes.now input.now.written.now
+        input.now.numbers.now }
     ensures { IfOk result (PlacedSets AreBack input.now.classes.now annotations.now from) }
 {
     let sets = place_sets(input, annotations, from)?;

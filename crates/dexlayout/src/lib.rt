@@ -1,6 +1,7 @@
 //! The layout of the canonical file of a program: the offset of each item, and the length of the file.
 //!
-//! Public contracts use the definitions of `specs/ItemKeys`, `specs/Laid`, `specs/ListKeys` and `specs/Places`.
+//! Of the definitions that its contracts use, read `specs/Places` (what a layout has) and `specs/Laid` (when it is that
+//! of the canonical file) first.
 //!
 //! Source: the Android page "Dalvik Executable format", "Overall file layout". This project's rules are the order of
 //! the items in each section, and that equal type lists, debug programs and annotation sets are written once.

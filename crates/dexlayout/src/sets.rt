@@ -181,7 +181,8 @@ pub(crate) fn place_sets(
     from: u32,
 ) -> Result<Sets, AllocError>
     requires place { CanPlaceSets input.now.classes.now annotations.now from }
-    requires shared { AreSharedBy input.now.classes.now input.now.written.now input.now.numbers.now }
+    requires shared { AreSharedBy input.now.classes.now input.now.written.now
+        input.now.numbers.now }
     ensures { IfOk result (PlacedSets AreSets input.now.classes.now annotations.now from) }
 {
     let written = encode_written(input, annotations.places().offsets(), from)?;

@@ -53,7 +53,8 @@ impl<'p> Sharing<ListKey<'p>> {
 fn share_type_lists<'p>(input: &Input<'p, '_>) -> Result<Shared<ListKey<'p>>, AllocError>
     requires { AreWritable input.now.numbering.now input.now.classes.now }
     ensures shared { IfOk result (HaveTypeLists input.now.numbering.now input.now.classes.now) }
-    ensures known { IfOk result (λ shared. All (AreTypes input.now.numbering.now) shared.written.items) }
+    ensures known { IfOk result
+        (λ shared. All (AreTypes input.now.numbering.now) shared.written.items) }
 {
     let protos = input.numbering.count(SymbolKind::Proto);
     let mut sharing = Sharing::for_uses(input.alloc, protos + input.classes.len())?;

@@ -45,7 +45,8 @@ pub(crate) fn place_annotations(input: &Input<'_, '_>, from: u32) -> Result<Item
 /// Source: "encoded_array_item".
 pub(crate) fn place_static_values(input: &Input<'_, '_>, from: u32) -> Result<Items, AllocError>
     requires classes { AreWritable input.now.numbering.now input.now.classes.now }
-    requires from { from ≡ end (annotation_section (ordered_of input.now.numbering.now input.now.classes.now)) }
+    requires from { from
+        ≡ end (annotation_section (ordered_of input.now.numbering.now input.now.classes.now)) }
     ensures { IfOk result (AreStaticValues input.now.numbering.now input.now.classes.now) }
 {
     let mut items = Items::starting_at(input.alloc, from, input.classes.len())?;
@@ -58,7 +59,8 @@ pub(crate) fn place_static_values(input: &Input<'_, '_>, from: u32) -> Result<It
 // Encodes the array of one class after the others.
 fn put_array(input: &Input<'_, '_>, class: &Class<'_>, items: &mut Items) -> Result<(), AllocError>
     requires known { IsKnownClass input.now.numbering.now class.now }
-    requires fits { (encode_use 1 items.old (static_item input.now.numbering.now class.now)).places.end
+    requires fits { (encode_use 1 items.old
+        (static_item input.now.numbering.now class.now)).places.end
         ≤ 2 ^ 30 }
     ensures { OnOk result (items.new
         ≡ encode_use 1 items.old (static_item input.now.numbering.now class.now)) }

@@ -4,7 +4,7 @@
 //! A reader accepts encodings that are longer than needed if the exact value is in the range of its 32-bit type. A
 //! writer appends the shortest encoding.
 //!
-//! Public contracts use the definitions of `specs/Leb`.
+//! Its contracts use the definitions of `specs/Leb`.
 //!
 //! Source: the heading "LEB128" of the Android page "Dalvik Executable format".
 #![tactic(auto)]

@@ -9,7 +9,11 @@ use Rattle.dexspec.specs.Files.{Collection, definitions}
 use Rattle.dexspec.specs.Depth.{in_class_order}
 use Rattle.dexclass.specs.Numbered.{NumberedClass, definition_of}
 use Rattle.dexclass.specs.Programs.{AreClassesOf}
-use Rattle.dexlisting.specs.Listing.{class_lines, chosen, listing_of}
+use Rattle.dexlisting.specs.declared.listing.Detail.{Detail}
+use Rattle.dexlisting.specs.declared.listing.Detail.TheVariants.{Short, Full}
+use Rattle.dexlisting.specs.Listing.{class_lines, chosen, listing, listing_of}
+use Rattle.dexlisting.specs.FullListing.{full_class_lines, full_listing_of}
+use Rattle.dexlisting.specs.Detailed.{lines_in, listing_in, listing_in_of}
 
 pub chosen_none : {X : Type 0} (fs : List Bool) → chosen {X = X} fs [] ≡ []
 chosen_none [] = refl
@@ -44,14 +48,14 @@ lines_more f fs xs i d lt =
     ∙ ap (λ ys. flat_map f (chosen fs (take i xs)) ++ ys) (one_or_none f (get_or fs i true) (get_or xs i d))
 
 -- the lines of the chosen ones among first classes, with one class more
-pub classes_more : (m : Mentions) (cs : List NumberedClass) (fs : List Bool) (i : ℕ) (x : NumberedClass) (b : Bool) → i < length cs → x ≡ get_or cs i x → b ≡ get_or fs i true →
-    flat_map class_lines (chosen fs (take (i + 1) (map (definition_of m) cs))) ≡ flat_map class_lines (chosen fs (take i (map (definition_of m) cs))) ++ cond b (class_lines (definition_of m x)) []
-classes_more m cs fs i x b lt is flag =
+pub classes_more : (detail : Detail) (m : Mentions) (cs : List NumberedClass) (fs : List Bool) (i : ℕ) (x : NumberedClass) (b : Bool) → i < length cs → x ≡ get_or cs i x → b ≡ get_or fs i true →
+    flat_map (lines_in detail) (chosen fs (take (i + 1) (map (definition_of m) cs))) ≡ flat_map (lines_in detail) (chosen fs (take i (map (definition_of m) cs))) ++ cond b (lines_in detail (definition_of m x)) []
+classes_more detail m cs fs i x b lt is flag =
     let ds = map (definition_of m) cs in
-    let before = flat_map class_lines (chosen fs (take i ds)) in
+    let before = flat_map (lines_in detail) (chosen fs (take i ds)) in
     let here : get_or ds i (definition_of m x) ≡ definition_of m x = get_or-map (definition_of m) cs i x (definition_of m x) lt ∙ ap (definition_of m) (sym is) in
-    lines_more class_lines fs ds i (definition_of m x) (omega (arith, length-map cs (definition_of m), lt))
-    ∙ ap (λ d. before ++ cond (get_or fs i true) (class_lines d) []) here ∙ ap (λ t. before ++ cond t (class_lines (definition_of m x)) []) (sym flag)
+    lines_more (lines_in detail) fs ds i (definition_of m x) (omega (arith, length-map cs (definition_of m), lt))
+    ∙ ap (λ d. before ++ cond (get_or fs i true) (lines_in detail d) []) here ∙ ap (λ t. before ++ cond t (lines_in detail (definition_of m x)) []) (sym flag)
 
 -- by the flags that a test gives, those are chosen that pass it
 pub chosen_by : {X : Type 0} (p : X → Bool) (xs : List X) → chosen (map p xs) xs ≡ filter p xs
@@ -63,11 +67,19 @@ chosen_by p (x ∷ xs) = by_test p x xs (p x) (chosen_by p xs)
     by_test p x xs false same = same
 
 -- the lines of the classes of a program that are chosen are the listing of these
-pub listing_of_is : (K : Collection) (m : Mentions) (cs : List NumberedClass) (fs : List Bool) → m ≡ mentions (definitions K) → AreClassesOf K cs → flat_map class_lines (chosen fs (map (definition_of m) cs)) ≡ listing_of fs K
-unfolding listing_of
-listing_of_is K m cs fs e h = rw e (ap (λ ds. flat_map class_lines (chosen fs ds)) h.are)
+pub listing_of_is : (detail : Detail) (K : Collection) (m : Mentions) (cs : List NumberedClass) (fs : List Bool) → m ≡ mentions (definitions K) → AreClassesOf K cs → flat_map (lines_in detail) (chosen fs (map (definition_of m) cs)) ≡ listing_in_of detail fs K
+unfolding listing_of full_listing_of
+listing_of_is Short K m cs fs e h = rw e (ap (λ ds. flat_map class_lines (chosen fs ds)) h.are)
+listing_of_is Full K m cs fs e h = rw e (ap (λ ds. flat_map full_class_lines (chosen fs ds)) h.are)
+
+-- without flags it is that of all
+pub listing_in_all : (detail : Detail) (K : Collection) → listing_in_of detail [] K ≡ listing_in detail K
+unfolding listing listing_of
+listing_in_all Short K = refl
+listing_in_all Full K = refl
 
 -- and by the flags that a test of the classes gives, it is the lines of those that pass it
-pub chosen_lines : (K : Collection) (p : Definition → Bool) (fs : List Bool) → fs ≡ map p (in_class_order (definitions K)) → listing_of fs K ≡ flat_map class_lines (filter p (in_class_order (definitions K)))
-unfolding listing_of
-chosen_lines K p fs are = ap (λ gs. flat_map class_lines (chosen gs (in_class_order (definitions K)))) are ∙ ap (flat_map class_lines) (chosen_by p (in_class_order (definitions K)))
+pub chosen_lines : (detail : Detail) (K : Collection) (p : Definition → Bool) (fs : List Bool) → fs ≡ map p (in_class_order (definitions K)) → listing_in_of detail fs K ≡ flat_map (lines_in detail) (filter p (in_class_order (definitions K)))
+unfolding listing_of full_listing_of
+chosen_lines Short K p fs are = ap (λ gs. flat_map class_lines (chosen gs (in_class_order (definitions K)))) are ∙ ap (flat_map class_lines) (chosen_by p (in_class_order (definitions K)))
+chosen_lines Full K p fs are = ap (λ gs. flat_map full_class_lines (chosen gs (in_class_order (definitions K)))) are ∙ ap (flat_map full_class_lines) (chosen_by p (in_class_order (definitions K)))

@@ -1,13 +1,14 @@
 -- Listings, as docs/FORMAT.md says.
-use Rattle.std.proofs.Common.{ℕ, ◌≡◌, refl, Some, None, List, [], ◌∷◌}
+use Rattle.std.proofs.Common.{ℕ, negsuc, true, ◌≡◌, refl, Some, None, List, [], ◌∷◌}
 use Rattle.std.specs.Prelude.{codes}
 use Rattle.dexspec.specs.Symbols.{TextSymbol, TypeSymbol, ProtoSymbol, FieldSymbol, MethodSymbol}
 use Rattle.dexspec.specs.Pieces.{Instruction}
-use Rattle.dexspec.specs.Values.{NoValues}
+use Rattle.dexspec.specs.Values.{ByteValue, DoubleValue, ArrayValue, NullValue, BooleanValue, NoValues, ThenValue}
 use Rattle.dexspec.specs.Classes.{Definition}
 use Rattle.dexspec.specs.Opcodes.{opcode_of, opcode_runs}
 use Rattle.std.specs.Fmt.{digits}
 use Rattle.dexout.specs.Printed.{shown, count_text, place_text}
+use Rattle.dexlisting.specs.FullListing.{full_class_lines, full_method_lines, full_code_lines, full_piece_line, instruction_text, entries_text, register_text, literal_text, target_text, signed_text, full_field_lines, operands_text, value_text, operation_lines, operation_line, annotation_line, try_lines, catch_line, catch_all_line, debug_lines}
 use Rattle.dexlisting.specs.Listing.{symbol_text, payload_text, class_lines, own_line, method_lines, field_line, interface_line, source_line, counts_line}
 
 -- the class of the method file
@@ -47,6 +48,12 @@ pub example_listed : class_lines example
 unfolding class_lines own_line method_lines field_line interface_line source_line counts_line count_text place_text opcode_of opcode_runs digits
 example_listed = refl
 
+-- and all that it has
+pub example_fully_listed : full_class_lines example
+    ≡ codes "class LA; flags=0x1(public) super=Ljava/lang/Object;\n  direct-method m()V flags=0x9(public,static)\n    code registers=1 ins=0 outs=0 units=3 tries=0\n    0000: 001a 0000 | const-string v0, \"hi\"\tLA;->m()V\n    0002: 000e | return-void\tLA;->m()V\n"
+unfolding full_class_lines own_line full_method_lines full_code_lines full_piece_line instruction_text register_text full_field_lines interface_line source_line counts_line count_text place_text opcode_of opcode_runs digits
+example_fully_listed = refl
+
 -- an interface that declares fields, a method without code, a source text, and has no superclass
 abbrev pub interface : Definition
 interface = (
@@ -78,9 +85,9 @@ unfolding class_lines own_line method_lines field_line interface_line source_lin
 interface_listed = refl
 
 -- what an instruction names
-pub symbols_shown : (symbol_text (TypeSymbol (0x4c ∷ 0x41 ∷ 0x22 ∷ 0x3b ∷ [])) ≡ codes "LA\\\";") × (symbol_text (ProtoSymbol (record { return_type = codes "V"; parameters = codes "I" ∷ codes "[LA;" ∷ [] })) ≡ codes "(I[LA;)V")
-    × (symbol_text (FieldSymbol (record { class = codes "LA;"; name = codes "x"; type = codes "I" })) ≡ codes "LA;->x:I")
-    × (symbol_text (MethodSymbol (record { class = codes "LA;"; name = codes "m"; proto = record { return_type = codes "V"; parameters = [] } })) ≡ codes "LA;->m()V")
+pub symbols_shown : (symbol_text shown (TypeSymbol (0x4c ∷ 0x41 ∷ 0x22 ∷ 0x3b ∷ [])) ≡ codes "LA\\\";") × (symbol_text shown (ProtoSymbol (record { return_type = codes "V"; parameters = codes "I" ∷ codes "[LA;" ∷ [] })) ≡ codes "(I[LA;)V")
+    × (symbol_text shown (FieldSymbol (record { class = codes "LA;"; name = codes "x"; type = codes "I" })) ≡ codes "LA;->x:I")
+    × (symbol_text shown (MethodSymbol (record { class = codes "LA;"; name = codes "m"; proto = record { return_type = codes "V"; parameters = [] } })) ≡ codes "LA;->m()V")
 symbols_shown = (refl, refl, refl, refl)
 
 -- places of units
@@ -91,6 +98,17 @@ places_shown = (refl, refl, refl, refl)
 -- units that are not printed as they are
 pub texts_shown : shown (0x41 ∷ 0x22 ∷ 0x5c ∷ 0x7f ∷ 0x1f ∷ 0xd800 ∷ []) ≡ codes "A\\\"\\\\\\u007f\\u001f\\ud800"
 texts_shown = refl
+
+-- operands
+pub operands_shown : (instruction_text 0 (0x2012 ∷ []) ≡ codes "const/4 v0, #+2") × (instruction_text 3 (0xff28 ∷ []) ≡ codes "goto 0002") × (instruction_text 0 (0x0315 ∷ 0xffff ∷ []) ≡ codes "const/high16 v3, #-65536")
+    × (instruction_text 0 (0x2071 ∷ 0 ∷ 0x31 ∷ []) ≡ codes "invoke-static {v1, v3}") × (instruction_text 0 (0x0377 ∷ 0 ∷ 4 ∷ []) ≡ codes "invoke-static/range {v4 .. v6}") × (instruction_text 0 (0x00d8 ∷ 0xff01 ∷ []) ≡ codes "add-int/lit8 v0, v1, #-1")
+unfolding instruction_text register_text literal_text target_text signed_text count_text place_text opcode_of opcode_runs digits
+operands_shown = (refl, refl, refl, refl, refl, refl)
+
+-- values
+pub values_shown : (value_text (ByteValue (negsuc 0)) ≡ codes "byte #-1") × (value_text (DoubleValue 0x4000000000000000) ≡ codes "double-bits 4000000000000000") × (value_text (ArrayValue (ThenValue NullValue (ThenValue (BooleanValue true) NoValues))) ≡ codes "array { null true }")
+unfolding literal_text signed_text count_text place_text digits
+values_shown = (refl, refl, refl)
 
 -- payloads
 pub payloads_shown : (payload_text (0x100 ∷ 3 ∷ 0 ∷ 0 ∷ []) ≡ codes "packed-switch-payload size=3") × (payload_text (0x200 ∷ 2 ∷ []) ≡ codes "sparse-switch-payload size=2") × (payload_text (0x300 ∷ 4 ∷ 1 ∷ 1 ∷ []) ≡ codes "fill-array-data-payload width=4 size=65537")

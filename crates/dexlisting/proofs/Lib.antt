@@ -3,3 +3,11 @@ pub mod RowParts
 pub mod Shown
 pub mod Example
 pub mod Chosen
+pub mod Digits
+pub mod Blanks
+pub mod ValueTexts
+pub mod Declared
+pub mod DebugLines
+pub mod OperandTexts
+pub mod TryLines
+pub mod law

@@ -68,7 +68,7 @@ listed_shown m at (p ∷ ps) =
     ∙ ap (λ r. (codes "    " ++ (place_text at ++ (codes ": " ++ (piece_text (piece_in m p) ++ codes "\n")))) ++ r)
     (listed_shown m (at + length (units_of p)) ps ∙ ap (λ n. piece_lines (at + n) (map (piece_in m) ps)) (same_length m p))
 
-indexed : (n : ℕ) (us : List ℕ) → length (with_index n us) ≡ length us
+pub indexed : (n : ℕ) (us : List ℕ) → length (with_index n us) ≡ length us
 indexed n us = by_width (is_wide_index us) n us
   where
     by_width : (b : Bool) (n : ℕ) (us : List ℕ) → length (cond b (slice_set (slice_set us 1 (n % 65536)) 2 (n / 65536)) (slice_set us 1 n)) ≡ length us

@@ -20,21 +20,21 @@ use Rattle.dexout.specs.Printed.{shown, quoted, count_text, place_text}
 abbrev pub proto_text : Proto → List ℕ
 proto_text p = codes "(" ++ (flat_map shown p.parameters ++ (codes ")" ++ shown p.return_type))
 
--- NAME:TYPE
-abbrev pub own_field_text : Text → Text → List ℕ
-own_field_text name type = shown name ++ (codes ":" ++ shown type)
+-- NAME:TYPE, the name of a member in the form of `names`
+abbrev pub own_field_text : (Text → List ℕ) → Text → Text → List ℕ
+own_field_text names name type = names name ++ (codes ":" ++ shown type)
 
 -- NAME(PARAMETERS)RETURN
-abbrev pub own_method_text : Text → Proto → List ℕ
-own_method_text name proto = shown name ++ proto_text proto
+abbrev pub own_method_text : (Text → List ℕ) → Text → Proto → List ℕ
+own_method_text names name proto = names name ++ proto_text proto
 
--- what an instruction names
-abbrev pub symbol_text : Symbol → List ℕ
-symbol_text (TextSymbol s) = quoted s
-symbol_text (TypeSymbol t) = shown t
-symbol_text (ProtoSymbol p) = proto_text p
-symbol_text (FieldSymbol f) = shown f.class ++ (codes "->" ++ own_field_text f.name f.type)
-symbol_text (MethodSymbol m) = shown m.class ++ (codes "->" ++ own_method_text m.name m.proto)
+-- a symbol
+abbrev pub symbol_text : (Text → List ℕ) → Symbol → List ℕ
+symbol_text names (TextSymbol s) = quoted s
+symbol_text names (TypeSymbol t) = shown t
+symbol_text names (ProtoSymbol p) = proto_text p
+symbol_text names (FieldSymbol f) = shown f.class ++ (codes "->" ++ own_field_text names f.name f.type)
+symbol_text names (MethodSymbol m) = shown m.class ++ (codes "->" ++ own_method_text names m.name m.proto)
 
 -- ---- code
 
@@ -46,25 +46,31 @@ mnemonic_text us = option_map_or (λ op. op.mnemonic) (opcode_of (low_byte (slic
 abbrev pub payload_text : List ℕ → List ℕ
 payload_text us =
     if slice_index us 0 == packed_switch_ident then count_text (codes "packed-switch-payload size=") (slice_index us 1)
-    else (if slice_index us 0 == sparse_switch_ident then count_text (codes "sparse-switch-payload size=") (slice_index us 1)
-    else count_text (codes "fill-array-data-payload width=") (element_width us) ++ count_text (codes " size=") (element_count us))
+    else (if slice_index us 0 == sparse_switch_ident
+    then count_text (codes "sparse-switch-payload size=") (slice_index us 1)
+    else count_text (codes "fill-array-data-payload width=") (element_width us)
+    ++ count_text (codes " size=") (element_count us))
 
 -- what an instruction or payload is
 abbrev pub piece_text : Piece → List ℕ
 piece_text (Instruction us None) = mnemonic_text us
-piece_text (Instruction us (Some s)) = mnemonic_text us ++ (codes " " ++ symbol_text s)
+piece_text (Instruction us (Some s)) = mnemonic_text us ++ (codes " " ++ symbol_text shown s)
 piece_text (Payload us) = payload_text us
 
 -- a line for each of them, the first at a unit
 abbrev pub piece_lines : ℕ → List Piece → List ℕ
 piece_lines at [] = []
-piece_lines at (p ∷ ps) = (codes "    " ++ (place_text at ++ (codes ": " ++ (piece_text p ++ codes "\n")))) ++ piece_lines (at + length (units_of p)) ps
+piece_lines at (p ∷ ps) =
+    (codes "    " ++ (place_text at ++ (codes ": " ++ (piece_text p ++ codes "\n"))))
+    ++ piece_lines (at + length (units_of p)) ps
 
 -- the line of what code has how many of
 unfoldable pub counts_line : Code → List ℕ
 counts_line c =
-    count_text (codes "    code registers=") c.registers ++ (count_text (codes " ins=") c.ins ++ (count_text (codes " outs=") c.outs
-    ++ (count_text (codes " units=") (length (flat_map units_of c.pieces)) ++ (count_text (codes " tries=") (length c.tries) ++ codes "\n"))))
+    count_text (codes "    code registers=") c.registers
+    ++ (count_text (codes " ins=") c.ins ++ (count_text (codes " outs=") c.outs
+    ++ (count_text (codes " units=") (length (flat_map units_of c.pieces))
+    ++ (count_text (codes " tries=") (length c.tries) ++ codes "\n"))))
 
 -- the lines of code
 abbrev pub code_lines : Code → List ℕ
@@ -74,17 +80,24 @@ code_lines c = counts_line c ++ piece_lines 0 c.pieces
 
 -- the line of a field, after these words
 unfoldable pub field_line : List ℕ → FieldDef → List ℕ
-field_line words f = words ++ (own_field_text f.name f.type ++ (codes " flags=" ++ (flags_text OfField f.flags ++ codes "\n")))
+field_line words f =
+    words ++ (own_field_text shown f.name f.type ++ (codes " flags=" ++ (flags_text OfField f.flags ++ codes "\n")))
 
 -- the lines of a method, after these words
 unfoldable pub method_lines : List ℕ → MethodDef → List ℕ
 method_lines words m =
-    words ++ (own_method_text m.name m.proto ++ (codes " flags=" ++ (flags_text OfMethod m.flags ++ (codes "\n" ++ option_map_or code_lines m.code []))))
+    words
+    ++ (own_method_text shown m.name m.proto
+    ++ (codes " flags=" ++ (flags_text OfMethod m.flags ++ (codes "\n" ++ option_map_or code_lines m.code []))))
 
 -- the line with the name of a class, its flags and its superclass
 unfoldable pub own_line : Definition → List ℕ
 own_line d =
-    codes "class " ++ (shown d.0 ++ (codes " flags=" ++ (flags_text OfClass d.1.flags ++ (codes " super=" ++ (option_map_or shown d.1.superclass (codes "-") ++ codes "\n")))))
+    codes "class "
+    ++ (shown d.0
+    ++ (codes " flags="
+    ++ (flags_text OfClass d.1.flags
+    ++ (codes " super=" ++ (option_map_or shown d.1.superclass (codes "-") ++ codes "\n")))))
 
 -- the line of an interface
 unfoldable pub interface_line : Text → List ℕ
@@ -98,8 +111,10 @@ source_line text = codes "  source " ++ (quoted text ++ codes "\n")
 unfoldable pub class_lines : Definition → List ℕ
 class_lines d =
     own_line d ++ (flat_map interface_line d.1.interfaces ++ (option_map_or source_line d.1.source []
-    ++ (flat_map (field_line (codes "  static-field ")) d.1.static_fields ++ (flat_map (field_line (codes "  instance-field ")) d.1.instance_fields
-    ++ (flat_map (method_lines (codes "  direct-method ")) d.1.direct_methods ++ flat_map (method_lines (codes "  virtual-method ")) d.1.virtual_methods)))))
+    ++ (flat_map (field_line (codes "  static-field ")) d.1.static_fields
+    ++ (flat_map (field_line (codes "  instance-field ")) d.1.instance_fields
+    ++ (flat_map (method_lines (codes "  direct-method ")) d.1.direct_methods
+    ++ flat_map (method_lines (codes "  virtual-method ")) d.1.virtual_methods)))))
 
 -- the listing: the classes in the order of a canonical file
 unfoldable pub listing : Collection → List ℕ

@@ -9,6 +9,7 @@ ghost use Rattle.dexclass.specs.Uses.{IsKnownClass};
 ghost use Rattle.dexout.specs.Printed.{shown};
 ghost use Rattle.dexlisting.specs.Listing.{field_line, method_lines, own_line, interface_line, source_line, class_lines};
 
+use crate::names::Names;
 use crate::parts::{encode_own_field, encode_own_method, encode_type};
 use crate::pieces::encode_code;
 use dexclass::Class;
@@ -29,7 +30,7 @@ fn encode_field_line<O: Output>(
     ensures { O.gives (field_line words.now (field_in numbering.now field.now)) out.old out.new }
 {
     out.bytes(words);
-    encode_own_field(numbering, field.number() as usize, out);
+    encode_own_field(numbering, Names::Shown, field.number() as usize, out);
     out.bytes(b" flags=");
     field.flags().encode(out);
     out.byte(b'\n');
@@ -59,10 +60,11 @@ fn encode_method_lines<O: Output>(
     out: &mut O,
 )
     requires { IsKnownMethod numbering.now method.now }
-    ensures { O.gives (method_lines words.now (method_in numbering.now method.now)) out.old out.new }
+    ensures { O.gives (method_lines words.now (method_in numbering.now method.now)) out.old
+        out.new }
 {
     out.bytes(words);
-    encode_own_method(numbering, method.number() as usize, out);
+    encode_own_method(numbering, Names::Shown, method.number() as usize, out);
     out.bytes(b" flags=");
     method.flags().encode(out);
     out.byte(b'\n');
@@ -79,7 +81,8 @@ fn encode_methods<O: Output>(
     out: &mut O,
 )
     requires { All (IsKnownMethod numbering.now) methods.now }
-    ensures { O.gives (flat_map (λ m. method_lines words.now (method_in numbering.now m)) methods.now)
+    ensures { O.gives
+        (flat_map (λ m. method_lines words.now (method_in numbering.now m)) methods.now)
         out.old out.new }
 {
     for i in 0..methods.len() {
@@ -99,8 +102,8 @@ fn encode_superclass<O: Output>(numbering: &Numbering<'_>, superclass: Option<us
     }
 }
 
-// Writes the line with the name, the flags and the superclass.
-fn encode_own_line<O: Output>(numbering: &Numbering<'_>, class: &Class<'_>, out: &mut O)
+/// Writes the line with the name, the flags and the superclass.
+pub(crate) fn encode_own_line<O: Output>(numbering: &Numbering<'_>, class: &Class<'_>, out: &mut O)
     requires { IsKnownClass numbering.now class.now }
     ensures { O.gives (own_line (definition_of numbering.now class.now)) out.old out.new }
 {
@@ -124,8 +127,12 @@ fn encode_interface<O: Output>(numbering: &Numbering<'_>, interface: usize, out:
     out.byte(b'\n');
 }
 
-// Writes the lines of interfaces.
-fn encode_interfaces<O: Output>(numbering: &Numbering<'_>, interfaces: &[usize], out: &mut O)
+/// Writes the lines of interfaces.
+pub(crate) fn encode_interfaces<O: Output>(
+    numbering: &Numbering<'_>,
+    interfaces: &[usize],
+    out: &mut O,
+)
     requires { All (λ i. i < length numbering.now.types) interfaces.now }
     ensures { O.gives (flat_map (λ i. interface_line (type_at numbering.now i)) interfaces.now)
         out.old out.new }
@@ -135,8 +142,12 @@ fn encode_interfaces<O: Output>(numbering: &Numbering<'_>, interfaces: &[usize],
     }
 }
 
-// Writes the line of the source text, if there is one.
-fn encode_source<O: Output>(numbering: &Numbering<'_>, source: Option<usize>, out: &mut O)
+/// Writes the line of the source text, if there is one.
+pub(crate) fn encode_source<O: Output>(
+    numbering: &Numbering<'_>,
+    source: Option<usize>,
+    out: &mut O,
+)
     requires { IfSome source (λ i. i < length numbering.now.texts) }
     ensures { O.gives (option_map_or source_line (option_map (text_at numbering.now) source) [])
         out.old out.new }

@@ -7,11 +7,13 @@ ghost use Rattle.dexclass.specs.Uses.{IsKnownClass};
 ghost use Rattle.dexout.specs.Output.{Adds, HasRoom};
 ghost use Rattle.dexout.specs.Written.{HasLeft, HasTaken};
 ghost use Rattle.dexout.specs.declared.faults.StoreFault.TheVariants.{Io};
-ghost use Rattle.dexlisting.specs.Listing.{class_lines, chosen, listing, listing_of};
+ghost use Rattle.dexlisting.specs.Listing.{chosen};
+ghost use Rattle.dexlisting.specs.Detailed.{lines_in, listing_in, listing_in_of};
 
+use crate::full_lines::encode_full_class;
 use crate::lines::encode_class;
 use dexclass::{Class, Program};
-use dexhead::Sink;
+use dexhead::{Output, Sink};
 use dexout::{Out, StoreFault, Target, Writer};
 use dexpool::Numbering;
 use std::alloc::Global;
@@ -26,53 +28,84 @@ fn is_chosen(flags: &[bool], place: usize) -> bool
     flags.get(place).copied().unwrap_or(true)
 }
 
+/// How much is listed of each class.
+#[derive(Clone, Copy, Debug, PartialEq, Eq)]
+pub enum Detail {
+    /// What it declares, and the instructions of its methods with the symbols that they name.
+    Short,
+    /// All that it has.
+    Full,
+}
+
+// Writes the lines of a class in this detail.
+fn encode_detailed<O: Output>(
+    numbering: &Numbering<'_>,
+    detail: Detail,
+    class: &Class<'_>,
+    out: &mut O,
+)
+    requires { IsKnownClass numbering.now class.now }
+    ensures { O.gives (lines_in detail (definition_of numbering.now class.now)) out.old out.new }
+{
+    match detail {
+        Detail::Short => encode_class(numbering, class, out),
+        Detail::Full => encode_full_class(numbering, class, out),
+    }
+}
+
 // Writes the lines of a class if it is chosen. Once the target has failed, it is not walked over.
 fn write_class<T: Target>(
     numbering: &Numbering<'_>,
+    detail: Detail,
     class: &Class<'_>,
     is_chosen: bool,
     out: &mut Out<T>,
 )
     requires { IsKnownClass numbering.now class.now }
     ensures { Adds T.gives T.gives_prefix T.has_failed
-        (if is_chosen then class_lines (definition_of numbering.now class.now) else []) out.old out.new }
+        (if is_chosen then lines_in detail (definition_of numbering.now class.now) else []) out.old
+        out.new }
 {
     if !is_chosen || out.failed {
         return;
     }
-    encode_class(numbering, class, out);
+    encode_detailed(numbering, detail, class, out);
 }
 
 // Writes the lines of the classes that the flags choose.
 fn write_lines<T: Target>(
     numbering: &Numbering<'_>,
+    detail: Detail,
     classes: &[Class<'_>],
     flags: &[bool],
     out: &mut Out<T>,
 )
     requires { All (IsKnownClass numbering.now) classes.now }
     ensures { Adds T.gives T.gives_prefix T.has_failed
-        (flat_map class_lines (chosen flags.now (map (definition_of numbering.now) classes.now)))
+        (flat_map (lines_in detail)
+        (chosen flags.now (map (definition_of numbering.now) classes.now)))
         out.old out.new }
 {
     for i in 0..classes.len() {
-        write_class(numbering, &classes[i], is_chosen(flags, i), out);
+        write_class(numbering, detail, &classes[i], is_chosen(flags, i), out);
     }
 }
 
 // Writes the lines of the classes of a program that the flags choose, and flushes them.
-fn write_classes<T: Target>(program: &Program<'_>, flags: &[bool], out: &mut Out<T>)
-    ensures adds { Adds T.gives T.gives_prefix T.has_failed (listing_of flags.now program.now)
+fn write_classes<T: Target>(program: &Program<'_>, detail: Detail, flags: &[bool], out: &mut Out<T>)
+    ensures adds { Adds T.gives T.gives_prefix T.has_failed
+        (listing_in_of detail flags.now program.now)
         out.old out.new }
     ensures empty { vec_len out.new.buffer ≡ 0 }
 {
-    write_lines(program.numbering(), program.classes(), flags, out);
+    write_lines(program.numbering(), detail, program.classes(), flags, out);
     out.flush();
 }
 
 // Writes the listing of the classes that the flags choose through an output in which nothing is buffered.
 fn write_through<W: Sink>(
     program: &Program<'_>,
+    detail: Detail,
     flags: &[bool],
     out: &mut Out<Writer<'_, W>>,
 ) -> Result<(), StoreFault>
@@ -82,12 +115,12 @@ fn write_through<W: Sink>(
     requires works { W.has_failed out.old.target.sink.now ≡ false }
     ensures same { out.new.target.sink.ghost_name ≡ out.old.target.sink.ghost_name }
     ensures written { OnOk result (HasTaken W.reports W.taken out.old.target.sink.now
-        out.new.target.sink.now (listing_of flags.now program.now)) }
+        out.new.target.sink.now (listing_in_of detail flags.now program.now)) }
     ensures left { IfErr result (HasLeft (W.reports out.old.target.sink.now) out.old.target.sink.now
-        out.new.target.sink.now W.taken (listing_of flags.now program.now)) }
+        out.new.target.sink.now W.taken (listing_in_of detail flags.now program.now)) }
     ensures device { IsErrOf result Io ↔ (W.has_failed out.new.target.sink.now ≡ true) }
 {
-    write_classes(program, flags, out);
+    write_classes(program, detail, flags, out);
     out.result()
 }
 
@@ -102,14 +135,16 @@ fn write_through<W: Sink>(
 pub fn write_listing_of<W: Sink>(
     alloc: Global,
     program: &Program<'_>,
+    detail: Detail,
     flags: &[bool],
     out: &mut W,
 ) -> Result<(), StoreFault>
     requires { W.has_failed out.old ≡ false }
     ensures written { OnOk result
-        (HasTaken W.reports W.taken out.old out.new (listing_of flags.now program.now)) }
+        (HasTaken W.reports W.taken out.old out.new (listing_in_of detail flags.now program.now)) }
     ensures left { IfErr result
-        (HasLeft (W.reports out.old) out.old out.new W.taken (listing_of flags.now program.now)) }
+        (HasLeft (W.reports out.old) out.old out.new W.taken
+        (listing_in_of detail flags.now program.now)) }
     ensures device { IsErrOf result Io ↔ (W.has_failed out.new ≡ true) }
 {
     let mut output = Out {
@@ -117,7 +152,7 @@ pub fn write_listing_of<W: Sink>(
         failed: false,
         target: Writer { sink: out },
     };
-    let result = write_through(program, flags, &mut output);
+    let result = write_through(program, detail, flags, &mut output);
     let Out {
         target: Writer { sink: _sink },
         ..
@@ -132,18 +167,19 @@ pub fn write_listing_of<W: Sink>(
 /// written; `Io` exactly where the writer failed in this call, and then a prefix of the listing was written.
 ///
 /// Source: the form is this project's rule.
-#[tactic(auto, unfolding(crate::specs::Listing::listing, crate::specs::Listing::listing_of))]
+#[tactic(auto, using(crate::proofs::Chosen::listing_in_all))]
 pub fn write_listing<W: Sink>(
     alloc: Global,
     program: &Program<'_>,
+    detail: Detail,
     out: &mut W,
 ) -> Result<(), StoreFault>
     requires { W.has_failed out.old ≡ false }
     ensures written { OnOk result
-        (HasTaken W.reports W.taken out.old out.new (listing program.now)) }
+        (HasTaken W.reports W.taken out.old out.new (listing_in detail program.now)) }
     ensures left { IfErr result
-        (HasLeft (W.reports out.old) out.old out.new W.taken (listing program.now)) }
+        (HasLeft (W.reports out.old) out.old out.new W.taken (listing_in detail program.now)) }
     ensures device { IsErrOf result Io ↔ (W.has_failed out.new ≡ true) }
 {
-    write_listing_of(alloc, program, &[], out)
+    write_listing_of(alloc, program, detail, &[], out)
 }

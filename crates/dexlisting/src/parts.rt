@@ -9,19 +9,20 @@ ghost use Rattle.dexcode.specs.Meaning.{symbol_at};
 ghost use Rattle.dexclass.specs.Numbered.{type_at, text_at};
 ghost use Rattle.dexout.specs.Printed.{shown};
 ghost use Rattle.dexlisting.specs.Listing.{proto_text, own_field_text, own_method_text, symbol_text};
-ghost use Rattle.dexlisting.specs.internal.Known.{proto_at};
+ghost use Rattle.dexlisting.specs.internal.Known.{name_text, proto_at};
 
+use crate::names::{Names, encode_name};
 use dexhead::Output;
 use dexout::{encode_quoted, encode_text};
 use dexpool::{Numbering, SymbolKind};
 use dexrows::TypeNumbers;
 
-// Writes the text of a number.
-fn encode_string<O: Output>(numbering: &Numbering<'_>, text: usize, out: &mut O)
+// Writes the name of a number.
+fn encode_string<O: Output>(numbering: &Numbering<'_>, names: Names, text: usize, out: &mut O)
     requires { text < length numbering.now.texts }
-    ensures { O.gives (shown (text_at numbering.now text)) out.old out.new }
+    ensures { O.gives (name_text names (text_at numbering.now text)) out.old out.new }
 {
-    encode_text(numbering.string(text), out);
+    encode_name(names, numbering.string(text), out);
 }
 
 /// Writes a type.
@@ -33,13 +34,18 @@ pub(crate) fn encode_type<O: Output>(numbering: &Numbering<'_>, typ: usize, out:
 }
 
 /// Writes the name of a field and its type.
-pub(crate) fn encode_own_field<O: Output>(numbering: &Numbering<'_>, field: usize, out: &mut O)
+pub(crate) fn encode_own_field<O: Output>(
+    numbering: &Numbering<'_>,
+    names: Names,
+    field: usize,
+    out: &mut O,
+)
     requires { field < length numbering.now.fields }
-    ensures { O.gives (own_field_text (field_at numbering.now field).name
+    ensures { O.gives (own_field_text (name_text names) (field_at numbering.now field).name
         (field_at numbering.now field).type) out.old out.new }
 {
     let row = numbering.field(field);
-    encode_string(numbering, row.name as usize, out);
+    encode_string(numbering, names, row.name as usize, out);
     out.byte(b':');
     encode_type(numbering, row.typ as usize, out);
 }
@@ -67,51 +73,71 @@ pub(crate) fn encode_proto<O: Output>(numbering: &Numbering<'_>, proto: usize, o
 }
 
 /// Writes the name of a method and its types.
-pub(crate) fn encode_own_method<O: Output>(numbering: &Numbering<'_>, method: usize, out: &mut O)
+pub(crate) fn encode_own_method<O: Output>(
+    numbering: &Numbering<'_>,
+    names: Names,
+    method: usize,
+    out: &mut O,
+)
     requires { method < length numbering.now.methods }
-    ensures { O.gives (own_method_text (method_at numbering.now method).name
+    ensures { O.gives (own_method_text (name_text names) (method_at numbering.now method).name
         (method_at numbering.now method).proto) out.old out.new }
 {
     let row = numbering.method(method);
-    encode_string(numbering, row.name as usize, out);
+    encode_string(numbering, names, row.name as usize, out);
     encode_proto(numbering, row.proto as usize, out);
 }
 
-// Writes a field with its class.
-fn encode_field<O: Output>(numbering: &Numbering<'_>, field: usize, out: &mut O)
+/// Writes a field with its class.
+pub(crate) fn encode_field<O: Output>(
+    numbering: &Numbering<'_>,
+    names: Names,
+    field: usize,
+    out: &mut O,
+)
     requires { field < length numbering.now.fields }
-    ensures { O.gives (symbol_text (FieldSymbol (field_at numbering.now field))) out.old out.new }
+    ensures { O.gives (symbol_text (name_text names) (FieldSymbol (field_at numbering.now field)))
+        out.old out.new }
 {
     encode_type(numbering, numbering.field(field).class as usize, out);
     out.bytes(b"->");
-    encode_own_field(numbering, field, out);
+    encode_own_field(numbering, names, field, out);
 }
 
-// Writes a method with its class.
-fn encode_method<O: Output>(numbering: &Numbering<'_>, method: usize, out: &mut O)
+/// Writes a method with its class.
+pub(crate) fn encode_method<O: Output>(
+    numbering: &Numbering<'_>,
+    names: Names,
+    method: usize,
+    out: &mut O,
+)
     requires { method < length numbering.now.methods }
-    ensures { O.gives (symbol_text (MethodSymbol (method_at numbering.now method))) out.old out.new }
+    ensures { O.gives
+        (symbol_text (name_text names) (MethodSymbol (method_at numbering.now method))) out.old
+        out.new }
 {
     encode_type(numbering, numbering.method(method).class as usize, out);
     out.bytes(b"->");
-    encode_own_method(numbering, method, out);
+    encode_own_method(numbering, names, method, out);
 }
 
 /// Writes the symbol of a kind and a number.
 pub(crate) fn encode_symbol<O: Output>(
     numbering: &Numbering<'_>,
+    names: Names,
     kind: SymbolKind,
     number: usize,
     out: &mut O,
 )
     requires { number < count_of kind numbering.now }
-    ensures { O.gives (symbol_text (symbol_at numbering.now kind number)) out.old out.new }
+    ensures { O.gives (symbol_text (name_text names) (symbol_at numbering.now kind number)) out.old
+        out.new }
 {
     match kind {
         SymbolKind::Text => encode_quoted(numbering.string(number), out),
         SymbolKind::Typ => encode_type(numbering, number, out),
         SymbolKind::Proto => encode_proto(numbering, number, out),
-        SymbolKind::Field => encode_field(numbering, number, out),
-        SymbolKind::Method => encode_method(numbering, number, out),
+        SymbolKind::Field => encode_field(numbering, names, number, out),
+        SymbolKind::Method => encode_method(numbering, names, number, out),
     }
 }

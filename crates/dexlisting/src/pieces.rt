@@ -1,15 +1,17 @@
 //! The lines of code.
 
-ghost use Rattle.std.specs.Prelude.{◌<◌, All, IfSome};
+ghost use Rattle.std.specs.Prelude.{◌<◌, ◌++◌, All, IfSome, codes};
 ghost use Rattle.std.specs.List.{flat_map};
 ghost use Rattle.dexspec.specs.Mentions.{Mentions};
 ghost use Rattle.dexpool.specs.Pools.{count_of};
 ghost use Rattle.dexinsn.specs.Opcode.{mnemonic_of};
 ghost use Rattle.dexinsn.specs.Listing.{listed};
 ghost use Rattle.dexcode.specs.Meaning.{IsKnownPiece, IsKnownCode, code_in, piece_in};
+ghost use Rattle.dexout.specs.Printed.{count_text};
 ghost use Rattle.dexlisting.specs.Listing.{counts_line, code_lines};
 ghost use Rattle.dexlisting.specs.internal.Known.{IsKnownKind, named_text, kind_text, listed_line};
 
+use crate::names::Names;
 use crate::parts::encode_symbol;
 use dexcode::Code;
 use dexhead::Output;
@@ -17,8 +19,8 @@ use dexinsn::{Piece, PieceKind, Pieces, mnemonic};
 use dexout::{encode_count, encode_place};
 use dexpool::{Numbering, SymbolKind};
 
-// Writes the mnemonic of an opcode.
-fn encode_mnemonic<O: Output>(opcode: u8, out: &mut O)
+/// Writes the mnemonic of an opcode.
+pub(crate) fn encode_mnemonic<O: Output>(opcode: u8, out: &mut O)
     ensures { O.gives (mnemonic_of opcode) out.old out.new }
 {
     out.bytes(mnemonic(opcode).unwrap_or("").as_bytes());
@@ -35,8 +37,31 @@ fn encode_named<O: Output>(
 {
     if let Some(symbol) = symbol {
         out.byte(b' ');
-        encode_symbol(numbering, symbol.0, symbol.1, out);
+        encode_symbol(numbering, Names::Shown, symbol.0, symbol.1, out);
     }
+}
+
+/// Writes the size of a packed switch.
+pub(crate) fn encode_packed_switch<O: Output>(size: u16, out: &mut O)
+    ensures { O.gives (count_text (codes "packed-switch-payload size=") size) out.old out.new }
+{
+    encode_count(b"packed-switch-payload size=", usize::from(size), out);
+}
+
+/// Writes the size of a sparse switch.
+pub(crate) fn encode_sparse_switch<O: Output>(size: u16, out: &mut O)
+    ensures { O.gives (count_text (codes "sparse-switch-payload size=") size) out.old out.new }
+{
+    encode_count(b"sparse-switch-payload size=", usize::from(size), out);
+}
+
+/// Writes the width of the elements of array data, and their number.
+pub(crate) fn encode_array_data<O: Output>(width: u16, size: u32, out: &mut O)
+    ensures { O.gives (count_text (codes "fill-array-data-payload width=") width
+        ++ count_text (codes " size=") size) out.old out.new }
+{
+    encode_count(b"fill-array-data-payload width=", usize::from(width), out);
+    encode_count(b" size=", size as usize, out);
 }
 
 // Writes what an instruction or payload is.
@@ -49,16 +74,9 @@ fn encode_kind<O: Output>(numbering: &Numbering<'_>, kind: PieceKind, out: &mut 
             encode_mnemonic(opcode, out);
             encode_named(numbering, symbol, out);
         }
-        PieceKind::PackedSwitch(size) => {
-            encode_count(b"packed-switch-payload size=", usize::from(size), out);
-        }
-        PieceKind::SparseSwitch(size) => {
-            encode_count(b"sparse-switch-payload size=", usize::from(size), out);
-        }
-        PieceKind::ArrayData(width, size) => {
-            encode_count(b"fill-array-data-payload width=", usize::from(width), out);
-            encode_count(b" size=", size as usize, out);
-        }
+        PieceKind::PackedSwitch(size) => encode_packed_switch(size, out),
+        PieceKind::SparseSwitch(size) => encode_sparse_switch(size, out),
+        PieceKind::ArrayData(width, size) => encode_array_data(width, size, out),
     }
 }
 
@@ -77,15 +95,16 @@ fn encode_piece<O: Output>(numbering: &Numbering<'_>, piece: &Piece, out: &mut O
 // Writes the lines of instructions and payloads.
 fn encode_pieces<O: Output>(numbering: &Numbering<'_>, pieces: &Pieces<'_>, out: &mut O)
     requires { All (IsKnownPiece numbering.now) pieces.now.pieces }
-    ensures { O.gives (flat_map (listed_line numbering.now) (listed 0 pieces.now.pieces)) out.old out.new }
+    ensures { O.gives (flat_map (listed_line numbering.now) (listed 0 pieces.now.pieces)) out.old
+        out.new }
 {
     for piece in pieces.iter() {
         encode_piece(numbering, &piece, out);
     }
 }
 
-// Writes the line of what code has how many of.
-fn encode_counts<O: Output>(code: &Code<'_>, out: &mut O)
+/// Writes the line of what code has how many of.
+pub(crate) fn encode_counts<O: Output>(code: &Code<'_>, out: &mut O)
     ensures { (m : Mentions) → O.gives (counts_line (code_in m code.now)) out.old out.new }
 {
     let pieces = code.pieces();

@@ -9,6 +9,7 @@ pub mod DirectorySpelled
 pub mod Entered
 pub mod FewMembers
 pub mod HeldMembers
+pub mod KeptCodes
 pub mod Images
 pub mod DirectoryCache
 pub mod Meant

@@ -1,8 +1,8 @@
 -- Methods as they are stored, with their code beside them.
-use Rattle.dexmembers.proofs.Common.{◌≡◌, ◌⊎◌, ℕ, zero, suc, ◌<◌, List, [], ◌∷◌, ◌++◌, get_or, length, map, refl, sym, ap, ◌∙◌, subst, arith, inl, inr, Option, Some, None, All, IfSome, option_map, cases_lt, length-map, length-append, get_or-map, map-append, All-push, All-head, All-tail, Contains, Contains-first, Contains-append_left, Contains-append_right, Maps, NumberedItem, HasPlaces, renumbered_item, IsPlaceIn, map_both}
+use Rattle.dexmembers.proofs.Common.{◌≡◌, ℕ, zero, suc, ◌<◌, List, [], ◌∷◌, ◌++◌, get_or, length, map, refl, sym, ap, ◌∙◌, subst, arith, inl, inr, Option, Some, None, All, IfSome, option_map, cases_lt, length-map, length-append, get_or-map, map-append, All-push, All-head, All-tail, Contains, Contains-first, Contains-append_left, Contains-append_right, Maps, NumberedItem, HasPlaces, renumbered_item, IsPlaceIn, map_both}
 use Rattle.std.proofs.lemmas.Option.{slice_get-get_or}
 use Rattle.dexmembers.specs.{remapped_method, IsHeldMethodMapped, stripped_code, stripped_held, StoredMethod, ArePlacesOf, code_places, code_at, held_in, held_with, remapped_stored, IsStoredMethodMapped}
-use Rattle.dexmembers.specs.internal.MethodCodes.{IsKept}
+use Rattle.dexmembers.specs.internal.MethodCodes.{IsKept, IsKeptAt}
 use Rattle.dexmembers.proofs.RenumberingLists.{all_seen, both_ways}
 use Rattle.dexmembers.proofs.HeldMembers.{place_kept}
 
@@ -31,15 +31,9 @@ place_more codes more (Some i) lt = omega (arith, lt, length-append codes more)
 -- ---- the code of one method more
 
 -- what is kept of code that is put at the end, or of none
-record Keeps (code : Option NumberedItem) (codes new : List NumberedItem) (place : Option ℕ) : Type 0 where
-  still : (p : Option ℕ) → IsPlaceIn codes p → IsPlaceIn new p × (code_at new p ≡ code_at codes p)
-  held : IsPlaceIn new place
-  is : code_at new place ≡ code
-  named : (i : ℕ) → i < length new → (i < length codes) ⊎ (place ≡ Some i)
-
-keeps : (code : Option NumberedItem) (codes new : List NumberedItem) (place : Option ℕ) → IsKept code codes new place → Keeps code codes new place
-keeps None codes new place h = rw (h.0, h.1) (record { still = λ p at. (at, refl); held = tt; is = refl; named = λ i lt. inl lt })
-keeps (Some code) codes new place h =
+pub kept_at : (code : Option NumberedItem) (codes new : List NumberedItem) (place : Option ℕ) → IsKept code codes new place → IsKeptAt code codes new place
+kept_at None codes new place h = rw (h.0, h.1) (record { still = λ p at. (at, refl); held = tt; is = refl; named = λ i lt. inl lt })
+kept_at (Some code) codes new place h =
     let size = length-append codes (code ∷ []) in
     rw (h.0, h.1) (record {
       still = λ p at. (place_more codes (code ∷ []) p at, code_kept codes (code ∷ []) p at);
@@ -48,15 +42,18 @@ keeps (Some code) codes new place h =
       named = λ i lt. elim (cases_lt i (length codes)) [ inl less ↦ inl less | inr ge ↦ inr (ap Some (omega arith)) ];
     })
 
+-- where nothing is added
+pub kept_already : (codes : List NumberedItem) (place : Option ℕ) → IsPlaceIn codes place → IsKeptAt (code_at codes place) codes codes place
+kept_already codes place held = record { still = λ p at. (at, refl); held = held; is = refl; named = λ i lt. inl lt }
+
 -- maps that agree on each member
 map_agree : {X Y : Type 0} (f g : X → Y) (xs : List X) → All (λ x. f x ≡ g x) xs → map f xs ≡ map g xs
 map_agree f g [] h = refl
 map_agree f g (x ∷ xs) h = λ i. All-head (λ y. f y ≡ g y) x xs h i ∷ map_agree f g xs (All-tail (λ y. f y ≡ g y) x xs h) i
 
-module _ (codes new : List NumberedItem) (places : List (Option ℕ)) (place : Option ℕ) (code : Option NumberedItem) (h : ArePlacesOf codes places) (kept : IsKept code codes new place) where
+module _ (codes new : List NumberedItem) (places : List (Option ℕ)) (place : Option ℕ) (code : Option NumberedItem) (h : ArePlacesOf codes places) (k : IsKeptAt code codes new place) where
   pub places_more : ArePlacesOf new (places ++ place ∷ [])
   places_more =
-      let k = keeps code codes new place kept in
       record {
         held = All-push (IsPlaceIn new) places place (λ i d lt. (k.still (get_or places i d) (h.held i d lt)).0) k.held;
         named = λ i lt. elim (k.named i lt) [
@@ -67,7 +64,6 @@ module _ (codes new : List NumberedItem) (places : List (Option ℕ)) (place : O
 
   pub codes_more : map (code_at new) (places ++ place ∷ []) ≡ map (code_at codes) places ++ code ∷ []
   codes_more =
-      let k = keeps code codes new place kept in
       let old = map_agree (code_at new) (code_at codes) places (λ i d lt. (k.still (get_or places i d) (h.held i d lt)).1) in
       map-append (code_at new) places (place ∷ []) ∙ (λ i. old i ++ k.is i ∷ [])
 

@@ -2,7 +2,7 @@
 use Rattle.dexmembers.proofs.Common.{◌≡◌, ℕ, ◌<◌, List, [], ◌∷◌, ◌++◌, length, map, refl, sym, ap, ◌∙◌, subst, arith, Option, All, IfSome, length-append, length-map, map-append, All-push, All-map, zip_with, NumberedItem}
 use Rattle.dexmembers.specs.{HeldMethod, StoredMethod, ArePlacesOf, code_at, code_places, held_in}
 use Rattle.dexmembers.specs.internal.Attaching.{EntriesRise, PlacesBelow, HaveSetsBelow, HaveListsBelow, held_codes, held_method, place_for}
-use Rattle.dexmembers.specs.internal.MethodCodes.{IsKept}
+use Rattle.dexmembers.specs.internal.MethodCodes.{IsKeptAt}
 use Rattle.dexmembers.specs.declared.class_data.EncodedMethod.{EncodedMethod as MethodRead}
 use Rattle.dexmembers.proofs.MethodLists.{places_more, codes_more}
 
@@ -42,7 +42,7 @@ no_methods_read sets lists codes methods none none' = rw (none, none') (record {
 })
 
 module _ (sets lists : List (ℕ × ℕ)) (xs : List MethodRead) (codes new : List NumberedItem) (methods more : List StoredMethod) (x : MethodRead) (flags : ℕ) (code : Option NumberedItem) (place set list : Option ℕ) (grown : more ≡ methods ++ record { number = x.index; flags = flags; code = place; set = set; list = list } ∷ [])
-    (have : HaveReadMethods sets lists xs codes methods) (kept : IsKept code codes new place) where
+    (have : HaveReadMethods sets lists xs codes methods) (kept : IsKeptAt code codes new place) where
   abbrev method : StoredMethod
   method = record { number = x.index; flags = flags; code = place; set = set; list = list }
 

@@ -82,8 +82,10 @@ pub record HasMembersOf (b : List ℕ) (r weight : ℕ) : Type 0 where
 
 -- the directory of the row that has the offset weighs that
 abbrev pub WeighsAnnotations : List ℕ → Mentions → ℕ → DataRead → Result ℕ ItemFault → Type 0
-WeighsAnnotations b m off d result = (r : ℕ) → off ≡ annotations_off b r → ArePools b m → IsDataOf b r m d → IfOk result (HasAnnotationsOf b r m d)
+WeighsAnnotations b m off d result =
+    (r : ℕ) → off ≡ annotations_off b r → ArePools b m → IsDataOf b r m d → IfOk result (HasAnnotationsOf b r m d)
 
 -- the static values of the row that has the offset weigh that
 abbrev pub WeighsValues : List ℕ → Mentions → ℕ → ℕ → Result ℕ ItemFault → Type 0
-WeighsValues b m off fields result = (r : ℕ) → off ≡ static_values_off b r → ArePools b m → IfOk result (HasValuesOf b r fields)
+WeighsValues b m off fields result =
+    (r : ℕ) → off ≡ static_values_off b r → ArePools b m → IfOk result (HasValuesOf b r fields)

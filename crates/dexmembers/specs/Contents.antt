@@ -28,5 +28,6 @@ pub record AreHeld (x : Contents) : Type 0 where
 
 -- members are few, and their places are the table's
 pub record AreKept (x : Contents) : Type 0 where
-  pub few : AreFew (contents_in x).static_fields (contents_in x).instance_fields (contents_in x).direct_methods (contents_in x).virtual_methods
+  pub few : AreFew (contents_in x).static_fields (contents_in x).instance_fields (contents_in x).direct_methods
+      (contents_in x).virtual_methods
   pub held : AreHeld x

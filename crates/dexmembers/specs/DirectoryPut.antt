@@ -52,9 +52,11 @@ method_numbers xs = map (λ x. x.number) xs
 -- methods, and of the lists of sets of its methods' parameters
 abbrev pub numbered_directory_bytes : NumberedMembers → ℕ → List ℕ → List ℕ → List ℕ → List ℕ
 numbered_directory_bytes x own field_offs method_offs parameter_offs =
-    uint own ++ (uint (count_placed field_offs) ++ (uint (count_placed method_offs) ++ (uint (count_placed parameter_offs)
+    uint own
+    ++ (uint (count_placed field_offs) ++ (uint (count_placed method_offs) ++ (uint (count_placed parameter_offs)
     ++ (both_bytes (field_numbers x.static_fields) (field_numbers x.instance_fields) field_offs
-    ++ (both_bytes (method_numbers x.direct_methods) (method_numbers x.virtual_methods) method_offs ++ both_bytes (method_numbers x.direct_methods) (method_numbers x.virtual_methods) parameter_offs)))))
+    ++ (both_bytes (method_numbers x.direct_methods) (method_numbers x.virtual_methods) method_offs
+    ++ both_bytes (method_numbers x.direct_methods) (method_numbers x.virtual_methods) parameter_offs)))))
 
 -- ---- its parts
 
@@ -68,8 +70,11 @@ method_pairs_bytes x offs = both_bytes (method_numbers x.direct_methods) (method
 
 -- the length is that of the directory with these offsets, wherever the class's own set is
 abbrev pub IsDirectoryLen : NumberedMembers → List ℕ → List ℕ → List ℕ → ℕ → Type 0
-IsDirectoryLen x field_offs method_offs parameter_offs len = (own : ℕ) → len ≡ length (numbered_directory_bytes x own field_offs method_offs parameter_offs)
+IsDirectoryLen x field_offs method_offs parameter_offs len =
+    (own : ℕ) → len ≡ length (numbered_directory_bytes x own field_offs method_offs parameter_offs)
 
 -- there is spare room of 16 bytes, and of eight for each offset that is not 0
 abbrev pub HasDirectoryRoom : List ℕ → List ℕ → List ℕ → Vec ℕ → Type 0
-HasDirectoryRoom field_offs method_offs parameter_offs old = vec_len old + (16 + 8 * (count_placed field_offs + count_placed method_offs + count_placed parameter_offs)) ≤ vec_capacity old
+HasDirectoryRoom field_offs method_offs parameter_offs old =
+    vec_len old + (16 + 8 * (count_placed field_offs + count_placed method_offs + count_placed parameter_offs))
+    ≤ vec_capacity old

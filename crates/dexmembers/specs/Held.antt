@@ -25,7 +25,14 @@ field_of sets f = record { number = f.number; flags = f.flags; annotations = set
 
 -- the method, with its set and its list in this table
 abbrev pub method_of : NumberedTable → HeldMethod → NumberedMethod
-method_of t x = record { number = x.number; flags = x.flags; code = x.code; annotations = set_at t.sets x.set; parameter_annotations = sets_at t x.list }
+method_of t x =
+    record {
+      number = x.number;
+      flags = x.flags;
+      code = x.code;
+      annotations = set_at t.sets x.set;
+      parameter_annotations = sets_at t x.list;
+    }
 
 -- the place of the field's set, if it has one, is one of the sets'
 abbrev pub IsHeldField : List NumberedSet → HeldField → Type 0

@@ -38,14 +38,23 @@ pub record NumberedMembers : Type 0 where
 
 -- a class that declares nothing
 abbrev pub no_members : NumberedMembers
-no_members = record { annotations = []; static_fields = []; instance_fields = []; direct_methods = []; virtual_methods = []; static_values = NoValue }
+no_members =
+    record {
+      annotations = [];
+      static_fields = [];
+      instance_fields = [];
+      direct_methods = [];
+      virtual_methods = [];
+      static_values = NoValue;
+    }
 
 -- the static fields, and then the instance fields
 abbrev pub fields_of : NumberedMembers → List NumberedField
 fields_of x = x.static_fields ++ x.instance_fields
 
 -- there are fewer than 2 ^ 32 fields, and fewer than 2 ^ 32 methods
-pub record AreFew (static_fields instance_fields : List NumberedField) (direct_methods virtual_methods : List NumberedMethod) : Type 0 where
+pub record AreFew (static_fields instance_fields : List NumberedField)
+    (direct_methods virtual_methods : List NumberedMethod) : Type 0 where
   pub few_fields : length static_fields + length instance_fields < 2 ^ 32
   pub few_methods : length direct_methods + length virtual_methods < 2 ^ 32
 

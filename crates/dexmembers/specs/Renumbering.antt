@@ -14,7 +14,8 @@ use Rattle.dexmembers.specs.Held.{HeldField, HeldMethod}
 
 -- the field with each number remapped
 abbrev pub renumbered_field : Maps → NumberedField → NumberedField
-renumbered_field r f = record { number = remapped r kinds.Field f.number; flags = f.flags; annotations = renumbered_set r f.annotations }
+renumbered_field r f =
+    record { number = remapped r kinds.Field f.number; flags = f.flags; annotations = renumbered_set r f.annotations }
 
 -- the method
 abbrev pub renumbered_method : Maps → NumberedMethod → NumberedMethod
@@ -43,7 +44,14 @@ remapped_field r f = record { number = remapped r kinds.Field f.number; flags = 
 
 -- the method as it is held, its number and those of its code remapped
 abbrev pub remapped_method : Maps → HeldMethod → HeldMethod
-remapped_method r x = record { number = remapped r kinds.Method x.number; flags = x.flags; code = option_map (renumbered_item r) x.code; set = x.set; list = x.list }
+remapped_method r x =
+    record {
+      number = remapped r kinds.Method x.number;
+      flags = x.flags;
+      code = option_map (renumbered_item r) x.code;
+      set = x.set;
+      list = x.list;
+    }
 
 -- ---- places of numbers
 

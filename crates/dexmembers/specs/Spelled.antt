@@ -29,14 +29,17 @@ numbered_method_bytes last x code_off = uleb128 (x.number - last) ++ (uleb128 x.
 abbrev pub numbered_methods_bytes : ℕ → List NumberedMethod → List ℕ → List ℕ
 numbered_methods_bytes last [] code_offs = []
 numbered_methods_bytes last (x ∷ xs) [] = []
-numbered_methods_bytes last (x ∷ xs) (o ∷ code_offs) = numbered_method_bytes last x o ++ numbered_methods_bytes x.number xs code_offs
+numbered_methods_bytes last (x ∷ xs) (o ∷ code_offs) =
+    numbered_method_bytes last x o ++ numbered_methods_bytes x.number xs code_offs
 
 -- a class_data_item, from the offsets of the code of its methods, the direct ones first
 abbrev pub numbered_class_data_bytes : NumberedMembers → List ℕ → List ℕ
 numbered_class_data_bytes x code_offs =
-    uleb128 (length x.static_fields) ++ (uleb128 (length x.instance_fields) ++ (uleb128 (length x.direct_methods) ++ (uleb128 (length x.virtual_methods)
+    uleb128 (length x.static_fields)
+    ++ (uleb128 (length x.instance_fields) ++ (uleb128 (length x.direct_methods) ++ (uleb128 (length x.virtual_methods)
     ++ (numbered_fields_bytes 0 x.static_fields ++ (numbered_fields_bytes 0 x.instance_fields
-    ++ (numbered_methods_bytes 0 x.direct_methods (take (length x.direct_methods) code_offs) ++ numbered_methods_bytes 0 x.virtual_methods (drop (length x.direct_methods) code_offs)))))))
+    ++ (numbered_methods_bytes 0 x.direct_methods (take (length x.direct_methods) code_offs)
+    ++ numbered_methods_bytes 0 x.virtual_methods (drop (length x.direct_methods) code_offs)))))))
 
 -- the room that is enough for a class_data_item: 20 bytes, ten for each field and 15 for each method
 abbrev pub class_data_room : NumberedMembers → ℕ
@@ -45,4 +48,6 @@ class_data_room x = 20 + 10 * length (fields_of x) + 15 * length (methods_of x)
 -- what is put is the class_data_item of each class definition that the members denote, under a numbering whose symbols
 -- rise
 abbrev pub PutsDenotedClassData : {T E : Type 0} → NumberedMembers → List ℕ → Vec ℕ → Vec ℕ → Result T E → Type 0
-PutsDenotedClassData x code_offs old new r = (m : Mentions) (name : Text) (c : Body) → AreRising m → AreKnownMembers m x → AreOfClass m name x → members_of c ≡ members_in m x → Puts (class_data_bytes m (name, c) code_offs) old new r
+PutsDenotedClassData x code_offs old new r =
+    (m : Mentions) (name : Text) (c : Body) → AreRising m → AreKnownMembers m x → AreOfClass m name x
+    → members_of c ≡ members_in m x → Puts (class_data_bytes m (name, c) code_offs) old new r

@@ -12,11 +12,19 @@ stripped_code c = record { body = c.body; tries = c.tries; debug = None }
 
 -- the method, its code so
 abbrev pub stripped_method : NumberedMethod → NumberedMethod
-stripped_method x = record { number = x.number; flags = x.flags; code = option_map stripped_code x.code; annotations = x.annotations; parameter_annotations = x.parameter_annotations }
+stripped_method x =
+    record {
+      number = x.number;
+      flags = x.flags;
+      code = option_map stripped_code x.code;
+      annotations = x.annotations;
+      parameter_annotations = x.parameter_annotations;
+    }
 
 -- the same of a method as it is held
 abbrev pub stripped_held : HeldMethod → HeldMethod
-stripped_held x = record { number = x.number; flags = x.flags; code = option_map stripped_code x.code; set = x.set; list = x.list }
+stripped_held x =
+    record { number = x.number; flags = x.flags; code = option_map stripped_code x.code; set = x.set; list = x.list }
 
 -- all members, each method so
 abbrev pub stripped_members : NumberedMembers → NumberedMembers

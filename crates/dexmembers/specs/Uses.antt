@@ -18,14 +18,22 @@ field_uses f = record { kind = kinds.Field; number = f.number } ∷ set_uses f.a
 
 -- a declared method, and what its code and its sets name
 abbrev pub method_uses : NumberedMethod → List Use
-method_uses x = record { kind = kinds.Method; number = x.number } ∷ (flat_map item_uses (option_to_list x.code) ++ (set_uses x.annotations ++ flat_map set_uses x.parameter_annotations))
+method_uses x =
+    record { kind = kinds.Method; number = x.number }
+    ∷ (flat_map item_uses (option_to_list x.code)
+    ++ (set_uses x.annotations ++ flat_map set_uses x.parameter_annotations))
 
 -- those of the class's own set, of its fields, of its methods, and of what its static fields begin with
 abbrev pub members_uses : NumberedMembers → List Use
-members_uses x = set_uses x.annotations ++ (flat_map field_uses (fields_of x) ++ (flat_map method_uses (methods_of x) ++ values_uses x.static_values))
+members_uses x =
+    set_uses x.annotations
+    ++ (flat_map field_uses (fields_of x) ++ (flat_map method_uses (methods_of x) ++ values_uses x.static_values))
 
 -- ---- as symbols
 
 -- the symbols that members of the class of this name name, in the same order
 abbrev pub members_symbols : Text → Members → List Symbol
-members_symbols name x = set_symbols x.annotations ++ (flat_map (field_symbols name) (x.static_fields ++ x.instance_fields) ++ (flat_map (method_symbols name) (x.direct_methods ++ x.virtual_methods) ++ values_symbols x.static_values))
+members_symbols name x =
+    set_symbols x.annotations
+    ++ (flat_map (field_symbols name) (x.static_fields ++ x.instance_fields)
+    ++ (flat_map (method_symbols name) (x.direct_methods ++ x.virtual_methods) ++ values_symbols x.static_values))

@@ -21,11 +21,15 @@ numbered_whole_weight c = numbered_code_weight c + sum_by numbered_debug_weight 
 
 -- a declared method with its code, debug program and sets
 abbrev pub numbered_method_weight : NumberedMethod → ℕ
-numbered_method_weight x = 31 + sum_by numbered_whole_weight (option_to_list x.code) + numbered_set_weight x.annotations + numbered_sets_weight x.parameter_annotations
+numbered_method_weight x =
+    31 + sum_by numbered_whole_weight (option_to_list x.code) + numbered_set_weight x.annotations
+    + numbered_sets_weight x.parameter_annotations
 
 -- all that a class declares
 abbrev pub numbered_members_weight : NumberedMembers → ℕ
-numbered_members_weight x = numbered_set_weight x.annotations + sum_by numbered_field_weight (fields_of x) + sum_by numbered_method_weight (methods_of x) + numbered_statics_weight x.static_values
+numbered_members_weight x =
+    numbered_set_weight x.annotations + sum_by numbered_field_weight (fields_of x)
+    + sum_by numbered_method_weight (methods_of x) + numbered_statics_weight x.static_values
 
 -- ---- code apart
 
@@ -47,4 +51,6 @@ own_method_weight x = 31 + numbered_set_weight x.annotations + numbered_sets_wei
 
 -- all that a class declares, without code
 abbrev pub own_members_weight : NumberedMembers → ℕ
-own_members_weight x = numbered_set_weight x.annotations + sum_by numbered_field_weight (fields_of x) + sum_by own_method_weight (methods_of x) + numbered_statics_weight x.static_values
+own_members_weight x =
+    numbered_set_weight x.annotations + sum_by numbered_field_weight (fields_of x)
+    + sum_by own_method_weight (methods_of x) + numbered_statics_weight x.static_values

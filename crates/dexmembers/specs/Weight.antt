@@ -7,7 +7,9 @@ use Rattle.dexpool.specs.Numberings.{AreRising}
 
 -- a class without its row and its interfaces
 abbrev pub members_weight : Members → ℕ
-members_weight x = set_weight x.annotations + sum_by field_weight (x.static_fields ++ x.instance_fields) + sum_by method_weight (x.direct_methods ++ x.virtual_methods) + static_values_weight x.static_values
+members_weight x =
+    set_weight x.annotations + sum_by field_weight (x.static_fields ++ x.instance_fields)
+    + sum_by method_weight (x.direct_methods ++ x.virtual_methods) + static_values_weight x.static_values
 
 -- the weight of what the numbers denote
 abbrev pub weight_in : Mentions → NumberedMembers → ℕ

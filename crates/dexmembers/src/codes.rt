@@ -5,12 +5,13 @@ ghost use Rattle.dexmembers.specs.Checking.{AreCheckedCodes, HasCodeOrNoneOf, Ha
 ghost use Rattle.dexmembers.specs.Weighing.{codes_weight};
 ghost use Rattle.dexmembers.specs.internal.Attaching.{AreHeldMethods, HaveListsBelow, HaveSetsBelow, PlacesBelow, held_codes};
 ghost use Rattle.dexmembers.specs.internal.RowReaders.{IsFile};
-ghost use Rattle.dexmembers.specs.internal.MethodCodes.{IsCodeOrNone, IsCodeOrNoneFault, IsCodesFault, IsCodesFaultWithin, IsKept, optional_code_weight, CodesWithin, ForDenotedOrNone, IsTaken};
+ghost use Rattle.dexmembers.specs.internal.MethodCodes.{IsCodeOrNone, IsCodeOrNoneFault, IsCodesFault, IsCodesFaultWithin, IsKept, IsKeptAt, ArePlacesOfCodes, AreReadCodes, optional_code_weight, CodesWithin, ForDenotedOrNone, IsTaken};
+ghost use Rattle.dexmembers.specs.internal.Stored.{code_at};
 
 use crate::attaching::place_for;
 use crate::class_data::EncodedMethod;
 use crate::encoded_lists::room;
-use crate::method_list::{DeclaredMethod, MethodList};
+use crate::method_list::{DeclaredMethod, MethodList, code_at};
 use crate::places::Place;
 use crate::row_reader::{RowReader, too_heavy};
 use dexcode::{CheckedDebugs, Code, check_code_once, debug_unindexed_law, read_code_in};
@@ -20,15 +21,16 @@ use dexpool::ItemFault;
 use std::alloc::{AllocError, Global};
 use std::collections::HashMap;
 
-// Returns what is left of a weight after the code of a method that may have none, with its debug program, or `None` if
-// the code weighs more.
-fn left_after(left: u64, code: &Option<Code<'_>>) -> Option<u64>
-    ensures symbolic { ForDenotedOrNone code.now (λ m x.
+// Returns what is left of a weight after the code at a place, with its debug program, or `None` if the code weighs more.
+// A method without a place has no code.
+fn left_after(left: u64, codes: &[Code<'_>], place: Place) -> Option<u64>
+    ensures symbolic { ForDenotedOrNone (code_at codes.now place) (λ m x.
         IsTaken left (optional_code_weight x) result) }
-    ensures numbered { IfSome result (λ rest. rest + codes_weight (code.now ∷ []) ≡ left) }
+    ensures numbered { IfSome result
+        (λ rest. rest + codes_weight (code_at codes.now place ∷ []) ≡ left) }
 {
     debug_unindexed_law();
-    let Some(code) = code else {
+    let Some(code) = code_at(codes, place.get()) else {
         return Some(left);
     };
     let rest = left.checked_sub(code.weight())?;
@@ -63,6 +65,14 @@ impl CheckedCodes {
     }
 }
 
+// The code that methods of one list have. Where several methods name one item, it is kept once.
+#[derive(Drop)]
+struct KeptCodes<'a> {
+    items: Vec<Code<'a>>,
+    // The place of each item by its offset, if offsets may come again.
+    places: HashMap<u32, Place>,
+}
+
 // Puts the code, if there is some, at the end of the others, and returns its place.
 fn keep_code<'a>(code: Option<Code<'a>>, kept: &mut Vec<Code<'a>>) -> Result<Place, AllocError>
     ensures { IfOk result (IsKept code.entry kept.old.items kept.new.items) }
@@ -75,6 +85,21 @@ fn keep_code<'a>(code: Option<Code<'a>>, kept: &mut Vec<Code<'a>>) -> Result<Pla
     };
     kept.push(code)?;
     Place::of(Some(place))
+}
+
+// Returns whether methods may share code: their offsets do not rise, as they do where each has code of its own.
+fn may_share_code(listed: &[EncodedMethod]) -> bool {
+    let mut last = 0;
+    for method in listed {
+        if method.code_off == 0 {
+            continue;
+        }
+        if method.code_off <= last {
+            return true;
+        }
+        last = method.code_off;
+    }
+    false
 }
 
 impl<'f> RowReader<'_, 'f, '_> {
@@ -92,9 +117,45 @@ impl<'f> RowReader<'_, 'f, '_> {
         Ok(Some(code))
     }
 
+    // Returns the place among the code that is kept of the code at an offset, which is read if it is not there, or none
+    // at 0. Its place is noted if it may be asked for again.
+    fn place_code(
+        &self,
+        off: u32,
+        is_noted: bool,
+        scratch: &mut Scratch,
+        kept: &mut KeptCodes<'f>,
+    ) -> Result<Place, ItemFault>
+        requires places { ArePlacesOfCodes kept.old }
+        requires known { IsFile self.now
+            → AreReadCodes self.now.frame.now self.now.pools.now kept.old }
+        ensures places { OnOk result (ArePlacesOfCodes kept.new) }
+        ensures known { IsFile self.now
+            → OnOk result (AreReadCodes self.now.frame.now self.now.pools.now kept.new) }
+        ensures kept { IfOk result (λ place.
+            IsKeptAt (code_at kept.new.items.items place) kept.old.items.items kept.new.items.items
+            place) }
+        ensures read { IsFile self.now → IfOk result (λ place.
+            IsCodeOrNone self.now.frame.now off self.now.pools.now
+            (code_at kept.new.items.items place)) }
+        ensures refused { IsFile self.now
+            → IfErr result (IsCodeOrNoneFault self.now.frame.now off) }
+    {
+        if let Some(place) = kept.places.get(&off) {
+            return Ok(*place);
+        }
+        let code = self.code_or_none(off, scratch)?;
+        let place = keep_code(code, &mut kept.items)?;
+        if !is_noted {
+            return Ok(place);
+        }
+        kept.places.insert(off, place)?;
+        Ok(place)
+    }
+
     /// Reads the methods of a list of class data, with their code, each with its debug program, and with the places of
     /// their sets and lists of sets in a directory. Returns them with the weight of their code; a method whose offset is
-    /// 0 has none. All code is read in the same `scratch`.
+    /// 0 has none. All code is read in the same `scratch`, and an item that several of them name is read and kept once.
     ///
     /// Error: `Refused` with 18, 19 or 20, a condition that fails for the code of one of the methods; `Refused(23)` at
     /// the method by which the code weighs more than `most`, and what comes after it is not looked at; `Memory` where an
@@ -123,26 +184,29 @@ impl<'f> RowReader<'_, 'f, '_> {
     {
         self.pools.numbering().is_numbering();
         let with_code = listed.iter().filter(|method| method.code_off != 0).count();
+        let may_share = may_share_code(listed);
         let mut methods = Vec::with_capacity(self.alloc, listed.len())?;
-        let mut code_items = Vec::with_capacity(self.alloc, room(with_code))?;
+        let items = Vec::with_capacity(self.alloc, room(with_code))?;
+        let places = HashMap::new(self.alloc);
+        let mut kept = KeptCodes { items, places };
         let mut left = self.most;
         for method in listed {
-            let code = self.code_or_none(method.code_off, scratch)?;
-            match left_after(left, &code) {
+            let code = self.place_code(method.code_off, may_share, scratch, &mut kept)?;
+            match left_after(left, &kept.items, code) {
                 Some(rest) => left = rest,
                 None => return Err(too_heavy()),
             }
             methods.push(DeclaredMethod {
                 number: method.index,
                 flags: MethodFlags::from_bits_retain(method.flags),
-                code: keep_code(code, &mut code_items)?,
+                code,
                 set: place_for(sets, method.index)?,
                 list: place_for(lists, method.index)?,
             })?;
         }
         let methods = MethodList {
             methods,
-            code_items,
+            code_items: kept.items,
         };
         Ok((methods, self.most - left))
     }

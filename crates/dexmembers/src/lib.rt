@@ -1,9 +1,7 @@
 //! What classes declare: fields and methods, their code and annotations, and the values that static fields begin with.
 //!
-//! Public contracts use the definitions of `specs/Borrowed`, `specs/Checking`, `specs/ClassDefs`, `specs/Contents`,
-//! `specs/DirectoryPut`, `specs/Fitting`, `specs/FormedDirectory`, `specs/Held`, `specs/Laws`, `specs/Numbered`,
-//! `specs/Reading`, `specs/Renumbering`, `specs/Spelled`, `specs/Stripped`, `specs/Uses`, `specs/Weighing` and
-//! `specs/Weight`.
+//! Of the definitions that its contracts use, read `specs/Numbered` (what a class declares, with numbers for symbols,
+//! and what it denotes), `specs/Reading` (when it is refused) and `specs/Spelled` (its bytes) first.
 //!
 //! Source: the Android page "Dalvik Executable format", under the headings "class_data_item", "encoded_field format",
 //! "encoded_method format" and "annotations_directory_item".

@@ -57,7 +57,7 @@ fn names_members<T: Encoded>(
     true
 }
 
-/// Whether the directory at an offset names declared members alone.
+/// Returns whether the directory at an offset names declared members alone.
 pub(crate) fn names_declared(frame: &Frame<'_>, off: u32, declared: &ClassData) -> bool
     ensures listed { IsTrue result → NamesRead frame.now off declared.now }
     ensures missing { FindsNamed frame.now off declared.now result }

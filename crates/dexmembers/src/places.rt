@@ -1,6 +1,6 @@
 //! Places in tables, in four bytes each.
 
-ghost use Rattle.std.specs.Prelude.{◌≡◌, IfOk};
+ghost use Rattle.std.specs.Prelude.{◌≡◌, IfOk, OnErr, Some};
 
 use std::alloc::AllocError;
 use std::marker::Model;
@@ -34,9 +34,10 @@ impl Model for Place {
 impl Place {
     /// The place, or none if there is none.
     ///
-    /// Error: it is 2^32 - 1, for which there is no room.
+    /// Error: exactly where it is 2^32 - 1, for which there is no room.
     pub(crate) fn of(place: Option<u32>) -> Result<Place, AllocError>
-        ensures { IfOk result (λ stored. stored ≡ place) }
+        ensures place { IfOk result (λ stored. stored ≡ place) }
+        ensures room { OnErr result (place ≡ Some 0xffffffff) }
     {
         if place == Some(NO_PLACE) {
             return Err(AllocError);

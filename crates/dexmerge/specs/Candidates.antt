@@ -39,7 +39,8 @@ class_at cs i = slice_index_or cs i no_class
 
 -- class i is the one that is kept of its name
 abbrev pub IsEqualCopy : List NumberedClass → List (Option ℕ) → ℕ → Type 0
-IsEqualCopy cs places i = (k : ℕ) → slice_index_or places (name_number cs i) None ≡ Some k → class_at cs i ≡ class_at cs k
+IsEqualCopy cs places i =
+    (k : ℕ) → slice_index_or places (name_number cs i) None ≡ Some k → class_at cs i ≡ class_at cs k
 
 -- some class of this name is not the one that is kept of the name
 pub record IsConflicting (cs : List NumberedClass) (places : List (Option ℕ)) (name : ℕ) : Type 0 where

@@ -21,7 +21,7 @@ pub(crate) struct Candidate<'a, 'b> {
 }
 
 impl<'a, 'b> Candidate<'a, 'b> {
-    /// Whether the two are the same class of the union.
+    /// Returns whether the two are the same class of the union.
     pub(crate) fn is_same(&self, other: &Candidate<'_, '_>) -> bool
         ensures { IsTrue result ↔ (class_of self.now ≡ class_of other.now) }
     {

@@ -47,7 +47,7 @@ impl<'a> Collected<'a> {
         })
     }
 
-    // Whether there is a class of the name that a class has in the union.
+    // Returns whether there is a class of the name that a class has in the union.
     fn has_name_of(&self, class: &Class<'a>, remap: &Remap) -> bool
         ensures { result ≡ slice_index_or self.now.is_name.items
             (remapped remap.now.types class.now.name) false }

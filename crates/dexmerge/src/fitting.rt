@@ -26,7 +26,7 @@ pub(crate) fn weight(numbering: &Numbering<'_>, classes: &[Candidate<'_, '_>]) -
     weight
 }
 
-// Whether there are more symbols of a kind than a cap allows.
+// Returns whether there are more symbols of a kind than a cap allows.
 fn has_more(numbering: &Numbering<'_>, kind: SymbolKind, cap: u32) -> bool
     ensures { result ≡ nat_lt cap (count_of kind numbering.now) }
 {
@@ -48,8 +48,8 @@ pub(crate) fn greatest_short_string(classes: &[Candidate<'_, '_>]) -> Option<usi
     greatest
 }
 
-// Whether the number of a text that a `const-string` names is not below a cap. No code is read where there are no more
-// texts than the cap.
+// Returns whether the number of a text that a `const-string` names is not below a cap. No code is read where there are
+// no more texts than the cap.
 fn has_text_from(numbering: &Numbering<'_>, classes: &[Candidate<'_, '_>], cap: u32) -> bool
     requires parts { All (IsOfPart numbering.now) classes.now }
     requires known { All (IsKnownClass numbering.now) (classes_of classes.now) }
@@ -61,7 +61,7 @@ fn has_text_from(numbering: &Numbering<'_>, classes: &[Candidate<'_, '_>], cap: 
     greatest_short_string(classes).is_some_and(|number| number >= cap as usize)
 }
 
-// Whether the classes weigh more than a cap allows.
+// Returns whether the classes weigh more than a cap allows.
 fn is_heavier(numbering: &Numbering<'_>, classes: &[Candidate<'_, '_>], caps: &Caps) -> bool
     requires { All (IsOfPart numbering.now) classes.now }
     ensures { result ≡ nat_lt caps.now.weight (weight_over numbering.now (classes_of classes.now)) }

@@ -2,8 +2,8 @@
 //!
 //! What can be merged, caps, plans and the causes for which there is no merged file are this project's rules.
 //!
-//! Public contracts use the definitions of `specs/Candidates`, `specs/CapKinds`, `specs/Capping`, `specs/Counting`,
-//! `specs/Faults`, `specs/Parts` and `specs/Plans`.
+//! Of the definitions that its contracts use, read `specs/Faults` (what a merge returns), `specs/Plans` and
+//! `specs/Counting` first; what a union is, `dexspec`'s `Merging` says.
 #![tactic(auto)]
 
 mod candidates;

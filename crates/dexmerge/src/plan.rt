@@ -46,7 +46,7 @@ fn mark_files(plan: &Plan, depth: usize, is_named: &mut Vec<bool>) -> bool
     }
 }
 
-/// Whether the plan names each of `files` files and no other, and is at most 64 deep.
+/// Returns whether the plan names each of `files` files and no other, and is at most 64 deep.
 pub fn is_plan_for(alloc: Global, plan: &Plan, files: usize) -> Result<bool, AllocError>
     ensures { IfOk result (ReportsPlanFor files (plan_of plan.now)) }
 {

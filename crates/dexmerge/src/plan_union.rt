@@ -72,7 +72,7 @@ pub fn merge_plan<'a>(
     Ok(merge_parts(alloc, files, plan, caps)?)
 }
 
-// Whether the plan is a file or a node of files.
+// Returns whether the plan is a file or a node of files.
 fn is_flat(plan: &Plan) -> bool {
     match plan {
         Plan::Leaf(_) => true,

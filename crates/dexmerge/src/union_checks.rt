@@ -133,8 +133,8 @@ pub(crate) fn one_of_each<'a, 'b>(
     }
 }
 
-/// Whether the classes of parts can be merged. Returns the depths of the classes: there is a place for each type of the
-/// numbering, and at the number of each class's name the depth of that class.
+/// Returns whether the classes of parts can be merged. Returns the depths of the classes: there is a place for each
+/// type of the numbering, and at the number of each class's name the depth of that class.
 ///
 /// Condition: the numbering is that of all parts, and there is a map of each part into it. Error: the first cause
 /// why they cannot; or `Memory` if an allocation failed.

@@ -18,7 +18,8 @@ classes_of_types by_type types = present (map (λ t. slice_index_or by_type t No
 
 -- the classes of the superclass and the interfaces of a class
 abbrev pub AreParentsOf : {C : Type 0} → List (Option ℕ) → (C → Option ℕ) → (C → List ℕ) → C → List ℕ → Type 0
-AreParentsOf by_type superclass_of interfaces_of c classes = classes ≡ classes_of_types by_type (parent_types (superclass_of c) (interfaces_of c))
+AreParentsOf by_type superclass_of interfaces_of c classes =
+    classes ≡ classes_of_types by_type (parent_types (superclass_of c) (interfaces_of c))
 
 -- the classes of these names and parents: for each class the parents that are classes
 pub record IsHierarchyOf (names : List ℕ) (parents : List (List ℕ)) (classes : List (List ℕ)) : Type 0 where
@@ -27,8 +28,10 @@ pub record IsHierarchyOf (names : List ℕ) (parents : List (List ℕ)) (classes
   pub is : classes ≡ map (classes_of_types by_type) parents
 
 -- these classes, by their names, superclasses and interfaces
-abbrev pub IsHierarchyOfClasses : {C : Type 0} → (C → ℕ) → (C → Option ℕ) → (C → List ℕ) → List C → List (List ℕ) → Type 0
-IsHierarchyOfClasses name_of superclass_of interfaces_of cs = IsHierarchyOf (map name_of cs) (map (λ c. parent_types (superclass_of c) (interfaces_of c)) cs)
+abbrev pub IsHierarchyOfClasses : {C : Type 0} → (C → ℕ) → (C → Option ℕ) → (C → List ℕ) → List C → List (List ℕ)
+    → Type 0
+IsHierarchyOfClasses name_of superclass_of interfaces_of cs =
+    IsHierarchyOf (map name_of cs) (map (λ c. parent_types (superclass_of c) (interfaces_of c)) cs)
 
 -- each class has a depth
 abbrev pub AllHaveDepths : List (Option ℕ) → Type 0

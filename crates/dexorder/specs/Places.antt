@@ -17,7 +17,8 @@ class_cmp x y = ordering_then (nat_cmp x.0 y.0) (nat_cmp x.1 y.1)
 
 -- the place of class i with the number of the class
 abbrev pub place_of : List (Option ℕ) → List ℕ → ℕ → Place
-place_of depths names i = record { depth = (class_place depths names i).0; name = (class_place depths names i).1; class = i }
+place_of depths names i =
+    record { depth = (class_place depths names i).0; name = (class_place depths names i).1; class = i }
 
 -- the place of each class before sorting
 abbrev pub places_of : List (Option ℕ) → List ℕ → List Place

@@ -64,7 +64,7 @@ impl Hierarchy {
         self.spans.len()
     }
 
-    /// Whether there is no class.
+    /// Returns whether there is no class.
     pub fn is_empty(&self) -> bool
         ensures { IsTrue result ↔ (self.now ≡ []) }
     {

@@ -1,8 +1,8 @@
 //! The depths of classes below their defined superclasses and interfaces, and the order of the classes of a file: by
 //! depth, then by name. Classes and names are numbers here.
 //!
-//! Public contracts use the definitions of `specs/Definitions`, `specs/Depths`, `specs/Parents`, `specs/Places` and
-//! `specs/Spans`.
+//! Of the definitions that its contracts use, read `specs/Depths`, `specs/Places` (the order by depth, then by name)
+//! and `specs/Definitions` (what both say of class definitions) first.
 //!
 //! Source: the Android page "Dalvik Executable format", under the heading "class_defs": a class comes after its
 //! superclass and interfaces. The order by depth, then by name, is this project's rule.

@@ -1,6 +1,7 @@
 //! Output to a device through a buffer, and what is printed: texts and numbers.
 //!
-//! Public contracts use the definitions of `specs/Output`, `specs/Printed`, `specs/Took` and `specs/Written`.
+//! Of the definitions that its contracts use, read `specs/Output` (what an output has after a write), `specs/Printed`
+//! (texts and numbers as they are printed) and `specs/Written` first.
 #![tactic(auto)]
 
 mod faults;

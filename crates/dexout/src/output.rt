@@ -146,7 +146,7 @@ impl<T: Target> Out<T> {
         self.buffer.clear();
     }
 
-    /// Whether the target has failed, as an error.
+    /// Returns whether the target has failed, as an error.
     pub fn result(&self) -> Result<(), StoreFault>
         ensures { result ≡ result_of self.now.failed }
     {

@@ -26,6 +26,7 @@ pub mod Moved
 pub mod JoinedLevels
 pub mod StoredProtos
 pub mod SharedLists
+pub mod JoinedLists
 pub mod JoinedTables
 pub mod UnionLaws
 pub mod MappingAll

@@ -4,7 +4,7 @@ use Rattle.dexpool.proofs.Common.{◌≡◌, ℕ, ◌-◌, List, [], ◌∷◌, 
 -- ---- the shared list
 
 -- a part stays as it was where the list grows
-span_grown : (xs ys : List ℕ) (s : Span) → HasSpan xs s → span_of (xs ++ ys) s ≡ span_of xs s
+pub span_grown : (xs ys : List ℕ) (s : Span) → HasSpan xs s → span_of (xs ++ ys) s ≡ span_of xs s
 span_grown xs ys s h =
     ap (λ (l : List ℕ). take (s.end - s.start) l) (drop-append-le s.start xs ys (omega (arith, h.ordered, h.within)))
     ∙ take-append-le (s.end - s.start) (drop s.start xs) ys (omega (arith, h.ordered, h.within, length-drop s.start xs))

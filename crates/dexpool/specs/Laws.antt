@@ -53,18 +53,24 @@ RanksGrowInUnions = (ms : List Mentions) (m : Mentions) → Contains ms m → Ar
 
 -- of no kind are there more symbols in a union than in its parts together
 abbrev pub UnionsAddNone : Type 0
-UnionsAddNone = (ms : List Mentions) (kind : SymbolKind) → count_of kind (union_of ms) ≤ sum_by (λ m. count_of kind m) ms
+UnionsAddNone =
+    (ms : List Mentions) (kind : SymbolKind) → count_of kind (union_of ms) ≤ sum_by (λ m. count_of kind m) ms
 
 -- what definitions of several lists mention is the union of what those of each list mention
 abbrev pub MentionsAreUnions : Type 0
-MentionsAreUnions = (parts : List (List Definition)) → mentions (flat_map (λ part. part) parts) ≡ union_of (map mentions parts)
+MentionsAreUnions =
+    (parts : List (List Definition)) → mentions (flat_map (λ part. part) parts) ≡ union_of (map mentions parts)
 
 -- ---- marks
 
 -- what was marked stays marked
 abbrev pub MarksStay : Type 0
-MarksStay = (us : List Use) (old new : Marks) → AreMarkedToo us old new → (vs : List Use) → All (IsMarkedUse old) vs → All (IsMarkedUse new) vs
+MarksStay =
+    (us : List Use) (old new : Marks) → AreMarkedToo us old new → (vs : List Use) → All (IsMarkedUse old) vs
+    → All (IsMarkedUse new) vs
 
 -- where each marked number has an image, so has each symbol that is marked
 abbrev pub MarkedAreMapped : Type 0
-MarkedAreMapped = (marks : Marks) (r : Maps) → MapsMarked marks r → (us : List Use) → All (IsMarkedUse marks) us → All (IsMappedUse r) us
+MarkedAreMapped =
+    (marks : Marks) (r : Maps) → MapsMarked marks r → (us : List Use) → All (IsMarkedUse marks) us
+    → All (IsMappedUse r) us

@@ -18,7 +18,8 @@ use Rattle.dexrows.specs.declared.methods.MethodRow.{MethodRow}
 use Rattle.dexpool.specs.Tables.{text_of, type_of, span_of, proto_of, field_of, method_of}
 
 -- the rows before row i are these, and the condition holds at each
-pub record ReadTo {X : Type 0} (Row : List ℕ → ℕ → X → Type 0) (Holds : List ℕ → ℕ → Type 0) (b : List ℕ) (xs : List X) (i : ℕ) : Type 0 where
+pub record ReadTo {X : Type 0} (Row : List ℕ → ℕ → X → Type 0) (Holds : List ℕ → ℕ → Type 0) (b : List ℕ) (xs : List X)
+    (i : ℕ) : Type 0 where
   pub count : length xs ≡ i
   pub each : (k : ℕ) (d : X) → k < i → Row b k (slice_index_or xs k d)
   pub held : (k : ℕ) → k < i → Holds b k
@@ -138,13 +139,15 @@ pub record HasProtoNumbers (b : List ℕ) (parameters : List ℕ) (i : ℕ) (p :
   pub span : HasSpan parameters p.parameters
 
 -- row i is the proto of these numbers
-pub record ProtoRowAt (texts : List Text) (types : List ℕ) (parameters : List ℕ) (b : List ℕ) (i : ℕ) (p : ProtoEntry) : Type 0 where
+pub record ProtoRowAt (texts : List Text) (types : List ℕ) (parameters : List ℕ) (b : List ℕ) (i : ℕ) (p : ProtoEntry) :
+    Type 0 where
   pub numbers : HasProtoNumbers b parameters i p
   pub is : rows.ProtoRow b i (proto_of texts types parameters p)
 
 -- each index names a type
 abbrev pub AllTypes : List ℕ → List Text → List ℕ → List ℕ → Type 0
-AllTypes b texts types ns = (k : ℕ) (d : ℕ) → k < length ns → TypeRow b (slice_index_or ns k d) (type_of texts types (slice_index_or ns k d))
+AllTypes b texts types ns =
+    (k : ℕ) (d : ℕ) → k < length ns → TypeRow b (slice_index_or ns k d) (type_of texts types (slice_index_or ns k d))
 
 -- the letters of types in a shorty
 abbrev pub letters_of : List Text → List ℕ → List ℕ → List ℕ
@@ -152,7 +155,8 @@ letters_of texts types ns = map shorty_letter (map (type_of texts types) ns)
 
 -- the protos of all rows
 abbrev pub AreProtos : List ℕ → List Text → List ℕ → List ℕ → List ProtoEntry → Type 0
-AreProtos b texts types parameters protos = ReadTo (ProtoRowAt texts types parameters) HasProto b protos (table_size b ProtoIds)
+AreProtos b texts types parameters protos =
+    ReadTo (ProtoRowAt texts types parameters) HasProto b protos (table_size b ProtoIds)
 
 -- ---- methods
 
@@ -168,10 +172,12 @@ pub record HasMethodNumbers (b : List ℕ) (i : ℕ) (m : MethodRow) : Type 0 wh
   pub name : uint_at b (row_at b MethodIds i + 4) ≡ m.name
 
 -- row i is the method of these numbers
-pub record MethodRowAt (texts : List Text) (types : List ℕ) (parameters : List ℕ) (protos : List ProtoEntry) (b : List ℕ) (i : ℕ) (m : MethodRow) : Type 0 where
+pub record MethodRowAt (texts : List Text) (types : List ℕ) (parameters : List ℕ) (protos : List ProtoEntry)
+    (b : List ℕ) (i : ℕ) (m : MethodRow) : Type 0 where
   pub numbers : HasMethodNumbers b i m
   pub is : rows.MethodRow b i (method_of texts types parameters protos m)
 
 -- the methods of all rows
 abbrev pub AreMethods : List ℕ → List Text → List ℕ → List ℕ → List ProtoEntry → List MethodRow → Type 0
-AreMethods b texts types parameters protos methods = ReadTo (MethodRowAt texts types parameters protos) HasMethod b methods (table_size b MethodIds)
+AreMethods b texts types parameters protos methods =
+    ReadTo (MethodRowAt texts types parameters protos) HasMethod b methods (table_size b MethodIds)

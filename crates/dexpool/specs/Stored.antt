@@ -47,7 +47,9 @@ pub record IsProtoEntry (t : Tables) (p : ProtoEntry) : Type 0 where
   pub return_in : p.return_type < length t.types.items
   pub parameters_in : All (IsTypeOf IsValueType t) (span_of t.parameters p.parameters)
   pub shorty_in : p.shorty < length t.strings.items
-  pub shorty_is : text_of t.strings.items p.shorty ≡ shorty (type_of t.strings.items t.types.items p.return_type) (map (type_of t.strings.items t.types.items) (span_of t.parameters p.parameters))
+  pub shorty_is : text_of t.strings.items p.shorty
+      ≡ shorty (type_of t.strings.items t.types.items p.return_type)
+      (map (type_of t.strings.items t.types.items) (span_of t.parameters p.parameters))
 
 -- the row's numbers are in range, and make a field
 pub record IsFieldRow (t : Tables) (f : FieldRow) : Type 0 where

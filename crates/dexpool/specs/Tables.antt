@@ -30,11 +30,13 @@ proto_of texts types parameters p = record {
 
 -- the field of a row
 abbrev pub field_of : List Text → List ℕ → FieldRow → Field
-field_of texts types f = record { class = type_of texts types f.class; name = text_of texts f.name; type = type_of texts types f.typ }
+field_of texts types f =
+    record { class = type_of texts types f.class; name = text_of texts f.name; type = type_of texts types f.typ }
 
 -- the proto at a place, or one of nothing
 abbrev pub proto_at : List ProtoEntry → ℕ → ProtoEntry
-proto_at protos n = slice_index_or protos n (record { shorty = 0; return_type = 0; parameters = record { start = 0; end = 0 } })
+proto_at protos n =
+    slice_index_or protos n (record { shorty = 0; return_type = 0; parameters = record { start = 0; end = 0 } })
 
 -- the method of a row
 abbrev pub method_of : List Text → List ℕ → List ℕ → List ProtoEntry → MethodRow → Method

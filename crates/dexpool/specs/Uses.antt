@@ -45,7 +45,8 @@ occurs us kind i = list_any (λ u. same_kind u.kind kind && u.number == i) us
 -- The marks are the old ones and those of what occurs.
 pub record AreMarkedToo (us : List Use) (old new : Marks) : Type 0 where
   pub count : (kind : SymbolKind) → length (marks_of kind new) ≡ length (marks_of kind old)
-  pub each : (kind : SymbolKind) (i : ℕ) → slice_index_or (marks_of kind new) i false ≡ (slice_index_or (marks_of kind old) i false || occurs us kind i)
+  pub each : (kind : SymbolKind) (i : ℕ)
+      → slice_index_or (marks_of kind new) i false ≡ (slice_index_or (marks_of kind old) i false || occurs us kind i)
 
 -- it is marked
 abbrev pub IsMarkedUse : Marks → Use → Type 0
@@ -57,4 +58,5 @@ IsMappedUse r u = IsSome (image_of r u.kind u.number)
 
 -- each number that is marked has an image
 abbrev pub MapsMarked : Marks → Maps → Type 0
-MapsMarked marks r = (kind : SymbolKind) (i : ℕ) → slice_index_or (marks_of kind marks) i false ≡ true → IsSome (image_of r kind i)
+MapsMarked marks r =
+    (kind : SymbolKind) (i : ℕ) → slice_index_or (marks_of kind marks) i false ≡ true → IsSome (image_of r kind i)

@@ -5,6 +5,8 @@ ghost use Rattle.std.specs.Prelude.{◌≡◌, ℕ, ◌+◌, ◌<◌, length, ma
 ghost use Rattle.dexrows.specs.Join.{AreSorted};
 ghost use Rattle.dexpool.specs.Numberings.{IsNumbering, union_of, PartsMapTo};
 ghost use Rattle.dexpool.specs.Orderly.{KeepOrder};
+ghost use Rattle.dexpool.specs.internal.Renumbering.{HasSpans, numbers_in};
+ghost use Rattle.dexpool.specs.internal.SharedLists.{AreTablesJoined};
 ghost use Rattle.dexpool.specs.internal.Joining.{JoinsRows, AreTextsOf, AreTypesOf, AreProtosOf, AreFieldsOf, AreMethodsOf, MovesTextsOf, MovesTypesOf, total_maps, HaveSameParts, HavePart, SameFrom, AreRemapsOf};
 ghost use Rattle.std.specs.List.{AllZip};
 ghost use Rattle.dexpool.specs.Laws.{MapsAll};
@@ -15,7 +17,7 @@ use crate::protos::Protos;
 use crate::remap::{Images, Remap};
 use crate::renumbering::{
     descriptors, proto_rows, renumbered_protos, renumbered_rows, renumbered_types, sorted_law,
-    stored,
+    stored, stored_together,
 };
 use dexrows::{FieldRow, Joined, LowerPlaces, MethodRow, ProtoRow, Row, TypeRow, join};
 use dexstr::{KeyedText, Text};
@@ -159,7 +161,8 @@ impl LowerJoined<'_, '_, '_> {
         requires part { part < length self.now.parts.now }
         requires strings { AreTextsOf self.now.parts.now self.now.strings.now }
         requires types { AreTypesOf self.now.parts.now self.now.strings.now self.now.types.now }
-        ensures strings { MovesTextsOf self.now.parts.now self.now.strings.now part result.strings.now }
+        ensures strings { MovesTextsOf self.now.parts.now self.now.strings.now part
+            result.strings.now }
         ensures types { MovesTypesOf
             self.now.parts.now self.now.strings.now self.now.types.now part result.types.now }
         ensures protos { result.protos.now ≡ protos.now }
@@ -192,9 +195,32 @@ impl LowerJoined<'_, '_, '_> {
         }
         let joined = join_rows(self.alloc, &rows)?;
         Ok(JoinedProtos {
-            table: stored(self.alloc, &joined.rows)?,
+            table: self.stored_protos(&tables, &joined)?,
             images: joined.images,
         })
+    }
+
+    // The joined rows of tables as a table. Where its rows name more parameters than the tables have, they share them.
+    fn stored_protos(
+        &self,
+        tables: &[Protos],
+        joined: &Joined<ProtoRow<'_>>,
+    ) -> Result<Protos, AllocError>
+        requires spans { All HasSpans tables.now }
+        requires joined { AreTablesJoined tables.now joined.now }
+        ensures spans { IfOk result HasSpans }
+        ensures rows { IfOk result (λ table. numbers_in table ≡ joined.now.rows.items) }
+    {
+        let kept = tables.iter().fold(0, |count: usize, table| {
+            count.saturating_add(table.parameters.len())
+        });
+        let named = joined.rows.iter().fold(0, |count: usize, row| {
+            count.saturating_add(row.parameters().len())
+        });
+        if named > kept {
+            return stored_together(self.alloc, tables, joined);
+        }
+        stored(self.alloc, &joined.rows)
     }
 
     // The fields of all parts, by the joined texts and types.

@@ -1,9 +1,9 @@
 //! The five pools of a file: texts, types, protos, fields and methods, each in a sorted table whose rows
 //! name rows of the tables before it.
 //!
-//! Public contracts use the definitions of `specs/Cut`, `specs/Faults`, `specs/Images`, `specs/Laws`, `specs/Lists`,
-//! `specs/Numberings`, `specs/Orderly`, `specs/Owned`, `specs/Packed`, `specs/Pools`, `specs/Reading`, `specs/Stored`
-//! and `specs/Uses`.
+//! Of the definitions that its contracts use, read `specs/Numberings` (five sets of symbols, and maps between them),
+//! `specs/Faults` (why pools are refused) and `specs/Uses` (the symbols that occur in an item, and marks on them)
+//! first.
 //!
 //! Source: the Android page "Dalvik Executable format", under the headings "string_id_item",
 //! "type_id_item", "proto_id_item", "field_id_item", "method_id_item" and "type_list".

@@ -67,7 +67,7 @@ impl Marks {
         }
     }
 
-    // Whether every symbol is marked.
+    // Returns whether every symbol is marked.
     pub(crate) fn are_all(&self) -> bool
         ensures { IsTrue result ↔ HaveAllMarks self.now }
     {
@@ -79,7 +79,7 @@ impl Marks {
     }
 }
 
-// Whether each of the marks is set.
+// Returns whether each of the marks is set.
 fn are_set(marks: &[bool]) -> bool
     ensures { IsTrue result ↔ All IsTrue marks.now }
 {

@@ -40,8 +40,8 @@ impl<'p, 'a> Names<'p, 'a> {
     }
 }
 
-/// Whether the text is the name of a member. `is_known` says of it whether it was found to be one before, and then it is
-/// not gone over again, however many rows have that name.
+/// Returns whether the text is the name of a member. `is_known` says of it whether it was found to be one before, and
+/// then it is not gone over again, however many rows have that name.
 pub(crate) fn is_known_name(name: &Text<'_>, is_known: &mut bool) -> bool
     requires { IsTrue is_known.old → IsMemberName name.now }
     ensures known { IsTrue is_known.new → IsMemberName name.now }

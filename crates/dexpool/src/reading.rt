@@ -53,7 +53,8 @@ pub(crate) trait TableReader {
         requires row { i < rows_checked condition (file self.now) }
         ensures memory { IfOk result (λ _. remembers self.now memory.new) }
         ensures row { IfOk result (λ found.
-            MatchOption found (Holds condition (file self.now) i → ⊥) (is_row self.now (file self.now) i)) };
+            MatchOption found (Holds condition (file self.now) i → ⊥)
+            (is_row self.now (file self.now) i)) };
 
     /// The order of two rows of the file.
     fn compare(&self, left: &Self::Row, right: &Self::Row) -> Ordering
@@ -72,7 +73,8 @@ pub(crate) trait TableReader {
 #[tactic(auto, using(crate::proofs::Steps::above_is))]
 fn is_above<R: TableReader>(reader: &R, rows: &[R::Row], row: &R::Row) -> bool
     requires reader { R.can_read reader.now }
-    requires rows { (k : ℕ) (d : R.Row) → k < length rows.now → R.is_row reader.now (R.file reader.now) k (slice_index_or rows.now k d) }
+    requires rows { (k : ℕ) (d : R.Row) → k < length rows.now
+        → R.is_row reader.now (R.file reader.now) k (slice_index_or rows.now k d) }
     requires row { (k : ℕ) × R.is_row reader.now (R.file reader.now) k row.now }
     ensures { result ≡ is_above_last (R.row_cmp reader.now) row.now rows.now }
 {
@@ -91,11 +93,13 @@ fn next_row<R: TableReader>(
 ) -> Result<Option<R::Row>, AllocError>
     requires reader { R.can_read reader.now }
     requires memory { R.remembers reader.now memory.old }
-    requires rows { ReadTo (R.is_row reader.now) (Holds R.condition) (R.file reader.now) rows.now i }
+    requires rows { ReadTo (R.is_row reader.now) (Holds R.condition) (R.file reader.now) rows.now
+        i }
     requires row { i < rows_checked R.condition (R.file reader.now) }
     ensures memory { IfOk result (λ _. R.remembers reader.now memory.new) }
     ensures row { IfOk result (λ found.
-        MatchOption found (Holds R.condition (R.file reader.now) i → ⊥) (IsNextRow R.condition (R.is_row reader.now) (R.file reader.now) i)) }
+        MatchOption found (Holds R.condition (R.file reader.now) i → ⊥)
+        (IsNextRow R.condition (R.is_row reader.now) (R.file reader.now) i)) }
 {
     reader.law();
     match reader.row_at(memory, i)? {
@@ -115,7 +119,8 @@ pub(crate) fn read_table<R: TableReader>(
     requires reader { R.can_read reader.now }
     requires memory { R.remembers reader.now memory.old }
     requires before { HoldBelow (number R.condition) (R.file reader.now) }
-    ensures ok { IfOk result (λ rows. AreAllRows R.condition (R.is_row reader.now) (R.file reader.now) rows.items) }
+    ensures ok { IfOk result
+        (λ rows. AreAllRows R.condition (R.is_row reader.now) (R.file reader.now) rows.items) }
     ensures below { OnOk result (HoldBelow (number R.condition + 1) (R.file reader.now)) }
     ensures memory { OnOk result (R.remembers reader.now memory.new) }
     ensures err { IfErr result (IsFault (R.file reader.now)) }

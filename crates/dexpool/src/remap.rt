@@ -1,9 +1,11 @@
 //! Maps from the numbers of one numbering to those of another, in four bytes for each number.
 
-ghost use Rattle.std.specs.Prelude.{◌≡◌, [], unwrap_or, Some, IfOk, map};
+ghost use Rattle.std.specs.Prelude.{◌≡◌, ◌↔◌, ◌==◌, ◌+◌, ◌^◌, ◌≤◌, [], false, unwrap_or, Some, IsOk, IfOk, OnOk, OnErr, length, map, vec_len, vec_capacity};
+ghost use Rattle.std.specs.List.{list_any};
 ghost use Rattle.dexpool.specs.Cut.{places};
 ghost use Rattle.dexpool.specs.Numberings.{image_of, image};
 ghost use Rattle.dexpool.specs.Orderly.{KeepOrder};
+ghost use Rattle.dexpool.specs.Packed.{image_in};
 ghost use Rattle.dexpool.specs.internal.Closing.{number_or_none};
 
 use crate::symbols::SymbolKind;
@@ -28,6 +30,28 @@ impl Model for Images {
     ghost view = { λ images. map image_in images.numbers.items };
 }
 
+// Puts for each mark its place among those that are set, or what is stored for none, into an empty vector with room for
+// them. Error: one of the places is 2^32 - 1, for which there is no room.
+fn put_places(marks: &[bool], stored: &mut Vec<u32>) -> Result<(), AllocError>
+    requires empty { stored.old.items ≡ [] }
+    requires room { vec_len stored.old + length marks.now ≤ vec_capacity stored.old }
+    ensures places { OnOk result (map image_in stored.new.items ≡ places 0 marks.now) }
+    ensures room { OnErr result (2 ^ 32 ≤ length marks.now) }
+{
+    let mut count: u32 = 0;
+    for is_marked in marks {
+        if !*is_marked {
+            stored.push_reserved(NO_IMAGE);
+        } else if count < NO_IMAGE {
+            stored.push_reserved(count);
+            count += 1;
+        } else {
+            return Err(AllocError);
+        }
+    }
+    Ok(())
+}
+
 impl Images {
     /// The images of no number.
     pub(crate) fn none(alloc: Global) -> Images
@@ -40,31 +64,24 @@ impl Images {
 
     /// For each mark its place among those that are set, or none where it is not set.
     ///
-    /// Error: the memory for the places was refused, or one of them is 2^32 - 1, for which there is no room.
+    /// Error: the memory for the places was refused, or there are more than 2^32 - 1 marks, and one of the places is
+    /// 2^32 - 1, for which there is no room.
     pub(crate) fn places(alloc: Global, marks: &[bool]) -> Result<Images, AllocError>
         ensures { IfOk result (λ images. images ≡ places 0 marks.now) }
     {
         let mut places = Vec::with_capacity(alloc, marks.len())?;
-        let mut count: u32 = 0;
-        for is_marked in marks {
-            if !*is_marked {
-                places.push(NO_IMAGE)?;
-            } else if count < NO_IMAGE {
-                places.push(count)?;
-                count += 1;
-            } else {
-                return Err(AllocError);
-            }
-        }
+        put_places(marks, &mut places)?;
         Ok(Images { numbers: places })
     }
 
     /// These images, one for each number. They are not copied.
     ///
-    /// Error: one of them is 2^32 - 1, for which there is no room.
+    /// Error: exactly where one of them is 2^32 - 1, for which there is no room.
     #[tactic(auto, using(crate::proofs::StoredImages::all_present))]
     pub(crate) fn of_all(numbers: Vec<u32>) -> Result<Images, AllocError>
-        ensures { IfOk result (λ images. images ≡ map Some numbers.items) }
+        ensures images { IfOk result (λ images. images ≡ map Some numbers.items) }
+        ensures room { IsOk result
+            ↔ list_any (λ number. number == 0xffffffff) numbers.items ≡ false }
     {
         if numbers.contains(&NO_IMAGE) {
             return Err(AllocError);

@@ -1,16 +1,16 @@
 //! Rows whose numbers are replaced by those of the same symbols in other tables. Lists of parameters that rows share or
 //! that overlap are renumbered all at once.
 
-ghost use Rattle.std.specs.Prelude.{◌≡◌, ◌<◌, ◌++◌, length, map, All, IfOk, OnOk, slice_index, ℕ, List};
+ghost use Rattle.std.specs.Prelude.{◌≡◌, ◌<◌, ◌+◌, ◌++◌, ◌^◌, length, map, All, IfOk, OnOk, slice_index, ℕ, List};
 ghost use Rattle.dexrows.specs.Numbers.{among_of, lower_of};
 ghost use Rattle.dexpool.specs.internal.Renumbering.{StaySorted, moved_type, IsEntryWithin, HasSpans, numbers_in, AreMovedProtos};
 ghost use Rattle.dexpool.specs.Reading.{HasSpan};
-ghost use Rattle.dexpool.specs.internal.SharedLists.{Covers, IsPlaceWithin};
+ghost use Rattle.dexpool.specs.internal.SharedLists.{Covers, IsPlaceWithin, ArePlaced, HaveParameters, AreTablesJoined};
 
 use crate::lists::Parameters;
 use crate::protos::Protos;
 use crate::rows::{ProtoEntry, Span};
-use dexrows::{LowerPlaces, ProtoRow, Row, TypeNumbers, TypeRow};
+use dexrows::{Joined, LowerPlaces, ProtoRow, Row, TypeNumbers, TypeRow};
 use std::alloc::{AllocError, Global};
 
 /// The rows of types, by the images of their texts.
@@ -74,7 +74,8 @@ pub(crate) fn renumbered_protos(
     lower: LowerPlaces<'_>,
 ) -> Result<Protos, AllocError>
     requires { All
-        (IsEntryWithin (length lower.strings.now) (length lower.types.now) parameters.now) rows.items }
+        (IsEntryWithin (length lower.strings.now) (length lower.types.now) parameters.now)
+        rows.items }
     ensures spans { IfOk result HasSpans }
     ensures rows { IfOk result
         (AreMovedProtos lower.entry.strings.now lower.entry.types.now
@@ -141,6 +142,69 @@ pub(crate) fn stored(alloc: Global, protos: &[ProtoRow<'_>]) -> Result<Protos, A
         })?;
     }
     Ok(Protos { rows, parameters })
+}
+
+// Where the parameters of rows are, in a list that has those of their table from `base` on: each at the image of its row.
+fn place_rows(places: &mut Vec<Span>, rows: &[ProtoEntry], images: &[u32], base: usize)
+    requires count { length images.now ≡ length rows.now }
+    requires within { All (λ k. k < length places.old.items) images.now }
+    requires fits { All
+        (λ p. (base + p.parameters.start < 2 ^ 64) × (base + p.parameters.end < 2 ^ 64)) rows.now }
+    ensures { ArePlaced base rows.now images.now places.old.items places.new.items }
+{
+    for i in 0..rows.len() {
+        let Span { start, end } = rows[i].parameters;
+        places[images[i] as usize] = Span {
+            start: base + start,
+            end: base + end,
+        };
+    }
+}
+
+// The rows as a table, with these parameters, which are at these places.
+fn placed(
+    protos: &[ProtoRow<'_>],
+    parameters: Vec<usize>,
+    places: &[Span],
+) -> Result<Protos, AllocError>
+    requires count { length places.now ≡ length protos.now }
+    requires places { HaveParameters parameters.items protos.now places.now }
+    ensures spans { IfOk result HasSpans }
+    ensures rows { IfOk result (λ table. numbers_in table ≡ protos.now) }
+{
+    let mut rows = Vec::with_capacity(*parameters.allocator(), protos.len())?;
+    for i in 0..protos.len() {
+        rows.push(ProtoEntry {
+            shorty: protos[i].shorty(),
+            return_type: protos[i].return_type(),
+            parameters: places[i],
+        })?;
+    }
+    Ok(Protos { rows, parameters })
+}
+
+/// A table of protos with the rows of tables, which are joined. Its parameters are not more than those of all these
+/// tables: where rows of a table share parameters, they do so still.
+///
+/// Error: the memory for the table was refused.
+pub(crate) fn stored_together(
+    alloc: Global,
+    tables: &[Protos],
+    joined: &Joined<ProtoRow<'_>>,
+) -> Result<Protos, AllocError>
+    requires spans { All HasSpans tables.now }
+    requires joined { AreTablesJoined tables.now joined.now }
+    ensures spans { IfOk result HasSpans }
+    ensures rows { IfOk result (λ table. numbers_in table ≡ joined.now.rows.items) }
+{
+    let mut parameters = Vec::new(alloc);
+    let mut places = vec![in alloc; Span { start: 0, end: 0 }; joined.rows.len()]?;
+    for i in 0..tables.len() {
+        let base = parameters.len();
+        parameters.extend_from_slice(&tables[i].parameters)?;
+        place_rows(&mut places, &tables[i].rows, &joined.images[i], base);
+    }
+    placed(&joined.rows, parameters, &places)
 }
 
 /// The rows, by the images of the rows of lower tables that they name.
@@ -224,7 +288,8 @@ pub(crate) fn renumbered_together(
     lower: LowerPlaces<'_>,
 ) -> Result<Protos, AllocError>
     requires protos { All
-        (IsEntryWithin (length lower.strings.now) (length lower.types.now) parameters.now) rows.items }
+        (IsEntryWithin (length lower.strings.now) (length lower.types.now) parameters.now)
+        rows.items }
     requires range { HasSpan parameters.now range }
     requires covers { All (λ p. Covers range p.parameters) rows.items }
     ensures spans { IfOk result HasSpans }

@@ -54,7 +54,7 @@ impl Span {
         self.end.saturating_sub(self.start)
     }
 
-    /// Whether it is that part.
+    /// Returns whether it is that part.
     pub(crate) fn is(self, other: Span) -> bool
         ensures { IsTrue result → self ≡ other }
     {

@@ -17,7 +17,8 @@ AreSorted key rows = rises (row_cmp key) rows ≡ true
 pub record IsImage {R : Type 0} (key : R → List ℕ) (joined part : List R) (image : List ℕ) : Type 0 where
   pub count : length image ≡ length part
   pub within : (i : ℕ) → i < length part → slice_index image i < length joined
-  pub same : (i : ℕ) (d : R) → i < length part → key (slice_index_or joined (slice_index image i) d) ≡ key (slice_index_or part i d)
+  pub same : (i : ℕ) (d : R) → i < length part
+      → key (slice_index_or joined (slice_index image i) d) ≡ key (slice_index_or part i d)
 
 -- the row is a row of one of the parts
 pub record IsOfParts {R : Type 0} (parts : List (List R)) (row : R) : Type 0 where
@@ -26,7 +27,8 @@ pub record IsOfParts {R : Type 0} (parts : List (List R)) (row : R) : Type 0 whe
   pub has : Contains part row
 
 -- the joined rows are sorted, rows of the parts and no others, and each part has its image
-pub record IsJoin {R : Type 0} (key : R → List ℕ) (parts : List (List R)) (joined : List R) (images : List (List ℕ)) : Type 0 where
+pub record IsJoin {R : Type 0} (key : R → List ℕ) (parts : List (List R)) (joined : List R) (images : List (List ℕ)) :
+    Type 0 where
   pub sorted : AreSorted key joined
   pub rows_of : All (IsOfParts parts) joined
   pub parts_in : AllZip (IsImage key joined) parts images

@@ -11,4 +11,5 @@ images_of images = map (λ image. image.items) images
 
 -- the rows are those of the parts joined, with the image of each part
 abbrev pub JoinsParts : {R : Type 0} → (R → List ℕ) → List (Bor (List R)) → Joined R → Type 0
-JoinsParts key parts joined = IsJoin key (map (λ part. part.now) parts) joined.rows.items (images_of joined.images.items)
+JoinsParts key parts joined =
+    IsJoin key (map (λ part. part.now) parts) joined.rows.items (images_of joined.images.items)

@@ -16,11 +16,17 @@ pub record Among : Type 0 where
 
 -- numbers are replaced by those at their places
 abbrev pub lower_of : LowerPlaces → Lower
-lower_of p = record { strings = slice_index p.strings.now; types = slice_index p.types.now; protos = slice_index p.protos.now }
+lower_of p =
+    record { strings = slice_index p.strings.now; types = slice_index p.types.now; protos = slice_index p.protos.now }
 
 -- the numbers that have a place
 abbrev pub among_of : LowerPlaces → Among
-among_of p = record { strings = λ n. nat_lt n (length p.strings.now); types = λ n. nat_lt n (length p.types.now); protos = λ n. nat_lt n (length p.protos.now) }
+among_of p =
+    record {
+      strings = λ n. nat_lt n (length p.strings.now);
+      types = λ n. nat_lt n (length p.types.now);
+      protos = λ n. nat_lt n (length p.protos.now);
+    }
 
 -- of two numbers that the test selects, the lesser one is replaced by the lesser one
 abbrev pub RisesOn : (ℕ → Bool) → (ℕ → ℕ) → Type 0

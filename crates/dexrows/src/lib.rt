@@ -1,6 +1,6 @@
 //! Sorted tables of rows, whose keys are numbers of rows of lower tables, and a join of many.
 //!
-//! Public contracts use the definitions of `specs/Join`, `specs/KeyOrders`, `specs/Listed` and `specs/Numbers`.
+//! Of the definitions that its contracts use, read `specs/Join` (what the joined rows are) and `specs/Numbers` first.
 //!
 //! Source: the Android page "Dalvik Executable format", under the headings "string_id_item",
 //! "type_id_item", "proto_id_item", "field_id_item" and "method_id_item".

@@ -5,7 +5,7 @@ ghost use Rattle.dexrows.specs.Join.{AreSorted};
 
 use crate::rows::Row;
 
-/// Whether each row has a greater key than the row before it.
+/// Returns whether each row has a greater key than the row before it.
 pub fn is_sorted<R: Row>(rows: &[R]) -> bool
     ensures { IsTrue result ↔ AreSorted R.key_of rows.now }
 {

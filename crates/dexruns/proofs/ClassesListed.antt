@@ -12,7 +12,8 @@ use Rattle.dexout.specs.declared.faults.StoreFault.{StoreFault}
 use Rattle.dexout.specs.declared.faults.StoreFault.TheVariants.{Memory, Io}
 use Rattle.dexout.specs.Printed.{shown}
 use Rattle.dexout.specs.Written as written
-use Rattle.dexlisting.specs.Listing.{listing_of}
+use Rattle.dexlisting.specs.declared.listing.Detail.{Detail}
+use Rattle.dexlisting.specs.Detailed.{listing_in_of}
 use Rattle.dexlisting.proofs.Chosen.{chosen_lines}
 use Rattle.dexruns.specs.Faults.{fault_of_store}
 use Rattle.dexruns.specs.Listings.{is_among, printed_names, class_listing, AreClassNames, IsFirstUnknown, IsListed, IsClassListingPrefix}
@@ -44,9 +45,9 @@ module _ (names : List (List ℕ)) (K : Collection) (classes : List (List ℕ)) 
   all_known all = all_pass (is_among (printed_names K)) names (subst (All (λ flag. flag ≡ true)) known_is all)
 
 -- the lines of the classes that the flags choose are the listing of the classes of these names
-chosen_listing : (names : List (List ℕ)) (K : Collection) (flags : List Bool) → flags ≡ map (is_among names) (printed_names K) → listing_of flags K ≡ class_listing names K
-chosen_listing names K flags are =
-    chosen_lines K (λ d. is_among names (shown d.0)) flags (are ∙ map-map (is_among names) (λ (d : Definition). shown d.0) (in_class_order (definitions K)))
+chosen_listing : (detail : Detail) (names : List (List ℕ)) (K : Collection) (flags : List Bool) → flags ≡ map (is_among names) (printed_names K) → listing_in_of detail flags K ≡ class_listing detail names K
+chosen_listing detail names K flags are =
+    chosen_lines detail K (λ d. is_among names (shown d.0)) flags (are ∙ map-map (is_among names) (λ (d : Definition). shown d.0) (in_class_order (definitions K)))
 
 -- ---- what was written
 
@@ -56,16 +57,16 @@ module _ (one : (b : List ℕ) (K L : Collection) → Denotes b K → Denotes b 
   unknown_read i K same denotes unknown = subst (λ J. IsFirstUnknown names J i) (read_is one b bytes K L same encodes denotes) unknown
 
   module _ (flags : List Bool) (known : AreClassNames names L) (are : flags ≡ map (is_among names) (printed_names L)) where
-    pub classes_written : (writes : Type 0) (old new : List ℕ) (K : Collection) → bytes ≡ b → Denotes b K → (writes → new ≡ old ++ listing_of flags L) → IsListed names K writes old new Done
-    classes_written writes old new K same denotes put =
-        subst (λ J. IsListed names J writes old new Done) (read_is one b bytes K L same encodes denotes) (known, (λ w. put w ∙ ap (λ text. old ++ text) (chosen_listing names L flags are)))
+    pub classes_written : (detail : Detail) (writes : Type 0) (old new : List ℕ) (K : Collection) → bytes ≡ b → Denotes b K → (writes → new ≡ old ++ listing_in_of detail flags L) → IsListed detail names K writes old new Done
+    classes_written detail writes old new K same denotes put =
+        subst (λ J. IsListed detail names J writes old new Done) (read_is one b bytes K L same encodes denotes) (known, (λ w. put w ∙ ap (λ text. old ++ text) (chosen_listing detail names L flags are)))
 
     -- what is left after a fault of writing
-    pub left_by_classes : {W : Type 0} (reads writes : Type 0) (old new : W) (taken : W → List ℕ) (f : StoreFault) → (reads → bytes ≡ b) → written.HasLeft writes old new taken (listing_of flags L) f →
-        IsLeftWith (IsClassListingPrefix reads writes names (taken old) (taken new) b) old new (fault_of_store f)
-    left_by_classes reads writes old new taken Memory same left = left
-    left_by_classes reads writes old new taken Io same left = λ r. (
+    pub left_by_classes : {W : Type 0} (detail : Detail) (reads writes : Type 0) (old new : W) (taken : W → List ℕ) (f : StoreFault) → (reads → bytes ≡ b) → written.HasLeft writes old new taken (listing_in_of detail flags L) f →
+        IsLeftWith (IsClassListingPrefix detail reads writes names (taken old) (taken new) b) old new (fault_of_store f)
+    left_by_classes detail reads writes old new taken Memory same left = left
+    left_by_classes detail reads writes old new taken Io same left = λ r. (
       accepted_file b bytes L (same r) encodes,
-      (λ K denotes. subst (λ J. AreClassNames names J × (writes → TakesPrefix (taken old) (taken new) (class_listing names J))) (read_is one b bytes K L (same r) encodes denotes)
-          (known, (λ w. let prefix = left w in (prefix.0, prefix.1 ∙ ap (λ text. taken old ++ take prefix.0 text) (chosen_listing names L flags are))))),
+      (λ K denotes. subst (λ J. AreClassNames names J × (writes → TakesPrefix (taken old) (taken new) (class_listing detail names J))) (read_is one b bytes K L (same r) encodes denotes)
+          (known, (λ w. let prefix = left w in (prefix.0, prefix.1 ∙ ap (λ text. taken old ++ take prefix.0 text) (chosen_listing detail names L flags are))))),
     )

@@ -137,7 +137,8 @@ fn push_class(
     text: &mut String,
 ) -> Result<(), AllocError>
     ensures { OnOk result (string_bytes text.new ≡ string_bytes text.old
-        ++ class_lines comparison (map (λ file. file.now) files.now) name.now (copies_list copies.now)) }
+        ++ class_lines comparison (map (λ file. file.now) files.now) name.now
+        (copies_list copies.now)) }
 {
     match comparison {
         Comparison::Conflicts(form) => {
@@ -162,7 +163,8 @@ fn table_lines(
     table: &CopyTable,
 ) -> Result<String, AllocError>
     ensures { IfOk result (λ text. (Ks : List Collection) → HoldsCopies Ks table.now.classes
-        → AreClassLines Ks (class_lines comparison (map (λ file. file.now) files.now)) (string_bytes text)) }
+        → AreClassLines Ks (class_lines comparison (map (λ file. file.now) files.now))
+        (string_bytes text)) }
 {
     let mut text = String::new(alloc);
     for (name, copies) in &table.classes {
@@ -178,7 +180,8 @@ fn add_classes(
     program: Program<'_>,
     table: &mut CopyTable,
 ) -> Result<(), AllocError>
-    ensures { OnOk result ((name : Units) → copies_at table.new.classes name ≡ copies_at table.old.classes name
+    ensures { OnOk result
+        ((name : Units) → copies_at table.new.classes name ≡ copies_at table.old.classes name
         ++ copies_in file (in_class_order (definitions program.entry)) name) }
 {
     let names = class_names(alloc, &program)?;
@@ -241,16 +244,16 @@ pub struct CompareOptions<'o> {
 /// [`digest_or_strip_run`](crate::digest_or_strip_run).
 ///
 /// `Conflicts` reports each class of which not all copies are equal: a line for each copy, in the order of the inputs,
-/// with the class, the digest and the name of the input in the given form, and a tab between them. `Changes` reports each class that
-/// differs between the first inputs, of which it has the number, and the others, in a line: `added`, `removed` or
-/// `changed`, a tab and the class. It is changed where both have it and not all copies are equal. Names of classes are
-/// written as [`explain`](crate::explain) writes them.
+/// with the class, the digest and the name of the input in the given form, and a tab between them. `Changes` reports
+/// each class that differs between the first inputs, of which it has the number, and the others, in a line: `added`,
+/// `removed` or `changed`, a tab and the class. It is changed where both have it and not all copies are equal. Names of
+/// classes are written as [`explain`](crate::explain) writes them.
 ///
 /// Condition: no device has failed. Error: one input after the other is read whole and checked, and the first that
 /// fails ends the call: `Read` with its number exactly where its reader failed in this call, or `Input` with its number
 /// where it is refused, with what [`dexclass::read`] reports of its bytes, of which `2^30 + 1` are read and no more.
-/// `Write` exactly where the writer failed; `Memory` where an allocation failed; no other. After `Write` a prefix of the
-/// lines was written, and after any other error nothing.
+/// `Write` exactly where the writer failed; `Memory` where an allocation failed; no other. After `Write` a prefix of
+/// the lines was written, and after any other error nothing.
 ///
 /// Source: this project's rule.
 pub fn compare_run<R: Source, W: Sink>(
@@ -261,11 +264,13 @@ pub fn compare_run<R: Source, W: Sink>(
 ) -> Result<u8, RunFault>
     requires inputs { AllWork R.has_failed inputs.old }
     requires out { W.has_failed out.old ≡ false }
-    ensures compared { IfOk result (λ status. AreCompared R.reports R.to_come inputs.old options.now.is_stripped
+    ensures compared { IfOk result
+        (λ status. AreCompared R.reports R.to_come inputs.old options.now.is_stripped
         (class_lines options.now.comparison (map (λ name. name.now) options.now.names.now))
         (λ lines. IsAppended (W.reports out.old) (W.taken out.old) (W.taken out.new) lines
         × (status ≡ compared_status lines))) }
-    ensures fault { IfErr result (IsCompareFault R.reports R.to_come inputs.old options.now.is_stripped
+    ensures fault { IfErr result
+        (IsCompareFault R.reports R.to_come inputs.old options.now.is_stripped
         (class_lines options.now.comparison (map (λ name. name.now) options.now.names.now))
         (IsPrefixAppended (W.reports out.old) (W.taken out.old) (W.taken out.new))) }
     ensures left { IfErr result (IsLeft out.old out.new) }

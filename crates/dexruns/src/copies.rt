@@ -156,7 +156,9 @@ impl CopyTable {
         name: &Text<'_>,
         copy: ClassCopy,
     ) -> Result<(), AllocError>
-        ensures { OnOk result ((n : Units) → copies_at self.new.classes n ≡ copies_at self.old.classes n ++ added name.now copy n) }
+        ensures { OnOk result
+            ((n : Units) → copies_at self.new.classes n ≡ copies_at self.old.classes n
+            ++ added name.now copy n) }
     {
         let key = ClassName {
             name: Name::of(alloc, name)?,

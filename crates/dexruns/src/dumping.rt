@@ -19,7 +19,7 @@ use crate::lines::push_text;
 use dexclass::Program;
 use dexhead::{Sink, Source};
 use dexlaws::denotes::collections::one_collection;
-use dexlisting::write_listing_of;
+use dexlisting::{Detail, write_listing_of};
 use std::alloc::{AllocError, Global};
 use std::collections::BTreeSet;
 
@@ -99,8 +99,8 @@ fn choose(alloc: Global, names: &[String], program: &Program<'_>) -> Result<Choi
     Ok(Choice::Classes(flags))
 }
 
-/// Writes the listing of the classes of an input that have these names: what [`dump_run`](crate::dump_run) writes,
-/// without the lines of the other classes. A name is as the listing prints it in the line of its class. A name that
+/// Writes the listing of the classes of an input that have these names: what [`dump_run`](crate::dump_run) writes in
+/// this detail, without the lines of the other classes. A name is as the listing prints it in the line of its class. A name that
 /// is given twice counts once.
 ///
 /// Condition: neither device has failed. Error: as in `dump_run`. That a name is that of no class is no error, and is
@@ -110,6 +110,7 @@ fn choose(alloc: Global, names: &[String], program: &Program<'_>) -> Result<Choi
 /// Source: "Dalvik Executable format"; the listing is this project's rule.
 pub fn dump_classes_run<R: Source, W: Sink>(
     alloc: Global,
+    detail: Detail,
     names: &[String],
     input: &mut R,
     out: &mut W,
@@ -119,13 +120,13 @@ pub fn dump_classes_run<R: Source, W: Sink>(
     ensures accepted { OnOk result (R.reports input.old
         → IsAccepted (bytes_read (R.to_come input.old))) }
     ensures listed { IfOk result (λ listed. R.reports input.old → (K : Collection)
-        → Denotes (bytes_read (R.to_come input.old)) K → IsListed (map string_bytes names.now) K
+        → Denotes (bytes_read (R.to_come input.old)) K → IsListed detail (map string_bytes names.now) K
         (W.reports out.old) (W.taken out.old) (W.taken out.new) listed) }
     ensures unlisted { IfOk result (IsUnlisted (length names.now) out.old out.new) }
     ensures fault { IfErr result
         (IsOfInput (R.reports input.old) (bytes_read (R.to_come input.old))) }
     ensures left { IfErr result
-        (IsLeftWith (IsClassListingPrefix (R.reports input.old) (W.reports out.old)
+        (IsLeftWith (IsClassListingPrefix detail (R.reports input.old) (W.reports out.old)
         (map string_bytes names.now) (W.taken out.old) (W.taken out.new)
         (bytes_read (R.to_come input.old))) out.old out.new) }
     ensures no_further { IsReadNoFurther R.reports R.to_come R.has_failed input.old input.new }
@@ -142,6 +143,6 @@ pub fn dump_classes_run<R: Source, W: Sink>(
         Choice::Classes(flags) => flags,
         Choice::NoClass(i) => return Ok(Listed::NoClass(i)),
     };
-    write_listing_of(alloc, &program, flags.as_slice(), out)?;
+    write_listing_of(alloc, &program, detail, flags.as_slice(), out)?;
     Ok(Listed::Done)
 }

@@ -29,7 +29,8 @@ parent_indices b r = (if superclass_idx b r == no_index then [] else superclass_
 
 -- if the file has a class row of this type, it has one before row r
 abbrev pub IsDefinedBefore : List ℕ → ℕ → ℕ → Type 0
-IsDefinedBefore b r index = (k : ℕ) → k < table_size b ClassDefs → class_idx b k ≡ index → (j : ℕ) × (j < r) × (class_idx b j ≡ index)
+IsDefinedBefore b r index =
+    (k : ℕ) → k < table_size b ClassDefs → class_idx b k ≡ index → (j : ℕ) × (j < r) × (class_idx b j ≡ index)
 
 -- 16 Classes. Repeated interfaces are accepted and kept (this project's rule).
 pub record HasClass (b : List ℕ) (r : ℕ) : Type 0 where
@@ -98,7 +99,9 @@ pub record NamesDeclared (annotated : Directory) (d : ClassData) : Type 0 where
 
 -- 22 Annotations
 abbrev pub HasAnnotations : List ℕ → ℕ → Type 0
-HasAnnotations b r = (d : ClassData) → Declares b r d → (a : Directory) × OrNone DirectoryAt no_directory b (annotations_off b r) a × NamesDeclared a d
+HasAnnotations b r =
+    (d : ClassData) → Declares b r d
+    → (a : Directory) × OrNone DirectoryAt no_directory b (annotations_off b r) a × NamesDeclared a d
 
 -- all that a row refers to can be read
 pub record IsReadable (b : List ℕ) (r : ℕ) : Type 0 where
@@ -115,7 +118,8 @@ AreRows b n D = AllZip (λ r d. ClassRow b r d.0 d.1) (range_with_len 0 n) D
 
 -- 23 Weight: if rows 0 to r are readable, they do not weigh too much together (this project's rule)
 abbrev pub HasWeight : List ℕ → ℕ → Type 0
-HasWeight b r = (D : List Definition) → ((k : ℕ) → k ≤ r → IsReadable b k) → AreRows b (r + 1) D → weight D ≤ most_weight
+HasWeight b r =
+    (D : List Definition) → ((k : ℕ) → k ≤ r → IsReadable b k) → AreRows b (r + 1) D → weight D ≤ most_weight
 
 -- ---- all of them
 
@@ -199,4 +203,5 @@ place c b r = r
 -- the file is refused with this number and place: the first of conditions 1 to 16 that fails, at its least row; if all
 -- of these hold, any other condition at a row where it fails
 abbrev pub IsRefused : List ℕ → ℕ → ℕ → Type 0
-IsRefused b n p = (c : Condition) × (r : ℕ) × (n ≡ number c) × (p ≡ place c b r) × (((n ≤ 16) × FailsFirst c b r) ⊎ FailsAt c b r)
+IsRefused b n p =
+    (c : Condition) × (r : ℕ) × (n ≡ number c) × (p ≡ place c b r) × (((n ≤ 16) × FailsFirst c b r) ⊎ FailsAt c b r)

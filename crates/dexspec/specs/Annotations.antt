@@ -63,7 +63,8 @@ pairs_at b o zero = []
 pairs_at b o (suc n) = (uint_at b o, uint_at b (o + 4)) ∷ pairs_at b (o + 8) n
 
 -- the index names the member, and its item is at the offset, which is not 0
-abbrev pub PairAt : {M X : Type 0} → (List ℕ → ℕ → M → Type 0) → (List ℕ → ℕ → X → Type 0) → List ℕ → ℕ × ℕ → M × X → Type 0
+abbrev pub PairAt : {M X : Type 0} → (List ℕ → ℕ → M → Type 0) → (List ℕ → ℕ → X → Type 0) → List ℕ → ℕ × ℕ → M × X
+    → Type 0
 PairAt Row At b pair entry = Row b pair.0 entry.0 × (pair.1 ≢ 0) × At b pair.1 entry.1
 
 -- the pairs of a list of a directory: their indices rise strictly
@@ -91,7 +92,8 @@ pub record DirectoryAt (b : List ℕ) (o : ℕ) (d : Directory) : Type 0 where
   pub own : OrNone SetAt [] b (uint_at b o) d.own
   pub fields : PairsAt FieldRow SetAt b (o + 16) (fields_count b o) d.fields
   pub methods : PairsAt MethodRow SetAt b (o + 16 + 8 * fields_count b o) (methods_count b o) d.methods
-  pub parameters : PairsAt MethodRow RefListAt b (o + 16 + 8 * (fields_count b o + methods_count b o)) (parameters_count b o) d.parameters
+  pub parameters : PairsAt MethodRow RefListAt b (o + 16 + 8 * (fields_count b o + methods_count b o))
+      (parameters_count b o) d.parameters
 
 -- the list of a directory for a member, or the empty list
 abbrev pub annotated : {M X : Type 0} → (M → M → Ordering) → List (M × List X) → M → List X

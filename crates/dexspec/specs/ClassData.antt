@@ -72,8 +72,10 @@ pub record ClassDataAt (b : List ℕ) (o : ℕ) (d : ClassData) : Type 0 where
   pub counts : Sequence Uleb128At b o (length d.static_fields ∷ length d.instance_fields
       ∷ length d.direct_methods ∷ length d.virtual_methods ∷ []) counts_bytes
   pub static_fields : EncodedFieldsAt b (o + counts_bytes) None d.static_fields static_fields_bytes
-  pub instance_fields : EncodedFieldsAt b (o + counts_bytes + static_fields_bytes) None d.instance_fields instance_fields_bytes
-  pub direct_methods : EncodedMethodsAt b (o + counts_bytes + static_fields_bytes + instance_fields_bytes) None d.direct_methods direct_methods_bytes
+  pub instance_fields : EncodedFieldsAt b (o + counts_bytes + static_fields_bytes) None d.instance_fields
+      instance_fields_bytes
+  pub direct_methods : EncodedMethodsAt b (o + counts_bytes + static_fields_bytes + instance_fields_bytes) None
+      d.direct_methods direct_methods_bytes
   pub virtual_methods : EncodedMethodsAt b (o + counts_bytes + static_fields_bytes + instance_fields_bytes
       + direct_methods_bytes) None d.virtual_methods virtual_methods_bytes
 

@@ -116,7 +116,13 @@ StaticValuesAt b o vs = (n : ℕ) × EncodedArrayItemAt b o vs n
 
 -- the field of an encoded field and a directory
 abbrev pub field_def : Directory → EncodedField → FieldDef
-field_def d x = record { name = x.field.name; type = x.field.type; flags = x.flags; annotations = annotated field_cmp d.fields x.field }
+field_def d x =
+    record {
+      name = x.field.name;
+      type = x.field.type;
+      flags = x.flags;
+      annotations = annotated field_cmp d.fields x.field;
+    }
 
 -- the method of an encoded method and a directory, with its code
 pub record MakesMethod (b : List ℕ) (d : Directory) (x : EncodedMethod) (m : MethodDef) : Type 0 where

@@ -43,7 +43,8 @@ OperationAt b o (StartLocal register name type) n = BytesAt b o (0x03 ∷ [])
     × (i j k : ℕ) × Uleb128At b (o + 1) register i
     × OptionalTextAt b (o + 1 + i) name j × OptionalTypeAt b (o + 1 + i + j) type k × (n ≡ 1 + i + j + k)
 OperationAt b o (StartLocalExtended register name type signature) n = BytesAt b o (0x04 ∷ [])
-    × (i j k l : ℕ) × Uleb128At b (o + 1) register i × OptionalTextAt b (o + 1 + i) name j × OptionalTypeAt b (o + 1 + i + j) type k
+    × (i j k l : ℕ) × Uleb128At b (o + 1) register i × OptionalTextAt b (o + 1 + i) name j
+    × OptionalTypeAt b (o + 1 + i + j) type k
     × OptionalTextAt b (o + 1 + i + j + k) signature l × (n ≡ 1 + i + j + k + l)
 OperationAt b o (EndLocal v) n = BytesAt b o (0x05 ∷ []) × (k : ℕ) × Uleb128At b (o + 1) v k × (n ≡ 1 + k)
 OperationAt b o (RestartLocal v) n = BytesAt b o (0x06 ∷ []) × (k : ℕ) × Uleb128At b (o + 1) v k × (n ≡ 1 + k)

@@ -31,7 +31,8 @@ piece_symbols (Payload us) = []
 -- the texts and types of a debug operation
 abbrev pub operation_symbols : Operation → List Symbol
 operation_symbols (StartLocal register name type) = optional_text name ++ optional_type type
-operation_symbols (StartLocalExtended register name type signature) = optional_text name ++ (optional_type type ++ optional_text signature)
+operation_symbols (StartLocalExtended register name type signature) =
+    optional_text name ++ (optional_type type ++ optional_text signature)
 operation_symbols (SetFile name) = optional_text name
 operation_symbols _ = []
 

@@ -26,7 +26,15 @@ pub record Caps : Type 0 where
 
 -- the caps of the format
 abbrev pub greatest_caps : Caps
-greatest_caps = record { types = 65535; protos = 65535; fields = 65536; methods = 65536; short_strings = 65536; weight = most_weight }
+greatest_caps =
+    record {
+      types = 65535;
+      protos = 65535;
+      fields = 65536;
+      methods = 65536;
+      short_strings = 65536;
+      weight = most_weight;
+    }
 
 -- the caps are within those of the format
 pub record AreCaps (caps : Caps) : Type 0 where

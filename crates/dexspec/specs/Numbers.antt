@@ -24,7 +24,9 @@ last_of (b ∷ c ∷ bs) = last_of (c ∷ bs)
 
 -- the sum, less 2 ^ (7 * n) if bit 6 of the last of n bytes is set
 abbrev pub signed_sum : List ℕ → ℤ
-signed_sum bytes = if nat_le 64 (last_of bytes) then pos (sum_of_groups bytes) -ℤ pos (2 ^ (7 * length bytes)) else pos (sum_of_groups bytes)
+signed_sum bytes =
+    if nat_le 64 (last_of bytes) then pos (sum_of_groups bytes) -ℤ pos (2 ^ (7 * length bytes))
+    else pos (sum_of_groups bytes)
 
 -- one to five bytes that encode a number in range
 pub record Spells {V : Type 0} (number : List ℕ → V) (InRange : V → Type 0) (bytes : List ℕ) (v : V) : Type 0 where
@@ -77,7 +79,9 @@ groups (suc (suc n)) v = (128 + v % 128) ∷ groups (suc n) (v / 128)
 
 -- the minimum number of groups for the number, at most five
 abbrev pub size_u : ℕ → ℕ
-size_u v = if nat_lt v 0x80 then 1 else (if nat_lt v 0x4000 then 2 else (if nat_lt v 0x200000 then 3 else (if nat_lt v 0x10000000 then 4 else 5)))
+size_u v =
+    if nat_lt v 0x80 then 1
+    else (if nat_lt v 0x4000 then 2 else (if nat_lt v 0x200000 then 3 else (if nat_lt v 0x10000000 then 4 else 5)))
 
 -- the shortest uleb128 of the number
 abbrev pub uleb128 : ℕ → List ℕ

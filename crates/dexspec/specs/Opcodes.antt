@@ -55,7 +55,8 @@ move_endings = codes "" ∷ codes "-wide" ∷ codes "-object" ∷ []
 
 -- the seven endings of kinds, of elements, fields and arrays
 abbrev pub kind_endings : List (List ℕ)
-kind_endings = codes "" ∷ codes "-wide" ∷ codes "-object" ∷ codes "-boolean" ∷ codes "-byte" ∷ codes "-char" ∷ codes "-short" ∷ []
+kind_endings =
+    codes "" ∷ codes "-wide" ∷ codes "-object" ∷ codes "-boolean" ∷ codes "-byte" ∷ codes "-char" ∷ codes "-short" ∷ []
 
 -- the six comparisons of branches
 abbrev pub comparisons : List (List ℕ)
@@ -63,7 +64,9 @@ comparisons = codes "if-eq" ∷ codes "if-ne" ∷ codes "if-lt" ∷ codes "if-ge
 
 -- the five ways to invoke
 abbrev pub invocations : List (List ℕ)
-invocations = codes "invoke-virtual" ∷ codes "invoke-super" ∷ codes "invoke-direct" ∷ codes "invoke-static" ∷ codes "invoke-interface" ∷ []
+invocations =
+    codes "invoke-virtual" ∷ codes "invoke-super" ∷ codes "invoke-direct" ∷ codes "invoke-static"
+    ∷ codes "invoke-interface" ∷ []
 
 -- the operations that exist for floats too
 abbrev pub arithmetic : List (List ℕ)
@@ -79,7 +82,9 @@ shifts = codes "shl" ∷ codes "shr" ∷ codes "ushr" ∷ []
 
 -- the 32 operations on two registers
 abbrev pub binary_operations : List (List ℕ)
-binary_operations = all_with (arithmetic ++ (bitwise ++ shifts)) (codes "-int") ++ (all_with (arithmetic ++ (bitwise ++ shifts)) (codes "-long")
+binary_operations =
+    all_with (arithmetic ++ (bitwise ++ shifts)) (codes "-int")
+    ++ (all_with (arithmetic ++ (bitwise ++ shifts)) (codes "-long")
     ++ (all_with arithmetic (codes "-float") ++ all_with arithmetic (codes "-double")))
 
 -- opcodes without an index
@@ -117,7 +122,8 @@ opcode_runs =
     ∷ run 0x27 F11x (codes "throw" ∷ [])
     ∷ run 0x28 F10t (codes "goto" ∷ []) ∷ run 0x29 F20t (codes "goto/16" ∷ []) ∷ run 0x2a F30t (codes "goto/32" ∷ [])
     ∷ run 0x2b F31t (codes "packed-switch" ∷ codes "sparse-switch" ∷ [])
-    ∷ run 0x2d F23x (codes "cmpl-float" ∷ codes "cmpg-float" ∷ codes "cmpl-double" ∷ codes "cmpg-double" ∷ codes "cmp-long" ∷ [])
+    ∷ run 0x2d F23x
+    (codes "cmpl-float" ∷ codes "cmpg-float" ∷ codes "cmpl-double" ∷ codes "cmpg-double" ∷ codes "cmp-long" ∷ [])
     ∷ run 0x32 F22t comparisons ∷ run 0x38 F21t (all_with comparisons (codes "z"))
     ∷ run 0x44 F23x (each_with (codes "aget") kind_endings) ∷ run 0x4b F23x (each_with (codes "aput") kind_endings)
     ∷ run_with 0x52 F22c FieldPool (each_with (codes "iget") kind_endings)
@@ -125,15 +131,21 @@ opcode_runs =
     ∷ run_with 0x60 F21c FieldPool (each_with (codes "sget") kind_endings)
     ∷ run_with 0x67 F21c FieldPool (each_with (codes "sput") kind_endings)
     ∷ run_with 0x6e F35c MethodPool invocations ∷ run_with 0x74 F3rc MethodPool (all_with invocations (codes "/range"))
-    ∷ run 0x7b F12x (codes "neg-int" ∷ codes "not-int" ∷ codes "neg-long" ∷ codes "not-long" ∷ codes "neg-float" ∷ codes "neg-double" ∷ [])
+    ∷ run 0x7b F12x
+    (codes "neg-int" ∷ codes "not-int" ∷ codes "neg-long" ∷ codes "not-long" ∷ codes "neg-float" ∷ codes "neg-double"
+    ∷ [])
     ∷ run 0x81 F12x (codes "int-to-long" ∷ codes "int-to-float" ∷ codes "int-to-double"
     ∷ codes "long-to-int" ∷ codes "long-to-float" ∷ codes "long-to-double" ∷ [])
     ∷ run 0x87 F12x (codes "float-to-int" ∷ codes "float-to-long" ∷ codes "float-to-double"
     ∷ codes "double-to-int" ∷ codes "double-to-long" ∷ codes "double-to-float" ∷ [])
     ∷ run 0x8d F12x (codes "int-to-byte" ∷ codes "int-to-char" ∷ codes "int-to-short" ∷ [])
     ∷ run 0x90 F23x binary_operations ∷ run 0xb0 F12x (all_with binary_operations (codes "/2addr"))
-    ∷ run 0xd0 F22s (codes "add-int/lit16" ∷ codes "rsub-int" ∷ all_with (codes "mul" ∷ codes "div" ∷ codes "rem" ∷ bitwise) (codes "-int/lit16"))
-    ∷ run 0xd8 F22b (all_with (codes "add" ∷ codes "rsub" ∷ codes "mul" ∷ codes "div" ∷ codes "rem" ∷ bitwise ++ shifts) (codes "-int/lit8"))
+    ∷ run 0xd0 F22s
+    (codes "add-int/lit16" ∷ codes "rsub-int"
+    ∷ all_with (codes "mul" ∷ codes "div" ∷ codes "rem" ∷ bitwise) (codes "-int/lit16"))
+    ∷ run 0xd8 F22b
+    (all_with (codes "add" ∷ codes "rsub" ∷ codes "mul" ∷ codes "div" ∷ codes "rem" ∷ bitwise ++ shifts)
+    (codes "-int/lit8"))
     ∷ []
 
 -- the opcode is one of the run

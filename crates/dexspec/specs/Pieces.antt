@@ -76,7 +76,8 @@ is_payload_in_order us =
 
 -- the number of units of the payload that the units begin with
 abbrev pub payload_size : List ℕ → Option ℕ
-payload_size us = if nat_le (payload_units us) (length us) && is_payload_in_order us then Some (payload_units us) else None
+payload_size us =
+    if nat_le (payload_units us) (length us) && is_payload_in_order us then Some (payload_units us) else None
 
 -- ---- instructions
 
@@ -118,13 +119,15 @@ pub record Cut : Type 0 where
 -- the units from a unit on are cut into these pieces, up to the rest
 abbrev pub AreCut : ℕ → List ℕ → List Cut → List ℕ → Type 0
 AreCut at us [] rest = us ≡ rest
-AreCut at us (c ∷ cs) rest = (c.unit ≡ at) × (piece_size at us ≡ Some c.units) × AreCut (at + c.units) (drop c.units us) cs rest
+AreCut at us (c ∷ cs) rest =
+    (c.unit ≡ at) × (piece_size at us ≡ Some c.units) × AreCut (at + c.units) (drop c.units us) cs rest
 
 -- ---- targets
 
 -- an instruction begins at this place
 abbrev pub is_instruction_start : List ℕ → List Cut → ℤ → Bool
-is_instruction_start us cs z = list_any (λ c. int_eq (pos c.unit) z && not (is_payload_ident (slice_index us c.unit))) cs
+is_instruction_start us cs z =
+    list_any (λ c. int_eq (pos c.unit) z && not (is_payload_ident (slice_index us c.unit))) cs
 
 -- a payload with this first unit begins there
 abbrev pub is_payload_start : ℕ → List ℕ → List Cut → ℤ → Bool
@@ -142,13 +145,15 @@ branch_offset _ us at = None
 
 -- the first unit of the payload that an instruction of format 31t refers to
 abbrev pub payload_ident : ℕ → ℕ
-payload_ident op = if op == 0x2b then packed_switch_ident else (if op == 0x2c then sparse_switch_ident else array_data_ident)
+payload_ident op =
+    if op == 0x2b then packed_switch_ident else (if op == 0x2c then sparse_switch_ident else array_data_ident)
 
 -- the targets of the payload at a unit, as encoded; array data has none
 abbrev pub payload_targets : List ℕ → ℕ → List ℤ
 payload_targets us at =
     if slice_index us at == packed_switch_ident then ints_in us (at + 4) (slice_index us (at + 1))
-    else (if slice_index us at == sparse_switch_ident then ints_in us (at + 2 + 2 * slice_index us (at + 1)) (slice_index us (at + 1))
+    else (if slice_index us at == sparse_switch_ident
+    then ints_in us (at + 2 + 2 * slice_index us (at + 1)) (slice_index us (at + 1))
     else [])
 
 -- A branch has the start of an instruction as its target. A 31t has the start of a payload of its kind, whose targets,
@@ -190,7 +195,9 @@ units_of (Payload us) = us
 
 -- the pool of a piece's index, if it has one
 abbrev pub index_pool : List ℕ → Option Pool
-index_pool us = if is_payload_ident (slice_index us 0) then None else option_and_then (λ op. op.index) (opcode_of (low_byte (slice_index us 0)))
+index_pool us =
+    if is_payload_ident (slice_index us 0) then None
+    else option_and_then (λ op. op.index) (opcode_of (low_byte (slice_index us 0)))
 
 -- const-string/jumbo alone has an index of 32 bits
 abbrev pub is_wide_index : List ℕ → Bool
@@ -206,8 +213,10 @@ with_index i us = if is_wide_index us then slice_set (slice_set us 1 (i % 65536)
 
 -- the units encode the piece, if indices and symbols are related in this way
 abbrev pub DenotesPiece : (ℕ → Symbol → Type 0) → List ℕ → Piece → Type 0
-DenotesPiece Names us (Instruction xs None) = (is_payload_ident (slice_index us 0) ≡ false) × (index_pool us ≡ None) × (xs ≡ us)
-DenotesPiece Names us (Instruction xs (Some s)) = (index_pool us ≡ Some (pool_of s)) × Names (index_in us) s × (xs ≡ with_index 0 us)
+DenotesPiece Names us (Instruction xs None) =
+    (is_payload_ident (slice_index us 0) ≡ false) × (index_pool us ≡ None) × (xs ≡ us)
+DenotesPiece Names us (Instruction xs (Some s)) =
+    (index_pool us ≡ Some (pool_of s)) × Names (index_in us) s × (xs ≡ with_index 0 us)
 DenotesPiece Names us (Payload xs) = (is_payload_ident (slice_index us 0) ≡ true) × (xs ≡ us)
 
 -- the units of the piece at a cut

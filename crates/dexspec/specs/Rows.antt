@@ -115,7 +115,8 @@ pub record HasString (b : List ℕ) (i : ℕ) : Type 0 where
   pub follows : (j : ℕ) (before : Text) → j + 1 ≡ i → StringRow b j before → text_cmp before text ≡ Less
 
 -- the row is one of this kind, and follows the row before it
-pub record HasRow {X : Type 0} (Row : List ℕ → ℕ → X → Type 0) (key : List ℕ → ℕ → List ℕ) (b : List ℕ) (i : ℕ) : Type 0 where
+pub record HasRow {X : Type 0} (Row : List ℕ → ℕ → X → Type 0) (key : List ℕ → ℕ → List ℕ) (b : List ℕ) (i : ℕ) :
+    Type 0 where
   pub item : X
   pub is : Row b i item
   pub follows : Follows key b i

@@ -38,7 +38,8 @@ abbrev pub same_operation : Operation → Operation → Bool
 same_operation (AdvancePc m) (AdvancePc n) = m == n
 same_operation (AdvanceLine y) (AdvanceLine z) = int_eq y z
 same_operation (StartLocal m s t) (StartLocal n u v) = m == n && (same_optional s u && same_optional t v)
-same_operation (StartLocalExtended m s t r) (StartLocalExtended n u v w) = m == n && (same_optional s u && (same_optional t v && same_optional r w))
+same_operation (StartLocalExtended m s t r) (StartLocalExtended n u v w) =
+    m == n && (same_optional s u && (same_optional t v && same_optional r w))
 same_operation (EndLocal m) (EndLocal n) = m == n
 same_operation (RestartLocal m) (RestartLocal n) = m == n
 same_operation SetPrologueEnd SetPrologueEnd = true

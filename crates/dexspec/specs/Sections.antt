@@ -14,7 +14,8 @@ use Rattle.dexspec.specs.Header.{Table, StringIds, TypeIds, ProtoIds, FieldIds, 
 abbrev pub AreLaidOut : List ℕ → ℕ → List Table → Type 0
 AreLaidOut b from [] = from ≤ data_off b
 AreLaidOut b from (t ∷ ts) = ((table_size b t ≡ 0) × (table_off b t ≡ 0) × AreLaidOut b from ts)
-    ⊎ ((table_size b t ≢ 0) × (table_off b t % 4 ≡ 0) × (from ≤ table_off b t) × AreLaidOut b (table_off b t + row_size t * table_size b t) ts)
+    ⊎ ((table_size b t ≢ 0) × (table_off b t % 4 ≡ 0) × (from ≤ table_off b t)
+    × AreLaidOut b (table_off b t + row_size t * table_size b t) ts)
 
 -- 9 Layout (this project's rule in part)
 pub record HasLayout (b : List ℕ) : Type 0 where
@@ -66,7 +67,8 @@ pub record MapEntry : Type 0 where
 -- the n entries from o on, each of 12 bytes, of which two are not read
 abbrev pub entries_at : List ℕ → ℕ → ℕ → List MapEntry
 entries_at b o zero = []
-entries_at b o (suc n) = record { kind = ushort_at b o; size = uint_at b (o + 4); off = uint_at b (o + 8) } ∷ entries_at b (o + 12) n
+entries_at b o (suc n) =
+    record { kind = ushort_at b o; size = uint_at b (o + 4); off = uint_at b (o + 8) } ∷ entries_at b (o + 12) n
 
 -- the entries of the map_list at map_off
 abbrev pub map_entries : List ℕ → List MapEntry
@@ -79,7 +81,8 @@ IsKnown e = (s : Section) × (e.kind ≡ type_code s)
 -- a table that is not empty has its entry; an empty table has none
 abbrev pub HasTable : List ℕ → List MapEntry → Table → Type 0
 HasTable b es t = ((table_size b t ≡ 0) × All (λ e. e.kind ≢ type_code (TableOf t)) es)
-    ⊎ ((table_size b t ≢ 0) × Contains es (record { kind = type_code (TableOf t); size = table_size b t; off = table_off b t }))
+    ⊎ ((table_size b t ≢ 0)
+    × Contains es (record { kind = type_code (TableOf t); size = table_size b t; off = table_off b t }))
 
 -- an entry of neither the header nor a table begins in the data
 abbrev pub IsPlaced : List ℕ → MapEntry → Type 0

@@ -70,7 +70,8 @@ handler_count h = option_map_or (λ address. pos 0 -ℤ pos (length h.catches)) 
 
 -- an encoded_catch_handler
 abbrev pub handler_bytes : Mentions → Handler → List ℕ
-handler_bytes m h = sleb128 (handler_count h) ++ (flat_map (catch_bytes m) h.catches ++ flat_map uleb128 (option_to_list h.catch_all))
+handler_bytes m h =
+    sleb128 (handler_count h) ++ (flat_map (catch_bytes m) h.catches ++ flat_map uleb128 (option_to_list h.catch_all))
 
 -- the offset of a handler among handlers of which the first is at an offset
 abbrev pub handler_off : Mentions → ℕ → List Handler → Handler → ℕ
@@ -79,7 +80,8 @@ handler_off m at (k ∷ ks) h = if same_handler k h then at else handler_off m (
 
 -- a try_item
 abbrev pub try_bytes : Mentions → List Handler → Try → List ℕ
-try_bytes m hs t = uint t.start ++ (ushort t.count ++ ushort (handler_off m (length (uleb128 (length hs))) hs t.handler))
+try_bytes m hs t =
+    uint t.start ++ (ushort t.count ++ ushort (handler_off m (length (uleb128 (length hs))) hs t.handler))
 
 -- an encoded_catch_handler_list
 abbrev pub handler_list_bytes : Mentions → List Handler → List ℕ
@@ -112,7 +114,8 @@ optional_type_bytes m t = uleb128p1 (option_map (type_index m) t)
 abbrev pub operation_bytes : Mentions → Operation → List ℕ
 operation_bytes m (AdvancePc addresses) = 0x01 ∷ uleb128 addresses
 operation_bytes m (AdvanceLine lines) = 0x02 ∷ sleb128 lines
-operation_bytes m (StartLocal register name type) = 0x03 ∷ (uleb128 register ++ (optional_text_bytes m name ++ optional_type_bytes m type))
+operation_bytes m (StartLocal register name type) =
+    0x03 ∷ (uleb128 register ++ (optional_text_bytes m name ++ optional_type_bytes m type))
 operation_bytes m (StartLocalExtended register name type signature) = 0x04 ∷ (uleb128 register
     ++ (optional_text_bytes m name ++ (optional_type_bytes m type ++ optional_text_bytes m signature)))
 operation_bytes m (EndLocal register) = 0x05 ∷ uleb128 register
@@ -178,7 +181,8 @@ abbrev mutual
   value_bytes m (MethodValue x) = unsigned_bytes 0x1a (method_index m x)
   value_bytes m (EnumValue f) = unsigned_bytes 0x1b (field_index m f)
   value_bytes m (ArrayValue vs) = value_byte 0 0x1c ∷ (uleb128 (count_values vs) ++ values_bytes m vs)
-  value_bytes m (AnnotationValue t es) = value_byte 0 0x1d ∷ (uleb128 (type_index m t) ++ (uleb128 (length (names_of es)) ++ elements_bytes m es))
+  value_bytes m (AnnotationValue t es) =
+      value_byte 0 0x1d ∷ (uleb128 (type_index m t) ++ (uleb128 (length (names_of es)) ++ elements_bytes m es))
   value_bytes m NullValue = value_byte 0 0x1e ∷ []
   value_bytes m (BooleanValue is) = value_byte (if is then 1 else 0) 0x1f ∷ []
 
@@ -198,7 +202,9 @@ encoded_array_bytes m vs = uleb128 (count_values vs) ++ values_bytes m vs
 
 -- an annotation_item
 abbrev pub annotation_bytes : Mentions → Annotation → List ℕ
-annotation_bytes m a = a.visibility ∷ (uleb128 (type_index m a.type) ++ (uleb128 (length (names_of a.elements)) ++ elements_bytes m a.elements))
+annotation_bytes m a =
+    a.visibility
+    ∷ (uleb128 (type_index m a.type) ++ (uleb128 (length (names_of a.elements)) ++ elements_bytes m a.elements))
 
 -- a count and offsets: an annotation_set_item or an annotation_set_ref_list
 abbrev pub offsets_bytes : List ℕ → List ℕ
@@ -222,7 +228,10 @@ encoded_method_bytes x p = uleb128 p.0 ++ (uleb128 x.flags ++ uleb128 p.1)
 
 -- the methods with the offsets of their code
 abbrev pub encoded_methods_bytes : Mentions → Text → List MethodDef → List ℕ → List ℕ
-encoded_methods_bytes m class xs code_offs = concat (zip_with encoded_method_bytes xs (zip (differences 0 (map (λ x. method_index m (method_of class x)) xs)) code_offs))
+encoded_methods_bytes m class xs code_offs =
+    concat
+    (zip_with encoded_method_bytes xs
+    (zip (differences 0 (map (λ x. method_index m (method_of class x)) xs)) code_offs))
 
 -- a class_data_item
 unfoldable pub class_data_bytes : Mentions → Definition → List ℕ → List ℕ

@@ -16,7 +16,12 @@ strip_method m = record m { code = option_map strip_code m.code }
 
 -- a body without its source text and its methods' debug programs
 abbrev pub strip_body : Body → Body
-strip_body c = record c { source = None; direct_methods = map strip_method c.direct_methods; virtual_methods = map strip_method c.virtual_methods }
+strip_body c =
+    record c {
+      source = None;
+      direct_methods = map strip_method c.direct_methods;
+      virtual_methods = map strip_method c.virtual_methods;
+    }
 
 -- the same name with a stripped body
 abbrev pub strip_definition : Definition → Definition

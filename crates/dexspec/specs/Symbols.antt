@@ -68,8 +68,10 @@ proto_cmp p q = ordering_then (text_cmp p.return_type q.return_type) (slice_cmp 
 
 -- by class, then by name, then by type
 abbrev pub field_cmp : Field → Field → Ordering
-field_cmp f g = ordering_then (text_cmp f.class g.class) (ordering_then (text_cmp f.name g.name) (text_cmp f.type g.type))
+field_cmp f g =
+    ordering_then (text_cmp f.class g.class) (ordering_then (text_cmp f.name g.name) (text_cmp f.type g.type))
 
 -- by class, then by name, then by proto
 abbrev pub method_cmp : Method → Method → Ordering
-method_cmp m n = ordering_then (text_cmp m.class n.class) (ordering_then (text_cmp m.name n.name) (proto_cmp m.proto n.proto))
+method_cmp m n =
+    ordering_then (text_cmp m.class n.class) (ordering_then (text_cmp m.name n.name) (proto_cmp m.proto n.proto))

@@ -104,7 +104,8 @@ ArrayAround ValuesFrom count b o n = (i j : ℕ) × Uleb128At b o count i × Val
 -- relates the offset and the size of the elements
 abbrev pub AnnotationAround : (ℕ → ℕ → Type 0) → Text → List Text → List ℕ → ℕ → ℕ → Type 0
 AnnotationAround ElementsFrom t names b o n = (i j k index : ℕ) × Uleb128At b o index i × TypeRow b index t
-    × Uleb128At b (o + i) (length names) j × ElementsFrom (o + i + j) k × IsTrue (rises text_cmp names) × (n ≡ i + j + k)
+    × Uleb128At b (o + i) (length names) j × ElementsFrom (o + i + j) k × IsTrue (rises text_cmp names)
+    × (n ≡ i + j + k)
 
 abbrev mutual
   -- an encoded_value of the type code of its kind is at offset o

@@ -24,7 +24,9 @@ proto_weight p = 20 + 2 * length p.parameters
 
 -- all rows of the five pools, with the items that they refer to
 abbrev pub mentions_weight : Mentions → ℕ
-mentions_weight m = sum_by text_weight m.texts + 4 * length m.types + sum_by proto_weight m.protos + 8 * length m.fields + 8 * length m.methods
+mentions_weight m =
+    sum_by text_weight m.texts + 4 * length m.types + sum_by proto_weight m.protos + 8 * length m.fields
+    + 8 * length m.methods
 
 -- ---- parts of a definition
 

@@ -105,7 +105,8 @@ abbrev mutual
   IsValue (FloatValue bits) = bits < 2 ^ 32
   IsValue (DoubleValue bits) = bits < 2 ^ 64
   IsValue (ArrayValue vs) = AreValues vs × FitsUint (count_values vs)
-  IsValue (AnnotationValue t es) = AreElements es × FitsUint (length (names_of es)) × IsTrue (rises text_cmp (names_of es))
+  IsValue (AnnotationValue t es) =
+      AreElements es × FitsUint (length (names_of es)) × IsTrue (rises text_cmp (names_of es))
   IsValue _ = Unit {0}
 
   -- each of the values is such a value

@@ -37,7 +37,9 @@ IsShort bytes = IsCutOff bytes ⊎ HasBody (λ count units rest. IsProperPrefix 
 -- the bytes do not begin with a count, nor may one go on after them; or what follows the units begins neither a unit
 -- nor the zero byte
 abbrev pub IsBad : List ℕ → Type 0
-IsBad bytes = ((¬ IsCutOff bytes) × ((v n : ℕ) → ¬ BeginsWith IsUleb128 bytes v n)) ⊎ HasBody (λ count units rest. (¬ IsProperPrefix rest) × ¬ StartsWithZero rest) bytes
+IsBad bytes =
+    ((¬ IsCutOff bytes) × ((v n : ℕ) → ¬ BeginsWith IsUleb128 bytes v n))
+    ⊎ HasBody (λ count units rest. (¬ IsProperPrefix rest) × ¬ StartsWithZero rest) bytes
 
 -- the zero byte follows other than as many units as the count says
 abbrev pub IsMiscounted : List ℕ → Type 0
@@ -54,6 +56,8 @@ IsFault Count = IsMiscounted
 -- a proper front by its bytes: nothing, or the first byte or two of a longer spelling
 abbrev pub LooksCutOff : List ℕ → Type 0
 LooksCutOff bytes = (length bytes ≡ 0)
-    ⊎ (((length bytes ≡ 1) × ((slice_index bytes 0 ≡ 0xc0) ⊎ ((0xc2 ≤ slice_index bytes 0) × (slice_index bytes 0 ≤ 0xef))))
+    ⊎ (((length bytes ≡ 1)
+    × ((slice_index bytes 0 ≡ 0xc0) ⊎ ((0xc2 ≤ slice_index bytes 0) × (slice_index bytes 0 ≤ 0xef))))
     ⊎ (((length bytes ≡ 2) × (slice_index bytes 0 ≡ 0xe0) × (0xa0 ≤ slice_index bytes 1) × (slice_index bytes 1 ≤ 0xbf))
-    ⊎ ((length bytes ≡ 2) × (0xe1 ≤ slice_index bytes 0) × (slice_index bytes 0 ≤ 0xef) × (0x80 ≤ slice_index bytes 1) × (slice_index bytes 1 ≤ 0xbf))))
+    ⊎ ((length bytes ≡ 2) × (0xe1 ≤ slice_index bytes 0) × (slice_index bytes 0 ≤ 0xef) × (0x80 ≤ slice_index bytes 1)
+    × (slice_index bytes 1 ≤ 0xbf))))

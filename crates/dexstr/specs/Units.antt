@@ -29,7 +29,10 @@ abbrev pub units_of : List ℕ → Text
 units_of [] = []
 units_of (a ∷ []) = a ∷ []
 units_of (a ∷ b ∷ []) = if nat_lt a 0x80 then a ∷ units_of (b ∷ []) else (64 * (a - 0xc0) + (b - 0x80)) ∷ []
-units_of (a ∷ b ∷ c ∷ bs) = if nat_lt a 0x80 then a ∷ units_of (b ∷ c ∷ bs) else (if nat_lt a 0xe0 then (64 * (a - 0xc0) + (b - 0x80)) ∷ units_of (c ∷ bs) else (4096 * (a - 0xe0) + 64 * (b - 0x80) + (c - 0x80)) ∷ units_of bs)
+units_of (a ∷ b ∷ c ∷ bs) =
+    if nat_lt a 0x80 then a ∷ units_of (b ∷ c ∷ bs)
+    else (if nat_lt a 0xe0 then (64 * (a - 0xc0) + (b - 0x80)) ∷ units_of (c ∷ bs)
+    else (4096 * (a - 0xe0) + 64 * (b - 0x80) + (c - 0x80)) ∷ units_of bs)
 
 -- the bytes spell the units that they are read as
 pub record IsSpelling (bytes : List ℕ) : Type 0 where

@@ -30,7 +30,7 @@ pub fn descriptor_kind(text: &Text) -> Option<Kind>
     kind_of(text.bytes())
 }
 
-/// Whether the text may name a field or a method: it has a unit, and none of `.` `;` `[` `/`.
+/// Returns whether the text may name a field or a method: it has a unit, and none of `.` `;` `[` `/`.
 ///
 /// Source: the heading "MemberName" of the Android page "Dalvik Executable format".
 pub fn is_member_name(text: &Text) -> bool
@@ -54,7 +54,7 @@ pub fn shorty_letter(kind: Kind, text: &Text) -> u16
     }
 }
 
-/// Whether there is a byte, and none of `.` `;` `[` `/`.
+/// Returns whether there is a byte, and none of `.` `;` `[` `/`.
 fn is_name(bytes: &[u8]) -> bool
     ensures { IsTrue result ↔ IsMemberName bytes.now }
 {
@@ -103,7 +103,7 @@ fn element_kind(bytes: &[u8]) -> Option<Kind>
     }
 }
 
-/// Whether these are the name of a class and `;`.
+/// Returns whether these are the name of a class and `;`.
 fn ends_class(bytes: &[u8]) -> bool
     ensures { result ≡ ends_class false bytes.now }
 {
@@ -119,7 +119,7 @@ fn ends_class(bytes: &[u8]) -> bool
     false
 }
 
-/// Whether the letter is that of a primitive type.
+/// Returns whether the letter is that of a primitive type.
 fn is_primitive_letter(letter: u8) -> bool
     ensures { result ≡ is_primitive_letter letter }
 {

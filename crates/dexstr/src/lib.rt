@@ -2,7 +2,8 @@
 //! one byte for a unit from 0x0001 to 0x007f, two for 0x0000 and from 0x0080 to 0x07ff, three from 0x0800
 //! on. Each unit is spelled by itself, surrogates too, and a surrogate need not have a partner.
 //!
-//! Public contracts use the definitions of `specs/Escapes`, `specs/Faults`, `specs/Kinds` and `specs/Units`.
+//! Of the definitions that its contracts use, read `specs/Units` (the units that bytes spell) and `specs/Faults` (when
+//! a text is not read) first.
 //!
 //! Source: the Android page "Dalvik Executable format", under the headings "MUTF-8 (Modified UTF-8)
 //! encoding", "string_data_item", "TypeDescriptor", "ShortyDescriptor" and "MemberName".

@@ -87,7 +87,7 @@ pub(crate) fn first_text<'a>(
     }
 }
 
-/// Whether a unit's spelling, or the zero byte, may begin with these bytes and go on.
+/// Returns whether a unit's spelling, or the zero byte, may begin with these bytes and go on.
 fn looks_cut_off(bytes: &[u8]) -> bool
     ensures { IsTrue result ↔ LooksCutOff bytes.now }
 {

@@ -56,7 +56,8 @@ pub(crate) fn blocks_of(alloc: Global, bytes: &[u8]) -> Result<Vec<Block>, Alloc
 
 // The run that begins where `left` bytes are left, if a block has it.
 fn run_at(blocks: &[Block], left: usize) -> Option<Run>
-    ensures { IfSome result (λ run. (bytes : List ℕ) → AreBlocks bytes blocks.now → IsRun bytes left run) }
+    ensures { IfSome result
+        (λ run. (bytes : List ℕ) → AreBlocks bytes blocks.now → IsRun bytes left run) }
 {
     let (number, place) = (left / BLOCK_LEN, left % BLOCK_LEN);
     (number < blocks.len() && place < 3).then(|| blocks[number][2 - place])

@@ -57,8 +57,10 @@ impl<'a> TextReader<'a> {
     pub fn read(&mut self, at: usize) -> Result<Option<Text<'a>>, AllocError>
         requires { at ≤ length self.old }
         ensures bytes { self.new ≡ self.old }
-        ensures found { IfOk result (λ found. IfSome found (λ s. (n : ℕ) × StringDataAt self.old at s n)) }
-        ensures none { IfOk result (λ found. IfNone found ((s : List ℕ) (n : ℕ) → ¬ StringDataAt self.old at s n)) }
+        ensures found { IfOk result
+            (λ found. IfSome found (λ s. (n : ℕ) × StringDataAt self.old at s n)) }
+        ensures none { IfOk result
+            (λ found. IfNone found ((s : List ℕ) (n : ℕ) → ¬ StringDataAt self.old at s n)) }
     {
         let Ok((text, len)) = self.item_at(at) else {
             return Ok(None);

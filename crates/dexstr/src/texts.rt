@@ -70,7 +70,7 @@ impl<'a> Text<'a> {
         self.count as usize
     }
 
-    /// Whether the text has no unit.
+    /// Returns whether the text has no unit.
     pub fn is_empty(&self) -> bool
         ensures { IsTrue result ↔ (self.now ≡ []) }
     {

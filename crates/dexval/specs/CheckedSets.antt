@@ -15,9 +15,12 @@ pub record IsWeighed {X : Type 0} (Read : X → Type 0) (weighs : X → ℕ) (we
 
 -- each checked item is at its offset and has the recorded weight
 pub record AreChecked (b : List ℕ) (m : Mentions) (checked : CheckedSets) : Type 0 where
-  pub sets_checked : (off weight : ℕ) → get nat_eq checked.sets off ≡ Some weight → IsWeighed (IsSetAt b off m) (set_weight_in m) weight
-  pub lists_checked : (off weight : ℕ) → get nat_eq checked.lists off ≡ Some weight → IsWeighed (IsRefListAt b off m) (sets_weight_in m) weight
+  pub sets_checked : (off weight : ℕ) → get nat_eq checked.sets off ≡ Some weight
+      → IsWeighed (IsSetAt b off m) (set_weight_in m) weight
+  pub lists_checked : (off weight : ℕ) → get nat_eq checked.lists off ≡ Some weight
+      → IsWeighed (IsRefListAt b off m) (sets_weight_in m) weight
 
 -- an annotations_directory_item of that weight is at the offset
 abbrev pub HasDirectoryOf : List ℕ → ℕ → Mentions → ℕ → Type 0
-HasDirectoryOf b off m = IsWeighed (IsDirectoryAt b off m) (λ (d : NumberedDirectory). directory_weight (directory_in m d))
+HasDirectoryOf b off m =
+    IsWeighed (IsDirectoryAt b off m) (λ (d : NumberedDirectory). directory_weight (directory_in m d))

@@ -77,7 +77,12 @@ visibility_of System = 2
 
 -- the annotation
 abbrev pub annotation_of : CodeAnnotation → NumberedAnnotation
-annotation_of a = record { visibility = visibility_of a.visibility; type = encoded_type a.annotation; elements = encoded_elements a.annotation }
+annotation_of a =
+    record {
+      visibility = visibility_of a.visibility;
+      type = encoded_type a.annotation;
+      elements = encoded_elements a.annotation;
+    }
 
 -- the set of these annotations
 abbrev pub set_from : List CodeAnnotation → NumberedSet

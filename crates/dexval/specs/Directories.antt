@@ -45,7 +45,8 @@ pub record HasPair (b : List ℕ) (at least limit : ℕ) : Type 0 where
   pub offset : uint_at b (at + 4) ≢ 0
 
 -- n pairs from an offset on: members by their numbers, which are below the limit, and their items
-pub record ArePairsAt {X Y : Type 0} (Known : X → Type 0) (inside : X → Y) (At : List ℕ → ℕ → Y → Type 0) (b : List ℕ) (p n limit : ℕ) (xs : List (ℕ × X)) : Type 0 where
+pub record ArePairsAt {X Y : Type 0} (Known : X → Type 0) (inside : X → Y) (At : List ℕ → ℕ → Y → Type 0) (b : List ℕ)
+    (p n limit : ℕ) (xs : List (ℕ × X)) : Type 0 where
   pub members_known : All (λ e. (e.0 < limit) × Known e.1) xs
   pub pairs_encoded : PairsAt (IsIndexBelow limit) At b p n (map (λ e. (e.0, inside e.1)) xs)
 
@@ -68,7 +69,9 @@ NoDirectoryAt b off = (d : Directory) → DirectoryAt b off d → ⊥
 
 -- the weight of the sets and the lists of sets of a directory
 abbrev pub directory_weight : Directory → ℕ
-directory_weight d = set_weight d.own + sum_by (λ e. set_weight e.1) d.fields + sum_by (λ e. set_weight e.1) d.methods + sum_by (λ e. ref_list_weight e.1) d.parameters
+directory_weight d =
+    set_weight d.own + sum_by (λ e. set_weight e.1) d.fields + sum_by (λ e. set_weight e.1) d.methods
+    + sum_by (λ e. ref_list_weight e.1) d.parameters
 
 -- the weight of the set that the numbers denote
 abbrev pub set_weight_in : Mentions → NumberedSet → ℕ

@@ -26,8 +26,10 @@ pub record AreHeld (cache : DirectoryCache) : Type 0 where
 
 -- each recorded item is at its offset
 pub record AreCached (b : List ℕ) (m : Mentions) (cache : DirectoryCache) : Type 0 where
-  pub sets_cached : (off place : ℕ) → get nat_eq cache.sets off ≡ Some place → IsSetAt b off m (set_at cache.table.sets (Some place))
-  pub lists_cached : (off place : ℕ) → get nat_eq cache.lists off ≡ Some place → IsRefListAt b off m (sets_at cache.table (Some place))
+  pub sets_cached : (off place : ℕ) → get nat_eq cache.sets off ≡ Some place
+      → IsSetAt b off m (set_at cache.table.sets (Some place))
+  pub lists_cached : (off place : ℕ) → get nat_eq cache.lists off ≡ Some place
+      → IsRefListAt b off m (sets_at cache.table (Some place))
 
 -- An item was read and recorded: the table grew, and still has the recorded places and that of the item. The item names
 -- what is new in the table.

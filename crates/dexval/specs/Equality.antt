@@ -29,7 +29,8 @@ tree_is : (g h : Gv) → same_tree g h ≡ true → g ≡ h
 tree_is gnil gnil e = refl
 tree_is (gnum i) (gnum j) e = ap gnum ((unsigned_Decides i j).0 e)
 tree_is (gcons g h) (gcons k l) e =
-    ap (λ (x : Gv). gcons x h) (tree_is g k (first_so (same_tree g k) (same_tree h l) e)) ∙ ap (gcons k) (tree_is h l (second_so (same_tree g k) (same_tree h l) e))
+    ap (λ (x : Gv). gcons x h) (tree_is g k (first_so (same_tree g k) (same_tree h l) e)) ∙ ap (gcons k)
+    (tree_is h l (second_so (same_tree g k) (same_tree h l) e))
 tree_is g h e = absurd (false_is_not_true e)
 
 both : (a b : Bool) → a ≡ true → b ≡ true → (a && b) ≡ true
@@ -44,7 +45,8 @@ tree_self (gcons g h) = both (same_tree g g) (same_tree h h) (tree_self g) (tree
 -- an annotation: its parts
 abbrev annotation_code : Coded NumberedAnnotation
 annotation_code =
-    code_by (ℕ × (ℕ × NumberedElements)) (coded× coded_ℕ (coded× coded_ℕ elements_code)) (λ a. (a.visibility, (a.type, a.elements))) (λ p. record { visibility = p.0; type = p.1.0; elements = p.1.1 })
+    code_by (ℕ × (ℕ × NumberedElements)) (coded× coded_ℕ (coded× coded_ℕ elements_code))
+    (λ a. (a.visibility, (a.type, a.elements))) (λ p. record { visibility = p.0; type = p.1.0; elements = p.1.1 })
     (λ _. refl)
 
 -- a set: a list of codes
@@ -56,8 +58,11 @@ abbrev pub same_set : NumberedSet → NumberedSet → Bool
 same_set s t = same_tree (set_code.code s) (set_code.code t)
 
 pub set_decides : (s t : NumberedSet) → Decides (same_set s t) (s ≡ t)
-set_decides s t =
-    (λ e. set_code.inj s t (tree_is (set_code.code s) (set_code.code t) e), λ e. subst (λ (u : NumberedSet). same_set s u ≡ true) e (tree_self (set_code.code s)))
+set_decides s t = (
+  λ e. set_code.inj s t (tree_is (set_code.code s) (set_code.code t) e),
+  λ e. subst
+      (λ (u : NumberedSet). same_set s u ≡ true) e (tree_self (set_code.code s)),
+)
 
 -- ---- sets of the code
 

@@ -28,10 +28,13 @@ pub record AreReadAt (b : List ℕ) (o : ℕ) (m : Mentions) (depth : ℕ) (xs :
 
 -- no element whose name has at least the number `least`, and whose value nests at most `depth` deep, is at the offset
 abbrev pub NoElementAt : List ℕ → ℕ → ℕ → ℕ → Type 0
-NoElementAt b o depth least = (index : ℕ) (name : Text) (v : Value) (i j : ℕ) → Uleb128At b o index i → StringRow b index name → least ≤ index → ValueAt b (o + i) v j → value_depth v ≤ depth → ⊥
+NoElementAt b o depth least =
+    (index : ℕ) (name : Text) (v : Value) (i j : ℕ) → Uleb128At b o index i → StringRow b index name → least ≤ index
+    → ValueAt b (o + i) v j → value_depth v ≤ depth → ⊥
 
 -- an element of the name and the value that the numbers denote is at the offset
-pub record IsElementReadAt (b : List ℕ) (o : ℕ) (m : Mentions) (depth least : ℕ) (e : ℕ × NumberedValue) (n : ℕ) : Type 0 where
+pub record IsElementReadAt (b : List ℕ) (o : ℕ) (m : Mentions) (depth least : ℕ) (e : ℕ × NumberedValue) (n : ℕ) :
+    Type 0 where
   pub head : ℕ
   pub size : ℕ
   pub index : Uleb128At b o e.0 head
@@ -42,11 +45,14 @@ pub record IsElementReadAt (b : List ℕ) (o : ℕ) (m : Mentions) (depth least 
 
 -- no `count` elements whose names rise strictly, and whose values nest at most `depth` deep, are at the offset
 abbrev pub NoElementsAt : List ℕ → ℕ → ℕ → ℕ → Type 0
-NoElementsAt b o depth count = (es : Elements) (n : ℕ) → ElementsAt b o es n → length (names_of es) ≡ count → IsTrue (rises text_cmp (names_of es)) → elements_depth es ≤ depth → ⊥
+NoElementsAt b o depth count =
+    (es : Elements) (n : ℕ) → ElementsAt b o es n → length (names_of es) ≡ count → IsTrue (rises text_cmp (names_of es))
+    → elements_depth es ≤ depth → ⊥
 
 -- `count` elements, those that the numbers denote, are at the offset; their names rise, and their values nest at most
 -- `depth` deep
-pub record AreElementsReadAt (b : List ℕ) (o : ℕ) (m : Mentions) (depth count : ℕ) (es : NumberedElements) (n : ℕ) : Type 0 where
+pub record AreElementsReadAt (b : List ℕ) (o : ℕ) (m : Mentions) (depth count : ℕ) (es : NumberedElements) (n : ℕ) :
+    Type 0 where
   pub known : HaveKnown m es
   pub encodes : ElementsAt b o (elements_in m es) n
   pub number : length (names_of (elements_in m es)) ≡ count
@@ -55,11 +61,13 @@ pub record AreElementsReadAt (b : List ℕ) (o : ℕ) (m : Mentions) (depth coun
 
 -- no encoded_annotation whose values nest at most `depth` deep is at the offset
 abbrev pub NoAnnotationAt : List ℕ → ℕ → ℕ → Type 0
-NoAnnotationAt b o depth = (t : Text) (es : Elements) (n : ℕ) → EncodedAnnotationAt t b o es n → elements_depth es ≤ depth → ⊥
+NoAnnotationAt b o depth =
+    (t : Text) (es : Elements) (n : ℕ) → EncodedAnnotationAt t b o es n → elements_depth es ≤ depth → ⊥
 
 -- an encoded_annotation of the type and the elements that the numbers denote is at the offset; its values nest at most
 -- `depth` deep
-pub record IsAnnotationReadAt (b : List ℕ) (o : ℕ) (m : Mentions) (depth : ℕ) (t : ℕ) (es : NumberedElements) (n : ℕ) : Type 0 where
+pub record IsAnnotationReadAt (b : List ℕ) (o : ℕ) (m : Mentions) (depth : ℕ) (t : ℕ) (es : NumberedElements) (n : ℕ) :
+    Type 0 where
   pub type_known : t < length m.types
   pub known : HaveKnown m es
   pub encodes : EncodedAnnotationAt (type_at m t) b o (elements_in m es) n

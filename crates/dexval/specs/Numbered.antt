@@ -98,7 +98,8 @@ field_at m i = slice_index_or m.fields i (record { class = []; name = []; type =
 
 -- the method of a number
 abbrev pub method_at : Mentions → ℕ → Method
-method_at m i = slice_index_or m.methods i (record { class = []; name = []; proto = record { return_type = []; parameters = [] } })
+method_at m i =
+    slice_index_or m.methods i (record { class = []; name = []; proto = record { return_type = []; parameters = [] } })
 
 -- a value that names no symbol denotes itself
 abbrev pub plain_value : Literal → Value

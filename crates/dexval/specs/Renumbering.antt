@@ -27,7 +27,8 @@ abbrev mutual
   -- each name and its value
   pub renumbered_elements : Maps → NumberedElements → NumberedElements
   renumbered_elements r NoElement = NoElement
-  renumbered_elements r (ThenNamed name x es) = ThenNamed (remapped r kinds.Text name) (renumbered r x) (renumbered_elements r es)
+  renumbered_elements r (ThenNamed name x es) =
+      ThenNamed (remapped r kinds.Text name) (renumbered r x) (renumbered_elements r es)
 
 -- one name and its value
 abbrev pub renumbered_element : Maps → ℕ × NumberedValue → ℕ × NumberedValue
@@ -35,7 +36,12 @@ renumbered_element r e = (remapped r kinds.Text e.0, renumbered r e.1)
 
 -- the annotation
 abbrev pub renumbered_annotation : Maps → NumberedAnnotation → NumberedAnnotation
-renumbered_annotation r a = record { visibility = a.visibility; type = remapped r kinds.Typ a.type; elements = renumbered_elements r a.elements }
+renumbered_annotation r a =
+    record {
+      visibility = a.visibility;
+      type = remapped r kinds.Typ a.type;
+      elements = renumbered_elements r a.elements;
+    }
 
 -- the set
 abbrev pub renumbered_set : Maps → NumberedSet → NumberedSet

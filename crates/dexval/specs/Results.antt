@@ -61,4 +61,6 @@ HasDirectoryShape b off m shape = HasDirectoryOf b off m shape.weight
 
 -- the counts of members of the directory at the offset, which are inside the data with all its pairs
 abbrev pub AreMemberCounts : List ℕ → ℕ → MemberCounts → Type 0
-AreMemberCounts b off counts = HasMembers b off × (counts.fields ≡ fields_count b off) × (counts.methods ≡ methods_count b off) × (counts.parameters ≡ parameters_count b off)
+AreMemberCounts b off counts =
+    HasMembers b off × (counts.fields ≡ fields_count b off) × (counts.methods ≡ methods_count b off)
+    × (counts.parameters ≡ parameters_count b off)

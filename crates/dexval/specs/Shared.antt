@@ -43,7 +43,8 @@ IsNamedBy members i = (number : ℕ) × Contains members (number, i)
 
 -- each set of the table is that of the class, of a field, of a method or of a list, and each list is that of a method
 pub record NamesAll (t : NumberedTable) (own : Option ℕ) (fields methods parameters : List (ℕ × ℕ)) : Type 0 where
-  pub sets_named : (i : ℕ) → i < length t.sets → (own ≡ Some i) ⊎ IsNamedBy fields i ⊎ IsNamedBy methods i ⊎ IsListed t i
+  pub sets_named : (i : ℕ) → i < length t.sets
+      → (own ≡ Some i) ⊎ IsNamedBy fields i ⊎ IsNamedBy methods i ⊎ IsListed t i
   pub lists_named : (i : ℕ) → i < length t.lists → IsNamedBy parameters i
 
 -- the table has what the places name, and nothing else

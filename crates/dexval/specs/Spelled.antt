@@ -72,7 +72,8 @@ abbrev mutual
   numbered_bytes (Plain literal) = literal_bytes literal
   numbered_bytes (Named reference i) = unsigned_bytes (reference_code reference) i
   numbered_bytes (Array xs) = value_byte 0 0x1c ∷ (count_bytes (values_count xs) ++ numbered_values_bytes xs)
-  numbered_bytes (Annotated t es) = value_byte 0 0x1d ∷ (uleb128 t ++ (count_bytes (elements_count es) ++ numbered_elements_bytes es))
+  numbered_bytes (Annotated t es) =
+      value_byte 0 0x1d ∷ (uleb128 t ++ (count_bytes (elements_count es) ++ numbered_elements_bytes es))
 
   -- values in sequence
   pub numbered_values_bytes : NumberedValues → List ℕ

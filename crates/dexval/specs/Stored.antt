@@ -93,22 +93,27 @@ mutual
   -- two values with equal codes are equal
   pub one_value : (x y : NumberedValue) → value_tree x ≡ value_tree y → x ≡ y
   one_value (Plain m) (Plain n) p = ap Plain (one_literal m n (ap tail p))
-  one_value (Named r i) (Named s j) p = λ k. Named (one_reference r s (ap (λ g. head (tail g)) p) k) (coded_ℕ.inj i j (ap (λ g. tail (tail g)) p) k)
+  one_value (Named r i) (Named s j) p =
+      λ k. Named (one_reference r s (ap (λ g. head (tail g)) p) k) (coded_ℕ.inj i j (ap (λ g. tail (tail g)) p) k)
   one_value (Array xs) (Array ys) p = ap Array (one_values xs ys (ap tail p))
-  one_value (Annotated t ds) (Annotated u es) p = λ k. Annotated (coded_ℕ.inj t u (ap (λ g. head (tail g)) p) k) (one_elements ds es (ap (λ g. tail (tail g)) p) k)
+  one_value (Annotated t ds) (Annotated u es) p =
+      λ k. Annotated (coded_ℕ.inj t u (ap (λ g. head (tail g)) p) k) (one_elements ds es (ap (λ g. tail (tail g)) p) k)
   one_value x y p = absurd (subst (λ g. T (tag (value_tree x) == tag g)) p tt)
 
   -- two lists of values with equal codes are equal
   pub one_values : (x y : NumberedValues) → values_tree x ≡ values_tree y → x ≡ y
   one_values NoValue NoValue p = refl
-  one_values (ThenNext x xs) (ThenNext y ys) p = λ k. ThenNext (one_value x y (ap head p) k) (one_values xs ys (ap tail p) k)
+  one_values (ThenNext x xs) (ThenNext y ys) p =
+      λ k. ThenNext (one_value x y (ap head p) k) (one_values xs ys (ap tail p) k)
   one_values NoValue (ThenNext y ys) p = absurd (subst HasParts (sym p) tt)
   one_values (ThenNext x xs) NoValue p = absurd (subst HasParts p tt)
 
   -- two lists of elements with equal codes are equal
   pub one_elements : (x y : NumberedElements) → elements_tree x ≡ elements_tree y → x ≡ y
   one_elements NoElement NoElement p = refl
-  one_elements (ThenNamed m x ds) (ThenNamed n y es) p = λ k. ThenNamed (coded_ℕ.inj m n (ap head p) k) (one_value x y (ap (λ g. head (tail g)) p) k) (one_elements ds es (ap (λ g. tail (tail g)) p) k)
+  one_elements (ThenNamed m x ds) (ThenNamed n y es) p =
+      λ k. ThenNamed (coded_ℕ.inj m n (ap head p) k) (one_value x y (ap (λ g. head (tail g)) p) k)
+      (one_elements ds es (ap (λ g. tail (tail g)) p) k)
   one_elements NoElement (ThenNamed n y es) p = absurd (subst HasParts (sym p) tt)
   one_elements (ThenNamed m x ds) NoElement p = absurd (subst HasParts p tt)
 

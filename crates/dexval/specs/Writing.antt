@@ -22,19 +22,26 @@ use Rattle.dexval.specs.Spelled.{IsCounted, AreCounted, IsCountedAnnotation, num
 -- the bytes of the value that the numbers denote are put, if each array and annotation in it has fewer than 2^32
 -- members
 abbrev pub PutsValue : {T E : Type 0} → Mentions → NumberedValue → Vec ℕ → Vec ℕ → Result T E → Type 0
-PutsValue m x old new r = (symbolic : ValueMeant) → IsCounted x → Denotes m x symbolic → Puts (value_bytes m symbolic) old new r
+PutsValue m x old new r =
+    (symbolic : ValueMeant) → IsCounted x → Denotes m x symbolic → Puts (value_bytes m symbolic) old new r
 
 -- those of the static values
 abbrev pub PutsStatics : {T E : Type 0} → Mentions → List Value → Vec ℕ → Vec ℕ → Result T E → Type 0
-PutsStatics m values old new r = (symbolic : ValuesMeant) → length values < 2 ^ 32 → AreCounted (values_of values) → Denote m (values_of values) symbolic → Puts (encoded_array_bytes m symbolic) old new r
+PutsStatics m values old new r =
+    (symbolic : ValuesMeant) → length values < 2 ^ 32 → AreCounted (values_of values)
+    → Denote m (values_of values) symbolic → Puts (encoded_array_bytes m symbolic) old new r
 
 -- those of the annotation
 abbrev pub PutsAnnotation : {T E : Type 0} → Mentions → NumberedAnnotation → Vec ℕ → Vec ℕ → Result T E → Type 0
-PutsAnnotation m x old new r = (symbolic : AnnotationMeant) → IsCountedAnnotation x → DenotesAnnotation m x symbolic → Puts (annotation_bytes m symbolic) old new r
+PutsAnnotation m x old new r =
+    (symbolic : AnnotationMeant) → IsCountedAnnotation x → DenotesAnnotation m x symbolic
+    → Puts (annotation_bytes m symbolic) old new r
 
 -- the annotation_set_item of the set that the numbers denote is put, its annotations in sequence from an offset on
 abbrev pub PutsSet : {T E : Type 0} → Mentions → ℕ → NumberedSet → Vec ℕ → Vec ℕ → Result T E → Type 0
-PutsSet m first x old new r = (symbolic : SetMeant) → DenotesSet m x symbolic → Puts (offsets_bytes (offsets_from 1 first (map (annotation_bytes m) symbolic))) old new r
+PutsSet m first x old new r =
+    (symbolic : SetMeant) → DenotesSet m x symbolic
+    → Puts (offsets_bytes (offsets_from 1 first (map (annotation_bytes m) symbolic))) old new r
 
 -- ---- sizes
 
@@ -48,7 +55,9 @@ annotation_length annotation = length (numbered_annotation_bytes (annotation_of 
 
 -- the size of what an annotation denotes in a numbering, or 2^64 - 1 if it is more
 abbrev pub IsAnnotationSize : NumberedAnnotation → ℕ → Type 0
-IsAnnotationSize x size = (m : Mentions) (symbolic : AnnotationMeant) → AreRising m → DenotesAnnotation m x symbolic → size ≡ min (2 ^ 64 - 1) (length (annotation_bytes m symbolic))
+IsAnnotationSize x size =
+    (m : Mentions) (symbolic : AnnotationMeant) → AreRising m → DenotesAnnotation m x symbolic
+    → size ≡ min (2 ^ 64 - 1) (length (annotation_bytes m symbolic))
 
 -- ---- weights
 

@@ -108,10 +108,12 @@ impl File<'_> {
         requires held { AreHeld kept.old.cache }
         requires cache { IsFile self.now → IsCacheOf self.now kept.old.cache }
         ensures lists { kept.new.cache.lists ≡ kept.old.cache.lists }
-        ensures noted { IfOk result (λ place. IsSetNoted kept.old.cache kept.new.cache (Some place)) }
+        ensures noted { IfOk result
+            (λ place. IsSetNoted kept.old.cache kept.new.cache (Some place)) }
         ensures cache { IsFile self.now → OnOk result (IsCacheOf self.now kept.new.cache) }
         ensures read { IsFile self.now
-            → IfOk result (HasCountedSet self.now off kept.old.budget kept.new.budget kept.new.cache) }
+            → IfOk result
+            (HasCountedSet self.now off kept.old.budget kept.new.budget kept.new.cache) }
         ensures refused { IsFile self.now → IfErr result (IsFaultWithin
             (SetAt self.now.frame.now off) set_weight kept.old.budget.weight kept.old.budget.most) }
     {
@@ -134,7 +136,8 @@ impl File<'_> {
         ensures read { IsFile self.now → IfOk result
             (HasCountedSetOrEmpty self.now off kept.old.budget kept.new.budget kept.new.cache) }
         ensures refused { IsFile self.now → IfErr result (IsFaultWithin
-            (OrNone SetAt [] self.now.frame.now off) set_weight kept.old.budget.weight kept.old.budget.most) }
+            (OrNone SetAt [] self.now.frame.now off) set_weight kept.old.budget.weight
+            kept.old.budget.most) }
     {
         if off == 0 {
             return Ok(None);

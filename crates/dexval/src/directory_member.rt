@@ -132,9 +132,11 @@ impl File<'_> {
         ensures noted { IfOk result (AreSetsNoted kept.old.cache kept.new.cache) }
         ensures cache { IsFile self.now → OnOk result (IsCacheOf self.now kept.new.cache) }
         ensures read { IsFile self.now
-            → IfOk result (HasCountedSets self.now off kept.old.budget kept.new.budget kept.new.cache) }
+            → IfOk result
+            (HasCountedSets self.now off kept.old.budget kept.new.budget kept.new.cache) }
         ensures refused { IsFile self.now → IfErr result (IsFaultWithin
-            (RefListAt self.now.frame.now off) ref_list_weight kept.old.budget.weight kept.old.budget.most) }
+            (RefListAt self.now.frame.now off) ref_list_weight kept.old.budget.weight
+            kept.old.budget.most) }
     {
         let count = count_at(self.frame, off)?;
         let list = list_weight(count);

@@ -1,10 +1,8 @@
 //! Encoded values and annotations: the initial values of static fields, and the annotations of classes, members and
 //! parameters.
 //!
-//! Public contracts use the definitions of `specs/CheckedSets`, `specs/Checking`, `specs/Code`, `specs/Directories`,
-//! `specs/Equality`, `specs/Items`, `specs/Laws`, `specs/DirectoryCache`, `specs/Nesting`, `specs/Numbered`,
-//! `specs/Reading`, `specs/Renumbering`, `specs/Results`, `specs/Same`, `specs/Shared`, `specs/Spelled`,
-//! `specs/Stored`, `specs/Tables`, `specs/Uses` and `specs/Writing`.
+//! Of the definitions that its contracts use, read `specs/Numbered` (values and sets with numbers for symbols, and what
+//! they denote), `specs/Reading` (when an item is refused) and `specs/Spelled` (its bytes) first.
 //!
 //! Source: the Android page "Dalvik Executable format", under the headings "encoded_value encoding",
 //! "encoded_array format", "encoded_annotation format", "annotation_item", "annotation_set_item",

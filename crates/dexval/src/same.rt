@@ -18,15 +18,15 @@ pub(crate) fn end(remap: &Remap, kind: SymbolKind, number: u32) -> usize
     remap.or_same(kind, number as usize)
 }
 
-/// Whether two numbers of symbols of a kind are equal, once each is remapped by its own map. A number without an image
-/// is unchanged.
+/// Returns whether two numbers of symbols of a kind are equal, once each is remapped by its own map. A number without
+/// an image is unchanged.
 pub fn eq_ends(kind: SymbolKind, mine: &Remap, number: u32, theirs: &Remap, other: u32) -> bool
     ensures { IsTrue result ↔ (remapped mine.now kind number ≡ remapped theirs.now kind other) }
 {
     end(mine, kind, number) == end(theirs, kind, other)
 }
 
-// Whether the elements are equal, one for one, once their numbers are remapped.
+// Returns whether the elements are equal, one for one, once their numbers are remapped.
 #[cycle(comparing)]
 fn same_elements(mine: &Remap, elements: &[Element], theirs: &Remap, others: &[Element]) -> bool
     ensures { IsTrue result ↔ SameElements mine.now elements.now theirs.now others.now }
@@ -42,7 +42,7 @@ fn same_elements(mine: &Remap, elements: &[Element], theirs: &Remap, others: &[E
     true
 }
 
-/// Whether two lists of values, as those of static fields, are equal, one for one, once the numbers of each are
+/// Returns whether two lists of values, as those of static fields, are equal, one for one, once the numbers of each are
 /// remapped by its own map. A number without an image is unchanged.
 ///
 /// Source: "encoded_array format".
@@ -62,8 +62,8 @@ pub fn same_values_mapped(values: &[Value], mine: &Remap, others: &[Value], thei
 }
 
 impl Value {
-    /// Whether this and another value are equal, once the numbers of each are remapped by its own map. A number without
-    /// an image is unchanged.
+    /// Returns whether this and another value are equal, once the numbers of each are remapped by its own map. A number
+    /// without an image is unchanged.
     #[cycle(comparing)]
     pub fn same_mapped(&self, mine: &Remap, other: &Value, theirs: &Remap) -> bool
         ensures { IsTrue result ↔ SameValue mine.now self.now theirs.now other.now }
@@ -77,8 +77,8 @@ impl Value {
 }
 
 impl Element {
-    /// Whether this and another element have equal names and values, once the numbers of each are remapped by its own
-    /// map. A number without an image is unchanged.
+    /// Returns whether this and another element have equal names and values, once the numbers of each are remapped by
+    /// its own map. A number without an image is unchanged.
     #[cycle(comparing)]
     pub fn same_mapped(&self, mine: &Remap, other: &Element, theirs: &Remap) -> bool
         ensures { IsTrue result ↔ SameElement mine.now self.now theirs.now other.now }
@@ -89,8 +89,8 @@ impl Element {
 }
 
 impl Annotation {
-    /// Whether this and another annotation have equal visibilities, types and elements, once the numbers of each are
-    /// remapped by its own map. A number without an image is unchanged.
+    /// Returns whether this and another annotation have equal visibilities, types and elements, once the numbers of
+    /// each are remapped by its own map. A number without an image is unchanged.
     pub fn same_mapped(&self, mine: &Remap, other: &Annotation, theirs: &Remap) -> bool
         ensures { IsTrue result ↔ SameAnnotation mine.now self.now theirs.now other.now }
     {
@@ -102,8 +102,8 @@ impl Annotation {
 }
 
 impl AnnotationSet {
-    /// Whether this and another set are equal, once the numbers of each are remapped by its own map. A number without
-    /// an image is unchanged.
+    /// Returns whether this and another set are equal, once the numbers of each are remapped by its own map. A number
+    /// without an image is unchanged.
     pub fn same_mapped(&self, mine: &Remap, other: &AnnotationSet, theirs: &Remap) -> bool
         ensures { IsTrue result ↔ SameSet mine.now self.now theirs.now other.now }
     {

@@ -24,7 +24,7 @@ impl AnnotationSet {
         }
     }
 
-    /// Whether the set has no annotation.
+    /// Returns whether the set has no annotation.
     pub fn is_empty(&self) -> bool
         ensures { IsTrue result ↔ (set_of self.now ≡ []) }
     {

@@ -108,7 +108,8 @@ impl ValueChecker<'_> {
         ensures checked { HasPools self.now.bytes.now self.now.pools.now
             → MeasuresElement self.now.bytes.now at self.now.pools.now depth least result }
         ensures name { IfSome result (λ element. element.0 < 2 ^ 32) }
-        ensures within { IfSome result (λ element. at + element.1.size ≤ length self.now.bytes.now) }
+        ensures within { IfSome result
+            (λ element. at + element.1.size ≤ length self.now.bytes.now) }
         ensures light { IfSome result (λ element. element.1.weight ≤ 9 * element.1.size) }
     {
         let (name, head) = number_at(self.bytes, at)?;
@@ -129,7 +130,8 @@ impl ValueChecker<'_> {
         requires small { length self.now.bytes.now ≤ 2 ^ 30 }
         ensures checked { HasPools self.now.bytes.now self.now.pools.now
             → MeasuresElements self.now.bytes.now at self.now.pools.now depth count result }
-        ensures within { IfSome result (λ elements. at + elements.size ≤ length self.now.bytes.now) }
+        ensures within { IfSome result
+            (λ elements. at + elements.size ≤ length self.now.bytes.now) }
         ensures light { IfSome result (λ elements. elements.weight ≤ 9 * elements.size) }
     {
         let mut size = 0;
@@ -152,7 +154,8 @@ impl ValueChecker<'_> {
         requires small { length self.now.bytes.now ≤ 2 ^ 30 }
         ensures checked { HasPools self.now.bytes.now self.now.pools.now
             → MeasuresAnnotation self.now.bytes.now at self.now.pools.now depth result }
-        ensures within { IfSome result (λ annotation. at + annotation.1.size ≤ length self.now.bytes.now) }
+        ensures within { IfSome result
+            (λ annotation. at + annotation.1.size ≤ length self.now.bytes.now) }
         ensures light { IfSome result (λ annotation. annotation.1.weight ≤ 9 * annotation.1.size) }
     {
         let (typ, first) = number_at(self.bytes, at)?;

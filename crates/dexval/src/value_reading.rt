@@ -26,7 +26,11 @@ const MOST_AT_ONCE: usize = 4096;
 // The number of items, of `count`, for which capacity is reserved before they are read. `left` bytes are left, and each
 // item has at least one byte. So for nested items a false count reserves little, and a true count reserves no more than
 // needed.
-pub(crate) fn room(count: u32, left: usize) -> usize {
+pub(crate) fn room(count: u32, left: usize) -> usize
+    ensures count { result ≤ count }
+    ensures left { result ≤ left }
+    ensures most { result ≤ 4096 }
+{
     (count as usize).min(left).min(MOST_AT_ONCE)
 }
 
@@ -56,7 +60,8 @@ impl<'r, 'p> ValueReader<'r, 'p> {
         requires { at ≤ length self.now.bytes.now }
         ensures found { IfOk result (λ read. Uleb128At self.now.bytes.now at read.0 read.1) }
         ensures within { IfOk result (λ read. at + read.1 ≤ length self.now.bytes.now) }
-        ensures refused { IfErr result (Refuses self.now.number (NoNumberAt self.now.bytes.now at)) }
+        ensures refused { IfErr result
+            (Refuses self.now.number (NoNumberAt self.now.bytes.now at)) }
     {
         number_at(self.bytes, at).ok_or(self.refusal())
     }

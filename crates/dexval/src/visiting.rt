@@ -35,7 +35,7 @@ pub fn mark_values(values: &[Value], marks: &mut Marks)
     visit_values(values, marks);
 }
 
-/// Whether each number of a symbol in values, as those of static fields, maps to a number below 2^32.
+/// Returns whether each number of a symbol in values, as those of static fields, maps to a number below 2^32.
 #[tactic(auto, using(dexpool::proofs::Visits::all_fit))]
 pub fn values_fit(values: &[Value], remap: &Remap) -> bool
     ensures { IsTrue result ↔ HavePlaces remap.now (values_of_list (map value_of values.now)) }
@@ -74,7 +74,7 @@ impl Value {
         self.visit(marks);
     }
 
-    /// Whether each number of a symbol in the value maps to a number below 2^32.
+    /// Returns whether each number of a symbol in the value maps to a number below 2^32.
     #[tactic(auto, using(dexpool::proofs::Visits::all_fit))]
     pub fn fits(&self, remap: &Remap) -> bool
         ensures { IsTrue result ↔ HasPlaces remap.now (value_of self.now) }
@@ -136,7 +136,7 @@ impl AnnotationSet {
         mark(self, marks);
     }
 
-    /// Whether each number of a symbol in the annotations maps to a number below 2^32.
+    /// Returns whether each number of a symbol in the annotations maps to a number below 2^32.
     pub fn fits(&self, remap: &Remap) -> bool
         ensures { IsTrue result ↔ SetHasPlaces remap.now (set_of self.now) }
     {

@@ -83,6 +83,24 @@ class Classes:
             lines += f"{alone[12:32].hex()}\t{name}\t".encode() + file + b"\n"
         return bytes(lines)
 
+    def package_lines(self) -> bytes:
+        """Returns what `count --by package` prints of files that have these classes, of which each is in a package."""
+        packages = {}
+        for name in self.names:
+            packages.setdefault(name[1:].rpartition("/")[0], []).append(name)
+        lines = bytearray()
+        for package in sorted(packages):
+            lines += Classes.named(packages[package]).counted(package.encode())
+        return bytes(lines)
+
+    @staticmethod
+    def packaged(first: int, last: int, size: int) -> "Classes":
+        """Returns classes in packages of `size` of them: the name of number n is `L`, n // size and n in six digits each,
+        with a slash between them, and `;`."""
+        if size < 1 or last >= 1000000:
+            raise ValueError("packages are of one class or more, and numbers have six digits")
+        return Classes.named([f"L{number // size:06}/{number:06};" for number in range(first, last + 1)])
+
     @staticmethod
     def named(names: List[str]) -> "Classes":
         """Returns classes of names that rise, each less than that of the superclass."""

@@ -7,7 +7,7 @@ from suite.text import unescaped, words
 
 PROGRAM = os.path.normpath(os.path.join(os.path.dirname(os.path.abspath(__file__)), ".."))
 # In a pack, and in a clone.
-FOLDERS = [os.path.join(PROGRAM, "files"), os.path.normpath(os.path.join(PROGRAM, "..", "..", "crates", "dextest_calls", "data"))]
+FOLDERS = [os.path.join(PROGRAM, "files"), os.path.normpath(os.path.join(PROGRAM, "..", "..", "crates", "dexcases_calls", "data"))]
 
 
 def data_folder() -> str:
@@ -36,6 +36,8 @@ class Sources:
             b"counted": counted,
             b"listing": lambda rest: classes(rest.split()).listing(),
             b"digests": digests,
+            b"packaged": lambda rest: packaged(rest.split()).canonical(),
+            b"packages": lambda rest: packaged(rest.split()).package_lines(),
         }
 
     def file(self, name: bytes) -> bytes:
@@ -95,6 +97,13 @@ def classes(rest: List[bytes]) -> Classes:
     if len(rest) not in (2, 3):
         raise ValueError("classes are `FIRST LAST`, or `FIRST LAST WIDTH`")
     return Classes(*(int(word) for word in rest))
+
+
+def packaged(rest: List[bytes]) -> Classes:
+    """Returns the classes of `FIRST LAST SIZE`."""
+    if len(rest) != 3:
+        raise ValueError("classes of packages are `FIRST LAST SIZE`")
+    return Classes.packaged(*(int(word) for word in rest))
 
 
 def counted(rest: bytes) -> bytes:

@@ -39,7 +39,8 @@ abbrev pub type_rows : Contents → List (List ℕ)
 type_rows c = map (λ t. uint (text_index c.numbering.now t)) c.numbering.now.types
 
 abbrev pub proto_rows : Contents → List (List ℕ)
-proto_rows c = zip_with (proto_row_bytes c.numbering.now) c.numbering.now.protos (uses_offsets (type_list_section (ordered_in c)))
+proto_rows c =
+    zip_with (proto_row_bytes c.numbering.now) c.numbering.now.protos (uses_offsets (type_list_section (ordered_in c)))
 
 abbrev pub field_rows : Contents → List (List ℕ)
 field_rows c = map (field_row_bytes c.numbering.now) c.numbering.now.fields

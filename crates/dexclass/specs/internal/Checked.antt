@@ -33,7 +33,8 @@ IsParentBefore file r index = All (IsDefinedBefore file.frame.now r) (superclass
 
 -- where marks are those of the class rows before a row of this type, the new ones are those of the rows up to it
 abbrev pub MarksClass : ℕ → List Bool → List Bool → Type 0
-MarksClass index old new = (b : List ℕ) (r : ℕ) → class_idx b r ≡ index → AreDefinedMarks b r old → AreDefinedMarks b (r + 1) new
+MarksClass index old new =
+    (b : List ℕ) (r : ℕ) → class_idx b r ≡ index → AreDefinedMarks b r old → AreDefinedMarks b (r + 1) new
 
 -- the fault reports what the fault of the members of class row r does, with the row
 abbrev pub IsFaultAtRow : ItemFault → ℕ → ReadFault → Type 0

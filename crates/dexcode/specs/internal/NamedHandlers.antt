@@ -32,7 +32,9 @@ module _ (starts : List Bool) (types : ℕ) where
   -- each try has the handler of its number, which is where its try_item says, counted from the start of the list at
   -- another offset; the try_items are at offset o
   pub record AreListed (b : List ℕ) (o list : ℕ) (hs : List NumberedHandler) (ts : List Try) : Type 0 where
-    pub each : (j : ℕ) (d : Try) → j < length ts → IsHandlerAt b (list + ushort_at b (o + 8 * j + 6)) (slice_index_or hs (slice_index_or ts j d).handler no_handler)
+    pub each : (j : ℕ) (d : Try) → j < length ts
+        → IsHandlerAt b (list + ushort_at b (o + 8 * j + 6))
+        (slice_index_or hs (slice_index_or ts j d).handler no_handler)
     pub formed : All IsFormedHandler hs
     pub within : All (λ t. t.handler < length hs) ts
 
@@ -43,10 +45,12 @@ module _ (starts : List Bool) (types : ℕ) where
 
   -- a handler whose number is known by its offset from the start of the list at offset o has this number
   pub record AreKnown (b : List ℕ) (o : ℕ) (hs : List NumberedHandler) (numbers : List (Option ℕ)) : Type 0 where
-    pub each : (off k : ℕ) → slice_index_or numbers off None ≡ Some k → (k < length hs) × ((h : NumberedHandler) → IsHandlerAt b (o + off) h → slice_index_or hs k no_handler ≡ h)
+    pub each : (off k : ℕ) → slice_index_or numbers off None ≡ Some k
+        → (k < length hs) × ((h : NumberedHandler) → IsHandlerAt b (o + off) h → slice_index_or hs k no_handler ≡ h)
 
   -- the handler has the number k, which is after those of the old handlers if none of these is the same
-  pub record IsNumberOf (b : List ℕ) (o : ℕ) (h : NumberedHandler) (old new : List NumberedHandler) (numbers : List (Option ℕ)) (k : ℕ) : Type 0 where
+  pub record IsNumberOf (b : List ℕ) (o : ℕ) (h : NumberedHandler) (old new : List NumberedHandler)
+      (numbers : List (Option ℕ)) (k : ℕ) : Type 0 where
     pub known : AreKnown b o new numbers
     pub keys : new ≡ insert_key same_handler old h
     pub number : k < length new

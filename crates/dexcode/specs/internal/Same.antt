@@ -15,4 +15,6 @@ SameTries r hs ts s ks us = map (remapped_try r hs) ts ≡ map (remapped_try s k
 
 -- the first `count` handlers of both lists are equal, one for one, once remapped
 abbrev pub AreCompared : Maps → Maps → List NumberedHandler → List NumberedHandler → ℕ → Type 0
-AreCompared r s hs ks count = (k : ℕ) → k < count → renumbered_handler r (slice_index_or hs k no_handler) ≡ renumbered_handler s (slice_index_or ks k no_handler)
+AreCompared r s hs ks count =
+    (k : ℕ) → k < count
+    → renumbered_handler r (slice_index_or hs k no_handler) ≡ renumbered_handler s (slice_index_or ks k no_handler)

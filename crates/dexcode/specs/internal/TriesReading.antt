@@ -17,11 +17,15 @@ NoHandlerAt starts types b o = (h : NumberedHandler) (n : ℕ) → HandlerAt sta
 
 -- at offset o is no handler list
 abbrev pub NoList : List Bool → ℕ → List ℕ → ℕ → Type 0
-NoList starts types b o = (hs : List NumberedHandler) (size n : ℕ) → Uleb128At b o (length hs) size → Sequence (HandlerAt starts types) b (o + size) hs n → ⊥
+NoList starts types b o =
+    (hs : List NumberedHandler) (size n : ℕ) → Uleb128At b o (length hs) size
+    → Sequence (HandlerAt starts types) b (o + size) hs n → ⊥
 
 -- from offset o on there are not `count` try_items that are apart and whose handlers are numbered
 abbrev pub NoTries : ℕ → List (Option ℕ) → List ℕ → ℕ → ℕ → Type 0
-NoTries units numbers b o count = (ts : List Try) (n to : ℕ) → length ts ≡ count → Sequence (ListedTryAt units numbers) b o ts n → AreApartFrom 0 ts to → ⊥
+NoTries units numbers b o count =
+    (ts : List Try) (n to : ℕ) → length ts ≡ count → Sequence (ListedTryAt units numbers) b o ts n
+    → AreApartFrom 0 ts to → ⊥
 
 -- from offset o on there are not `count` try_items and their handler list
 abbrev pub NoTryItems : List Bool → ℕ → ℕ → List ℕ → ℕ → ℕ → Type 0
@@ -45,8 +49,12 @@ HaveLightHandlers ts = handlers_weight (handlers_of ts) ≤ most_handlers
 
 -- where tries are found, they are those with the handlers of their numbers
 abbrev pub IsFoundNamed : List Bool → ℕ → List ℕ → ℕ → ℕ → List Try → Result (List NumberedTry) ItemFault → Type 0
-IsFoundNamed starts types b o list ts result = (all : List NumberedHandler) → AreListed starts types b o list all ts → IfOk result (λ found. found ≡ all_named all ts)
+IsFoundNamed starts types b o list ts result =
+    (all : List NumberedHandler) → AreListed starts types b o list all ts
+    → IfOk result (λ found. found ≡ all_named all ts)
 
 -- the handlers of their numbers weigh more than they may
 abbrev pub AreHeavy : List Bool → ℕ → List ℕ → ℕ → ℕ → List Try → Type 0
-AreHeavy starts types b o list ts = (all : List NumberedHandler) → AreListed starts types b o list all ts → most_handlers < handlers_weight (handlers_of (all_named all ts))
+AreHeavy starts types b o list ts =
+    (all : List NumberedHandler) → AreListed starts types b o list all ts
+    → most_handlers < handlers_weight (handlers_of (all_named all ts))

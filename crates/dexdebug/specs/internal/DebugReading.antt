@@ -9,7 +9,9 @@ use Rattle.dexdebug.specs.DebugReading.{HasNoDebug, LocalAt, NamesAt, NumberedDe
 
 -- what is read is the only description of a local variable at offset o
 abbrev pub IsOnlyLocal : Counts → List ℕ → ℕ → Option (ℕ × Option ℕ × Option ℕ × ℕ) → Type 0
-IsOnlyLocal m b o read = (register_num : ℕ) (name_idx type_idx : Option ℕ) (n : ℕ) → LocalAt m b o register_num name_idx type_idx n → read ≡ Some (register_num, name_idx, type_idx, n)
+IsOnlyLocal m b o read =
+    (register_num : ℕ) (name_idx type_idx : Option ℕ) (n : ℕ) → LocalAt m b o register_num name_idx type_idx n
+    → read ≡ Some (register_num, name_idx, type_idx, n)
 
 -- there are not `count` names from offset o on
 abbrev pub NoNames : ℕ → List ℕ → ℕ → ℕ → Type 0

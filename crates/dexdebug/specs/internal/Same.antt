@@ -16,4 +16,10 @@ SameRemapped f r s xs ys = map (f r) xs ≡ map (f s) ys
 
 -- an operation without the numbers of symbols, and their images
 abbrev pub image_key : Maps → Operation → Operation × Option ℕ × Option ℕ × Option ℕ
-image_key r op = (unindexed_of op, image_or_none r kinds.Text (name_of op), image_or_none r kinds.Typ (type_of op), image_or_none r kinds.Text (signature_of op))
+image_key r op = (
+  unindexed_of op,
+  image_or_none r kinds.Text (name_of op),
+  image_or_none r kinds.Typ (type_of op),
+  image_or_none r
+      kinds.Text (signature_of op),
+)

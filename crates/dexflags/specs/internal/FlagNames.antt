@@ -25,7 +25,8 @@ listed false name = 0x2c ∷ name
 
 -- the number and the names of its bits in the table
 abbrev pub table_text : List Row → ℕ → List ℕ
-table_text table flags = codes "0x" ++ (digits 16 false flags ++ (codes "(" ++ (join_with_byte 0x2c (set_names table flags) ++ codes ")")))
+table_text table flags =
+    codes "0x" ++ (digits 16 false flags ++ (codes "(" ++ (join_with_byte 0x2c (set_names table flags) ++ codes ")")))
 
 -- a power of two
 abbrev pub IsSingleBit : ℕ → Type 0

@@ -15,7 +15,8 @@ pub record IsLaidOut (b : List ℕ) (from : ℕ) (ts : List Table) : Type 0 wher
 
 -- where a table ends from which on others may be placed, if it is well placed from there on
 abbrev pub EndsTable : List ℕ → ℕ → Table → Option ℕ → Type 0
-EndsTable b from table found = (ts : List Table) → IsLaidOut b from (table ∷ ts) ↔ MatchOption found ⊥ (λ end. IsLaidOut b end ts)
+EndsTable b from table found =
+    (ts : List Table) → IsLaidOut b from (table ∷ ts) ↔ MatchOption found ⊥ (λ end. IsLaidOut b end ts)
 
 -- the bounds on the numbers of rows, one by one
 pub record AreFew (b : List ℕ) : Type 0 where

@@ -55,7 +55,9 @@ pub record AreStartBits (us : List ℕ) (cs : List Cut) (words : List ℕ) : Typ
 
 -- so it is for each payload whose targets are grouped
 abbrev pub ArePayloads : {S : Type 0} → List ℕ → HashMap ℕ (Vec TargetGroup Global) S → Type 0
-ArePayloads us m = (k : ℕ) (groups : Vec TargetGroup Global) → get nat_eq m k ≡ Some groups → AreGrouped (payload_targets us k) groups.items
+ArePayloads us m =
+    (k : ℕ) (groups : Vec TargetGroup Global) → get nat_eq m k ≡ Some groups
+    → AreGrouped (payload_targets us k) groups.items
 
 -- these are the targets of the payload at a unit
 pub record AreTargetsAt (us : List ℕ) (unit : ℕ) (t : Targets) : Type 0 where

@@ -14,7 +14,8 @@ Agree us vs from to = (k : ℕ) → from ≤ k → k < to → slice_index us k �
 -- they are the same from a place on, but for these indices of the first
 abbrev pub AgreeBeside : List ℕ → List ℕ → ℕ → List Index → Type 0
 AgreeBeside us vs from [] = Agree us vs from (length us)
-AgreeBeside us vs from (i ∷ is) = Agree us vs from (i.unit + 1) × AgreeBeside us vs (after_index (is_wide_index (drop i.unit us)) i.unit) is
+AgreeBeside us vs from (i ∷ is) =
+    Agree us vs from (i.unit + 1) × AgreeBeside us vs (after_index (is_wide_index (drop i.unit us)) i.unit) is
 
 -- both indices are at one unit and have one image, or neither has one
 pub record AreEqualMapped (r q : Maps) (us : List ℕ) (i j : Index) : Type 0 where

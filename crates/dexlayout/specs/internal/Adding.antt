@@ -24,16 +24,19 @@ HasUses same uses sharing = HaveItems same uses sharing.items.keys sharing.numbe
 
 -- one use more
 abbrev pub AddsUse : {X A E : Type 0} → (X → X → Bool) → Result A E → Option X → Sharing X → Sharing X → Type 0
-AddsUse {X} same result used old new = (uses : List (Option X)) → HasUses same uses old → OnOk result (HasUses same (uses ++ used ∷ []) new)
+AddsUse {X} same result used old new =
+    (uses : List (Option X)) → HasUses same uses old → OnOk result (HasUses same (uses ++ used ∷ []) new)
 
 -- the items and numbers are those of the uses
 abbrev pub AreOfUses : {X : Type 0} → (X → X → Bool) → List (Option X) → Shared X → Type 0
 AreOfUses same uses shared = HaveItems same uses shared.written.items shared.numbers.items
 
 -- the uses of a thing more, where the numbers in it are known
-abbrev pub AddsUses : {X Y T A E : Type 0} → (Mentions → List (Option Y) → List X → List (Option ℕ) → Type 0) → Result A E → Sharing X → Sharing X → (Mentions → T → Type 0) → (Mentions → T → List (Option Y)) → T → Type 0
+abbrev pub AddsUses : {X Y T A E : Type 0} → (Mentions → List (Option Y) → List X → List (Option ℕ) → Type 0)
+    → Result A E → Sharing X → Sharing X → (Mentions → T → Type 0) → (Mentions → T → List (Option Y)) → T → Type 0
 AddsUses {Y = Y} Shares result old new IsKnown uses_of x =
-    (m : Mentions) (uses : List (Option Y)) → IsKnown m x → Shares m uses old.items.keys old.numbers.items → OnOk result (Shares m (uses ++ uses_of m x) new.items.keys new.numbers.items)
+    (m : Mentions) (uses : List (Option Y)) → IsKnown m x → Shares m uses old.items.keys old.numbers.items
+    → OnOk result (Shares m (uses ++ uses_of m x) new.items.keys new.numbers.items)
 
 -- ---- type lists
 
@@ -43,7 +46,10 @@ list_uses m list = unless_empty (map (type_at m) list) ∷ []
 
 -- the uses of all protos more
 abbrev pub AddsParameters : {A E : Type 0} → Mentions → Result A E → Sharing (List ℕ) → Sharing (List ℕ) → Type 0
-AddsParameters m result old new = (uses : List (Option (List Text))) → SharesLists m uses old.items.keys old.numbers.items → OnOk result (SharesLists m (uses ++ map (λ p. unless_empty p.parameters) m.protos) new.items.keys new.numbers.items)
+AddsParameters m result old new =
+    (uses : List (Option (List Text))) → SharesLists m uses old.items.keys old.numbers.items
+    → OnOk result
+    (SharesLists m (uses ++ map (λ p. unless_empty p.parameters) m.protos) new.items.keys new.numbers.items)
 
 -- the numbers in classes are known
 abbrev pub AreKnownClasses : Mentions → List NumberedClass → Type 0
@@ -56,9 +62,13 @@ interfaces_uses m cs = map (interfaces_use m) cs
 -- ---- sets
 
 -- the use of a set more, which is empty where there is none
-abbrev pub AddsSet : {A E : Type 0} → Result A E → Sharing (Bor CodeSet) → Sharing (Bor CodeSet) → Option (Bor CodeSet) → Type 0
+abbrev pub AddsSet : {A E : Type 0} → Result A E → Sharing (Bor CodeSet) → Sharing (Bor CodeSet) → Option (Bor CodeSet)
+    → Type 0
 AddsSet result old new set =
-    (m : Mentions) (uses : List (Option AnnotationSet)) (meant : NumberedSet) → MatchOption set (meant ≡ []) (λ s. set_of s.now ≡ meant) → IsKnownSet m meant → SharesSets m uses old.items.keys old.numbers.items → OnOk result (SharesSets m (uses ++ set_use m meant ∷ []) new.items.keys new.numbers.items)
+    (m : Mentions) (uses : List (Option AnnotationSet)) (meant : NumberedSet)
+    → MatchOption set (meant ≡ []) (λ s. set_of s.now ≡ meant) → IsKnownSet m meant
+    → SharesSets m uses old.items.keys old.numbers.items
+    → OnOk result (SharesSets m (uses ++ set_use m meant ∷ []) new.items.keys new.numbers.items)
 
 -- the numbers in a method's sets of parameters are known
 abbrev pub AreKnownParameters : Mentions → List NumberedSet → Type 0

@@ -14,7 +14,9 @@ sets_of_method x = x.annotations ∷ x.parameter_annotations
 
 -- those of a class: its own, those of its fields, those of its methods
 abbrev pub sets_of_class : NumberedClass → List NumberedSet
-sets_of_class c = c.members.annotations ∷ (map (λ f. f.annotations) (fields_of c.members) ++ flat_map sets_of_method (methods_of c.members))
+sets_of_class c =
+    c.members.annotations
+    ∷ (map (λ f. f.annotations) (fields_of c.members) ++ flat_map sets_of_method (methods_of c.members))
 
 -- the offsets of the sets of methods, method by method
 abbrev pub parts_of_methods : List NumberedMethod → List ℕ → List (List ℕ)
@@ -35,7 +37,14 @@ parts_of_classes (c ∷ cs) offs = parts_of_class c offs ∷ parts_of_classes cs
 
 -- the offsets of one method more
 abbrev pub collect_method : SetPlaces → List ℕ → SetPlaces
-collect_method p os = record { own = p.own; fields = p.fields; methods = p.methods ++ slice_index os 0 ∷ []; parameters = p.parameters ++ drop 1 os; written = p.written }
+collect_method p os =
+    record {
+      own = p.own;
+      fields = p.fields;
+      methods = p.methods ++ slice_index os 0 ∷ [];
+      parameters = p.parameters ++ drop 1 os;
+      written = p.written;
+    }
 
 -- of more methods
 abbrev pub collect_methods : SetPlaces → List (List ℕ) → SetPlaces
@@ -44,7 +53,14 @@ collect_methods p (os ∷ oss) = collect_methods (collect_method p os) oss
 
 -- the offsets of a class's own set and of those of its fields
 abbrev pub collect_own : SetPlaces → ℕ → List ℕ → SetPlaces
-collect_own p own fields = record { own = p.own ++ own ∷ []; fields = p.fields ++ fields; methods = p.methods; parameters = p.parameters; written = p.written }
+collect_own p own fields =
+    record {
+      own = p.own ++ own ∷ [];
+      fields = p.fields ++ fields;
+      methods = p.methods;
+      parameters = p.parameters;
+      written = p.written;
+    }
 
 -- of one class more
 abbrev pub collect_class : SetPlaces → SetOffsets → SetPlaces

@@ -67,4 +67,5 @@ class_data_item c offs = if has_no_members c.members then None else Some (number
 abbrev pub class_data_items : List NumberedClass → List ℕ → List (Option (List ℕ))
 class_data_items [] offs = []
 class_data_items (c ∷ cs) offs =
-    class_data_item c (take (length (methods_of c.members)) offs) ∷ class_data_items cs (drop (length (methods_of c.members)) offs)
+    class_data_item c (take (length (methods_of c.members)) offs)
+    ∷ class_data_items cs (drop (length (methods_of c.members)) offs)

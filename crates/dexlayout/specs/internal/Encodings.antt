@@ -27,4 +27,6 @@ all_debug_encodings cs = flat_map (λ c. debug_encodings (methods_of c.members))
 
 -- more encodings
 abbrev pub AddsEncodings : {A E : Type 0} → Result A E → Encodings → Encodings → List (Option (List ℕ)) → Type 0
-AddsEncodings result old new more = (uses : List (Option (List ℕ))) → HasUses same_bytes uses old.sharing → OnOk result (HasUses same_bytes (uses ++ more) new.sharing)
+AddsEncodings result old new more =
+    (uses : List (Option (List ℕ))) → HasUses same_bytes uses old.sharing
+    → OnOk result (HasUses same_bytes (uses ++ more) new.sharing)

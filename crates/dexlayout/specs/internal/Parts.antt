@@ -23,11 +23,19 @@ rows_from size from = (size, if size == 0 then 0 else from)
 pub record AreTables (K : Ordered) (t : Tables) : Type 0 where
   pub string_ids_are : rows_meant t.string_ids ≡ rows_from (length K.pools.texts) header_length
   pub type_ids_are : rows_meant t.type_ids ≡ rows_from (length K.pools.types) (header_length + 4 * length K.pools.texts)
-  pub proto_ids_are : rows_meant t.proto_ids ≡ rows_from (length K.pools.protos) (header_length + 4 * length K.pools.texts + 4 * length K.pools.types)
-  pub field_ids_are : rows_meant t.field_ids ≡ rows_from (length K.pools.fields) (header_length + 4 * length K.pools.texts + 4 * length K.pools.types + 12 * length K.pools.protos)
-  pub method_ids_are : rows_meant t.method_ids ≡ rows_from (length K.pools.methods) (header_length + 4 * length K.pools.texts + 4 * length K.pools.types + 12 * length K.pools.protos + 8 * length K.pools.fields)
+  pub proto_ids_are : rows_meant t.proto_ids
+      ≡ rows_from (length K.pools.protos) (header_length + 4 * length K.pools.texts + 4 * length K.pools.types)
+  pub field_ids_are : rows_meant t.field_ids
+      ≡ rows_from (length K.pools.fields)
+      (header_length + 4 * length K.pools.texts + 4 * length K.pools.types + 12 * length K.pools.protos)
+  pub method_ids_are : rows_meant t.method_ids
+      ≡ rows_from (length K.pools.methods)
+      (header_length + 4 * length K.pools.texts + 4 * length K.pools.types + 12 * length K.pools.protos
+      + 8 * length K.pools.fields)
   pub class_defs_are : rows_meant t.class_defs
-      ≡ rows_from (length K.classes) (header_length + 4 * length K.pools.texts + 4 * length K.pools.types + 12 * length K.pools.protos + 8 * length K.pools.fields + 8 * length K.pools.methods)
+      ≡ rows_from (length K.classes)
+      (header_length + 4 * length K.pools.texts + 4 * length K.pools.types + 12 * length K.pools.protos
+      + 8 * length K.pools.fields + 8 * length K.pools.methods)
   pub end_is : t.end ≡ data_start K
 
 -- the entry of a part, unless it is empty
@@ -51,7 +59,8 @@ pub record AreFirstSections (m : Mentions) (cs : List NumberedClass) (f : FirstS
   pub type_lists_are : AreTypeLists m cs f.type_lists
   pub annotations_are : AreAnnotations m cs f.annotations
   pub static_values_are : AreStaticValues m cs f.static_values
-  pub strings_are : AreLaidSo (offsets (string_section (ordered_of m cs))) (end (string_section (ordered_of m cs))) f.strings
+  pub strings_are : AreLaidSo (offsets (string_section (ordered_of m cs))) (end (string_section (ordered_of m cs)))
+      f.strings
 
 -- the same of the sections from the debug programs to the class data
 pub record AreBodies (m : Mentions) (cs : List NumberedClass) (b : Bodies) : Type 0 where

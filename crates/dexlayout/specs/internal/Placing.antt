@@ -28,7 +28,8 @@ use Rattle.dexlayout.specs.internal.Encoding.{encode_use, encode_uses, list_byte
 -- ---- sections
 
 -- the parts are those of these classes, over each numbering in whose file the section before ends at the offset
-abbrev pub PlacedFrom : {P : Type 0} → (Ordered → Placed) → (Mentions → List NumberedClass → P → Type 0) → List NumberedClass → ℕ → P → Type 0
+abbrev pub PlacedFrom : {P : Type 0} → (Ordered → Placed) → (Mentions → List NumberedClass → P → Type 0)
+    → List NumberedClass → ℕ → P → Type 0
 PlacedFrom before Are cs from p = (m : Mentions) → AreWritable m cs → from ≡ end (before (ordered_of m cs)) → Are m cs p
 
 -- the code can be placed after debug programs at these offsets
@@ -37,7 +38,8 @@ CanPlaceCodes cs debugs = (m : Mentions) × AreWritable m cs × AreLaidIn (debug
 
 -- it is placed so
 abbrev pub PlacedCodes : List NumberedClass → ItemPlaces → EncodedItems → Type 0
-PlacedCodes cs debugs p = (m : Mentions) → AreWritable m cs → AreLaidIn (debug_section (ordered_of m cs)) debugs → AreCodes m cs p
+PlacedCodes cs debugs p =
+    (m : Mentions) → AreWritable m cs → AreLaidIn (debug_section (ordered_of m cs)) debugs → AreCodes m cs p
 
 -- the class data can be placed after code at these offsets
 abbrev pub CanPlaceClassData : List NumberedClass → ItemPlaces → Type 0
@@ -45,15 +47,21 @@ CanPlaceClassData cs codes = (m : Mentions) × AreWritable m cs × AreLaidIn (co
 
 -- they are placed so
 abbrev pub PlacedClassData : List NumberedClass → ItemPlaces → EncodedItems → Type 0
-PlacedClassData cs codes p = (m : Mentions) → AreWritable m cs → AreLaidIn (code_section (ordered_of m cs)) codes → AreClassData m cs p
+PlacedClassData cs codes p =
+    (m : Mentions) → AreWritable m cs → AreLaidIn (code_section (ordered_of m cs)) codes → AreClassData m cs p
 
 -- the sets and what is after them can be placed from the offset on, by these offsets of the annotations
 abbrev pub CanPlaceSets : List NumberedClass → EncodedItems → ℕ → Type 0
-CanPlaceSets cs annotations from = (m : Mentions) × AreWritable m cs × AreAnnotations m cs annotations × (from ≡ end (class_data_section (ordered_of m cs)))
+CanPlaceSets cs annotations from =
+    (m : Mentions) × AreWritable m cs × AreAnnotations m cs annotations
+    × (from ≡ end (class_data_section (ordered_of m cs)))
 
 -- they are placed so
-abbrev pub PlacedSets : {P : Type 0} → (Mentions → List NumberedClass → P → Type 0) → List NumberedClass → EncodedItems → ℕ → P → Type 0
-PlacedSets Are cs annotations from p = (m : Mentions) → AreWritable m cs → AreAnnotations m cs annotations → from ≡ end (class_data_section (ordered_of m cs)) → Are m cs p
+abbrev pub PlacedSets : {P : Type 0} → (Mentions → List NumberedClass → P → Type 0) → List NumberedClass → EncodedItems
+    → ℕ → P → Type 0
+PlacedSets Are cs annotations from p =
+    (m : Mentions) → AreWritable m cs → AreAnnotations m cs annotations
+    → from ≡ end (class_data_section (ordered_of m cs)) → Are m cs p
 
 -- the lists of sets can be placed, by these offsets of the sets
 abbrev pub CanPlaceRefLists : List NumberedClass → SetPlaces → Type 0
@@ -69,11 +77,13 @@ CanPlaceDirectories cs sets lists = (m : Mentions) × AreWritable m cs × AreSet
 
 -- they are placed so
 abbrev pub PlacedDirectories : List NumberedClass → SetPlaces → EncodedItems → EncodedItems → Type 0
-PlacedDirectories cs sets lists p = (m : Mentions) → AreWritable m cs → AreSets m cs sets → AreRefLists m cs lists → AreDirectories m cs p
+PlacedDirectories cs sets lists p =
+    (m : Mentions) → AreWritable m cs → AreSets m cs sets → AreRefLists m cs lists → AreDirectories m cs p
 
 -- the texts from the offset on
 abbrev pub AreStringsFrom : ℕ → Mentions → ItemPlaces → Type 0
-AreStringsFrom from m = AreLaidSo (offsets_from 1 from (map string_data m.texts)) (end_from 1 from (map string_data m.texts))
+AreStringsFrom from m =
+    AreLaidSo (offsets_from 1 from (map string_data m.texts)) (end_from 1 from (map string_data m.texts))
 
 -- ---- the items of uses
 
@@ -86,7 +96,12 @@ shared_places numbers written = record {
 
 -- the same of encoded items
 abbrev pub shared_by : List (Option ℕ) → EncodedItems → EncodedSharedItems
-shared_by numbers written = record { bytes = written.bytes; count = length written.places.offsets; places = shared_places numbers written.places }
+shared_by numbers written =
+    record {
+      bytes = written.bytes;
+      count = length written.places.offsets;
+      places = shared_places numbers written.places;
+    }
 
 -- ---- type lists
 
@@ -96,7 +111,8 @@ encoded_lists from lists = encode_uses 4 (no_items_from from) (map (λ list. Som
 
 -- the type lists are those of the file of these classes
 abbrev pub HaveTypeLists : Mentions → List NumberedClass → Shared (List ℕ) → Type 0
-HaveTypeLists m cs shared = AreShared (map (type_at m)) (type_list_items (ordered_of m cs)) shared.written.items shared.numbers.items
+HaveTypeLists m cs shared =
+    AreShared (map (type_at m)) (type_list_items (ordered_of m cs)) shared.written.items shared.numbers.items
 
 -- ---- sets
 
@@ -110,7 +126,9 @@ AreKnownSets m sets = All (λ s. IsKnownSet m (set_of s.now)) sets
 
 -- the sets are those of the file of these classes
 abbrev pub AreSharedBy : List NumberedClass → List (Bor CodeSet) → List (Option ℕ) → Type 0
-AreSharedBy cs written numbers = (m : Mentions) → AreWritable m cs → AreShared (λ s. set_in m (set_of s.now)) (set_items (ordered_of m cs)) written numbers
+AreSharedBy cs written numbers =
+    (m : Mentions) → AreWritable m cs
+    → AreShared (λ s. set_in m (set_of s.now)) (set_items (ordered_of m cs)) written numbers
 
 abbrev pub HaveSets : List NumberedClass → Shared (Bor CodeSet) → Type 0
 HaveSets cs shared = AreSharedBy cs shared.written.items shared.numbers.items
@@ -133,7 +151,8 @@ encoded_debugs from written = encode_uses 1 (no_items_from from) (map Some writt
 
 -- the header of the file that has these tables, and this map at its end
 abbrev pub StatesParts : Tables → EncodedItems → Head → Type 0
-StatesParts tables map head = (K : Ordered) → AreTables K tables → AreLaidSo (map_start K ∷ []) (file_end K) map.places → StatesLayout head K
+StatesParts tables map head =
+    (K : Ordered) → AreTables K tables → AreLaidSo (map_start K ∷ []) (file_end K) map.places → StatesLayout head K
 
 -- how many rows each table has, and where they begin
 abbrev pub table_rows : Ordered → List (ℕ × ℕ)
@@ -149,16 +168,21 @@ full_parts parts = flat_map entry_of (parts_in parts)
 
 -- the map of a file with these tables and sections: first the header, last the map itself
 abbrev pub whole_map : List MapEntry → List MapEntry → ℕ → List (Section × ℕ × ℕ)
-whole_map tables sections map_off = (HeaderItem, 1, 0) ∷ (full_parts tables ++ (full_parts sections ++ (MapList, 1, map_off) ∷ []))
+whole_map tables sections map_off =
+    (HeaderItem, 1, 0) ∷ (full_parts tables ++ (full_parts sections ++ (MapList, 1, map_off) ∷ []))
 
 -- the map after sections that end at an offset
 abbrev pub placed_map : List MapEntry → List MapEntry → ℕ → EncodedItems
-placed_map tables sections from = encode_use 4 (no_items_from from) (Some (map_bytes (whole_map tables sections (round_up 4 from))))
+placed_map tables sections from =
+    encode_use 4 (no_items_from from) (Some (map_bytes (whole_map tables sections (round_up 4 from))))
 
 -- the data are those of some classes of the numbering, from the offset on
 abbrev pub IsDataFrom : Mentions → Data → ℕ → Type 0
-IsDataFrom m d from = (cs : List NumberedClass) × AreWritable m cs × AreData m cs d × (from ≡ data_start (ordered_of m cs))
+IsDataFrom m d from =
+    (cs : List NumberedClass) × AreWritable m cs × AreData m cs d × (from ≡ data_start (ordered_of m cs))
 
 -- the entries are those of the sections of such data
 abbrev pub AreEntriesOf : Mentions → Data → ℕ → List MapEntry → Type 0
-AreEntriesOf m d from entries = (cs : List NumberedClass) → AreWritable m cs → AreData m cs d → from ≡ data_start (ordered_of m cs) → map entry_meant entries ≡ section_parts (ordered_of m cs)
+AreEntriesOf m d from entries =
+    (cs : List NumberedClass) → AreWritable m cs → AreData m cs d → from ≡ data_start (ordered_of m cs)
+    → map entry_meant entries ≡ section_parts (ordered_of m cs)

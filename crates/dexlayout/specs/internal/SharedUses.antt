@@ -33,7 +33,8 @@ interfaces_use m c = unless_empty (map (type_at m) c.interfaces)
 
 -- the sets so far are those of these uses
 abbrev pub SharesSets : Mentions → List (Option AnnotationSet) → List (Bor CodeSet) → List (Option ℕ) → Type 0
-SharesSets m = SharedTo (λ s t. equal_sets s.now t.now) (λ s. set_in m (set_of s.now)) (λ s. IsKnownSet m (set_of s.now))
+SharesSets m =
+    SharedTo (λ s t. equal_sets s.now t.now) (λ s. set_in m (set_of s.now)) (λ s. IsKnownSet m (set_of s.now))
 
 -- what a set is used for
 abbrev pub set_use : Mentions → NumberedSet → Option AnnotationSet
@@ -53,4 +54,7 @@ methods_uses m xs = flat_map (method_uses m) xs
 
 -- those of a class and of what it declares
 abbrev pub members_uses : Mentions → NumberedMembers → List (Option AnnotationSet)
-members_uses m x = set_use m x.annotations ∷ (field_uses m x.static_fields ++ (field_uses m x.instance_fields ++ (methods_uses m x.direct_methods ++ methods_uses m x.virtual_methods)))
+members_uses m x =
+    set_use m x.annotations
+    ∷ (field_uses m x.static_fields
+    ++ (field_uses m x.instance_fields ++ (methods_uses m x.direct_methods ++ methods_uses m x.virtual_methods)))

@@ -42,7 +42,14 @@ held_field sets x = record { number = x.index; flags = x.flags; set = place_for 
 
 -- the method with its code, and the places of its set and its list
 abbrev pub held_method : List (ℕ × ℕ) → List (ℕ × ℕ) → MethodRead → Option NumberedItem → HeldMethod
-held_method sets lists x code = record { number = x.index; flags = x.flags; code = code; set = place_for sets x.index; list = place_for lists x.index }
+held_method sets lists x code =
+    record {
+      number = x.index;
+      flags = x.flags;
+      code = code;
+      set = place_for sets x.index;
+      list = place_for lists x.index;
+    }
 
 -- the fields of a list of class data, with the places of their sets
 abbrev pub AreHeldFields : List (ℕ × ℕ) → List FieldRead → Vec HeldField → Type 0
@@ -54,7 +61,8 @@ held_codes methods = map (λ x. x.code) methods
 
 -- where both lists of entries rise, these are the methods of a list of class data
 abbrev pub AreHeldMethods : List (ℕ × ℕ) → List (ℕ × ℕ) → List MethodRead → List HeldMethod → Type 0
-AreHeldMethods sets lists listed methods = EntriesRise sets → EntriesRise lists → methods ≡ zip_with (held_method sets lists) listed (held_codes methods)
+AreHeldMethods sets lists listed methods =
+    EntriesRise sets → EntriesRise lists → methods ≡ zip_with (held_method sets lists) listed (held_codes methods)
 
 -- the places of the fields' sets are below a limit
 abbrev pub HaveFieldSetsBelow : ℕ → Vec HeldField → Type 0
@@ -75,7 +83,8 @@ abbrev pub field_with : List (ℕ × NumberedSet) → FieldRead → NumberedFiel
 field_with sets x = record { number = x.index; flags = x.flags; annotations = annotated nat_cmp sets x.index }
 
 -- the method with its code, and the sets of its number
-abbrev pub method_with : List (ℕ × NumberedSet) → List (ℕ × List NumberedSet) → MethodRead → Option NumberedItem → NumberedMethod
+abbrev pub method_with : List (ℕ × NumberedSet) → List (ℕ × List NumberedSet) → MethodRead → Option NumberedItem
+    → NumberedMethod
 method_with sets lists x code = record {
   number = x.index;
   flags = x.flags;

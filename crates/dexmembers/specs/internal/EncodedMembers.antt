@@ -39,16 +39,20 @@ NoMember {X} At b o last = (x : X) (n : ℕ) → At b o last x n → ⊥
 
 -- at most one member is at an offset, and it has one size
 abbrev pub IsOneMember : {X : Type 0} → OwnMember X → Type 0
-IsOneMember {X} At = (m : Mentions) (class : ℕ) (b : List ℕ) (o : ℕ) (last : Option ℕ) (x y : X) (n k : ℕ) → At m class b o last x n → At m class b o last y k → (x ≡ y) × (n ≡ k)
+IsOneMember {X} At =
+    (m : Mentions) (class : ℕ) (b : List ℕ) (o : ℕ) (last : Option ℕ) (x y : X) (n k : ℕ) → At m class b o last x n
+    → At m class b o last y k → (x ≡ y) × (n ≡ k)
 
 -- the index of a member is above the one before it
 abbrev pub HasGreaterIndex : {X : Type 0} → OwnMember X → (X → ℕ) → Type 0
-HasGreaterIndex {X} At index = (m : Mentions) (class : ℕ) (b : List ℕ) (o i : ℕ) (x : X) (n : ℕ) → At m class b o (Some i) x n → i < index x
+HasGreaterIndex {X} At index =
+    (m : Mentions) (class : ℕ) (b : List ℕ) (o i : ℕ) (x : X) (n : ℕ) → At m class b o (Some i) x n → i < index x
 
 -- from o on, after the index `last`, are the members one after the other, in n bytes together
 abbrev pub Chain : {X : Type 0} → Member X → (X → ℕ) → List ℕ → ℕ → Option ℕ → List X → ℕ → Type 0
 Chain At index b o last [] n = n ≡ 0
-Chain At index b o last (x ∷ xs) n = (k : ℕ) × (m : ℕ) × At b o last x k × Chain At index b (o + k) (Some (index x)) xs m × (n ≡ k + m)
+Chain At index b o last (x ∷ xs) n =
+    (k : ℕ) × (m : ℕ) × At b o last x k × Chain At index b (o + k) (Some (index x)) xs m × (n ≡ k + m)
 
 -- the index of the last member, or that before the first
 abbrev pub last_index : {X : Type 0} → (X → ℕ) → Option ℕ → List X → Option ℕ
@@ -56,7 +60,8 @@ last_index index last [] = last
 last_index index last (x ∷ xs) = last_index index (Some (index x)) xs
 
 -- `count` members were read from offset o on, in n bytes
-pub record IsListRead {X : Type 0} (At : Member X) (index : X → ℕ) (b : List ℕ) (o count : ℕ) (xs : List X) (n : ℕ) : Type 0 where
+pub record IsListRead {X : Type 0} (At : Member X) (index : X → ℕ) (b : List ℕ) (o count : ℕ) (xs : List X) (n : ℕ) :
+    Type 0 where
   pub are_encoded : Chain At index b o None xs n
   pub many : length xs ≡ count
   pub within : o + n ≤ length b
@@ -66,7 +71,8 @@ abbrev pub NoList : {X : Type 0} → Member X → (X → ℕ) → List ℕ → �
 NoList {X} At index b o count = (xs : List X) (n : ℕ) → length xs ≡ count → Chain At index b o None xs n → ⊥
 
 -- two lists are at offset o, in n bytes, and no index is in both
-pub record ListsAt {X : Type 0} (At : Member X) (index : X → ℕ) (b : List ℕ) (o : ℕ) (xs ys : List X) (n : ℕ) : Type 0 where
+pub record ListsAt {X : Type 0} (At : Member X) (index : X → ℕ) (b : List ℕ) (o : ℕ) (xs ys : List X) (n : ℕ) :
+    Type 0 where
   pub first_size : ℕ
   pub second_size : ℕ
   pub first : Chain At index b o None xs first_size
@@ -75,7 +81,8 @@ pub record ListsAt {X : Type 0} (At : Member X) (index : X → ℕ) (b : List �
   pub size : n ≡ first_size + second_size
 
 -- two lists of `count` and `other_count` members were read
-pub record AreListsRead {X : Type 0} (At : Member X) (index : X → ℕ) (b : List ℕ) (o count other_count : ℕ) (xs ys : List X) (n : ℕ) : Type 0 where
+pub record AreListsRead {X : Type 0} (At : Member X) (index : X → ℕ) (b : List ℕ) (o count other_count : ℕ)
+    (xs ys : List X) (n : ℕ) : Type 0 where
   pub are_encoded : ListsAt At index b o xs ys n
   pub many : length xs ≡ count
   pub others : length ys ≡ other_count
@@ -83,25 +90,30 @@ pub record AreListsRead {X : Type 0} (At : Member X) (index : X → ℕ) (b : Li
 
 -- there are no two lists of `count` and `other_count` members at offset o
 abbrev pub NoLists : {X : Type 0} → Member X → (X → ℕ) → List ℕ → ℕ → ℕ → ℕ → Type 0
-NoLists {X} At index b o count other_count = (xs ys : List X) (n : ℕ) → length xs ≡ count → length ys ≡ other_count → ListsAt At index b o xs ys n → ⊥
+NoLists {X} At index b o count other_count =
+    (xs ys : List X) (n : ℕ) → length xs ≡ count → length ys ≡ other_count → ListsAt At index b o xs ys n → ⊥
 
 -- ---- lists of members of a class
 
 -- `count` members of the class were read from offset o on, in as many bytes
 abbrev pub ReadsList : {X : Type 0} → OwnMember X → (X → ℕ) → ClassReader → ℕ → ℕ → Vec X × ℕ → Type 0
-ReadsList At index reader o count x = IsListRead (At reader.pools.now reader.class) index reader.bytes.now o count x.0.items x.1
+ReadsList At index reader o count x =
+    IsListRead (At reader.pools.now reader.class) index reader.bytes.now o count x.0.items x.1
 
 -- what is refused are such members
 abbrev pub RefusesList : {X : Type 0} → OwnMember X → (X → ℕ) → ClassReader → ℕ → ℕ → ItemFault → Type 0
-RefusesList At index reader o count fault = IsDataRefusal (NoList (At reader.pools.now reader.class) index reader.bytes.now o count) fault
+RefusesList At index reader o count fault =
+    IsDataRefusal (NoList (At reader.pools.now reader.class) index reader.bytes.now o count) fault
 
 -- two lists of `count` and `other_count` members of the class were read
 abbrev pub ReadsLists : {X : Type 0} → OwnMember X → (X → ℕ) → ClassReader → ℕ → ℕ → ℕ → Vec X × Vec X × ℕ → Type 0
-ReadsLists At index reader o count other_count x = AreListsRead (At reader.pools.now reader.class) index reader.bytes.now o count other_count x.0.items x.1.items x.2
+ReadsLists At index reader o count other_count x =
+    AreListsRead (At reader.pools.now reader.class) index reader.bytes.now o count other_count x.0.items x.1.items x.2
 
 -- what is refused are such lists
 abbrev pub RefusesLists : {X : Type 0} → OwnMember X → (X → ℕ) → ClassReader → ℕ → ℕ → ℕ → ItemFault → Type 0
-RefusesLists At index reader o count other_count fault = IsDataRefusal (NoLists (At reader.pools.now reader.class) index reader.bytes.now o count other_count) fault
+RefusesLists At index reader o count other_count fault =
+    IsDataRefusal (NoLists (At reader.pools.now reader.class) index reader.bytes.now o count other_count) fault
 
 -- ---- fields and methods
 
@@ -129,7 +141,8 @@ pub record HeadAt (b : List ℕ) (o : ℕ) (last : Option ℕ) (index flags n : 
 
 -- what is read is the only head at offset o whose index has 32 bits
 abbrev pub IsOnlyHead : List ℕ → ℕ → Option ℕ → Option (ℕ × ℕ × ℕ) → Type 0
-IsOnlyHead b o last read = (index flags size : ℕ) → index < 2 ^ 32 → HeadAt b o last index flags size → read ≡ Some (index, flags, size)
+IsOnlyHead b o last read =
+    (index flags size : ℕ) → index < 2 ^ 32 → HeadAt b o last index flags size → read ≡ Some (index, flags, size)
 
 -- no index of 32 bits is so far after the index `last`
 abbrev pub NoNextIndex : Option ℕ → ℕ → Type 0
@@ -154,7 +167,8 @@ module _ (m : Mentions) (class : ℕ) where
 
 -- at offset o are four counts, and after them as many static fields, instance fields, direct and virtual methods of the
 -- class
-pub record DataAt (m : Mentions) (class : ℕ) (b : List ℕ) (o : ℕ) (ss is : List EncodedField) (ds vs : List EncodedMethod) : Type 0 where
+pub record DataAt (m : Mentions) (class : ℕ) (b : List ℕ) (o : ℕ) (ss is : List EncodedField)
+    (ds vs : List EncodedMethod) : Type 0 where
   pub counts_size : ℕ
   pub fields_size : ℕ
   pub methods_size : ℕ
@@ -164,7 +178,8 @@ pub record DataAt (m : Mentions) (class : ℕ) (b : List ℕ) (o : ℕ) (ss is :
 
 -- the four lists that were read are at offset o
 abbrev pub IsDataAt : Mentions → ℕ → List ℕ → ℕ → ClassData → Type 0
-IsDataAt m class b o d = DataAt m class b o d.static_fields.items d.instance_fields.items d.direct_methods.items d.virtual_methods.items
+IsDataAt m class b o d =
+    DataAt m class b o d.static_fields.items d.instance_fields.items d.direct_methods.items d.virtual_methods.items
 
 -- the four counts are at offset o, in n bytes
 abbrev pub AreCountsAt : List ℕ → ℕ → ℕ × ℕ × ℕ × ℕ → ℕ → Type 0
@@ -186,4 +201,5 @@ RefusesDataAt reader o = IsDataRefusal (NoData reader.pools.now reader.class rea
 
 -- an index that is in both lists is at place i or later in the one, and at place j or later in the other
 abbrev pub ArePassed : List ℕ → List ℕ → ℕ → ℕ → Type 0
-ArePassed xs ys i j = (k l : ℕ) → k < length xs → l < length ys → slice_index_or xs k 0 ≡ slice_index_or ys l 0 → (i ≤ k) × (j ≤ l)
+ArePassed xs ys i j =
+    (k l : ℕ) → k < length xs → l < length ys → slice_index_or xs k 0 ≡ slice_index_or ys l 0 → (i ≤ k) × (j ≤ l)

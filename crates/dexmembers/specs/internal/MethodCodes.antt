@@ -1,5 +1,5 @@
 -- The code of methods as it is read, one after the other.
-use Rattle.std.specs.Prelude.{◌≢◌, ◌⊎◌, ℕ, ◌<◌, ◌≤◌, List, [], ◌∷◌, ◌++◌, length, Option, Some, None, sum_by, option_to_list, ◌≡◌, ◌+◌, MatchOption}
+use Rattle.std.specs.Prelude.{◌≢◌, ◌⊎◌, ℕ, ◌<◌, ◌≤◌, List, [], ◌∷◌, ◌++◌, length, Option, Some, None, sum_by, option_to_list, ◌≡◌, ◌+◌, MatchOption, nat_eq}
 use Rattle.std.specs.List.{AllZip, Contains}
 use Rattle.dexspec.specs.Lists.{OrNone, SomeAt, BothOrNone}
 use Rattle.dexspec.specs.Code.{Code, CodeAt}
@@ -14,6 +14,10 @@ use Rattle.dexmembers.specs.Held.{HeldMethod}
 use Rattle.dexmembers.specs.internal.Attaching.{held_codes}
 use Rattle.dexmembers.specs.declared.class_data.EncodedMethod.{EncodedMethod}
 use Rattle.dexmembers.specs.declared.row_reader.RowReader.{RowReader}
+use Rattle.dexmembers.specs.declared.codes.KeptCodes.{KeptCodes}
+use Rattle.dexmembers.specs.internal.Stored.{code_at}
+use Rattle.dexval.specs.Tables.{IsPlaceIn}
+use Rattle.std.specs.HashMap.{get}
 
 -- the same; none weighs nothing
 abbrev pub optional_code_weight : Option Code → ℕ
@@ -39,7 +43,8 @@ IsCodeOrNoneFault b off Memory = Unit {0}
 IsCodeOrNoneFault b off (Refused number) = (off ≢ 0) × IsCodeFault b off (Refused number)
 
 -- the code of the methods, where it weighs no more than it may
-pub record AreCodesOf (b : List ℕ) (m : Mentions) (xs : List EncodedMethod) (most : ℕ) (codes : List (Option NumberedItem)) : Type 0 where
+pub record AreCodesOf (b : List ℕ) (m : Mentions) (xs : List EncodedMethod) (most : ℕ)
+    (codes : List (Option NumberedItem)) : Type 0 where
   pub symbolic : List (Option Code)
   pub at : AreCodesAt b xs symbolic
   pub are_encoded : AllZip (BothOrNone (DenotesCode m)) codes symbolic
@@ -68,13 +73,17 @@ IsCodesFault b xs (Refused number) = HasRefusedCode b xs number
 -- so it is, or the code of the methods, if it is there, weighs more than it may: 23
 abbrev pub IsCodesFaultWithin : List ℕ → List EncodedMethod → ℕ → ItemFault → Type 0
 IsCodesFaultWithin b xs most Memory = Unit {0}
-IsCodesFaultWithin b xs most (Refused number) = HasRefusedCode b xs number ⊎ ((number ≡ 23) × ((codes : List (Option Code)) → AreCodesAt b xs codes → most < sum_by optional_code_weight codes))
+IsCodesFaultWithin b xs most (Refused number) =
+    HasRefusedCode b xs number
+    ⊎ ((number ≡ 23)
+    × ((codes : List (Option Code)) → AreCodesAt b xs codes → most < sum_by optional_code_weight codes))
 
 -- ---- as it is read
 
 -- the methods have the code of those of a list of class data
 abbrev pub CodesWithin : RowReader → List EncodedMethod → List HeldMethod × ℕ → Type 0
-CodesWithin reader listed methods = AreCodesOf reader.frame.now reader.pools.now listed reader.most (held_codes methods.0)
+CodesWithin reader listed methods =
+    AreCodesOf reader.frame.now reader.pools.now listed reader.most (held_codes methods.0)
 
 -- ---- as it is kept
 
@@ -82,3 +91,22 @@ CodesWithin reader listed methods = AreCodesOf reader.frame.now reader.pools.now
 abbrev pub IsKept : Option NumberedItem → List NumberedItem → List NumberedItem → Option ℕ → Type 0
 IsKept None old new place = (new ≡ old) × (place ≡ None)
 IsKept (Some code) old new place = (new ≡ old ++ code ∷ []) × (place ≡ Some (length old))
+
+-- the code is at the place in the new list; what the old one has stays at its places, and what there is more is at that
+-- place
+pub record IsKeptAt (code : Option NumberedItem) (old new : List NumberedItem) (place : Option ℕ) : Type 0 where
+  pub still : (p : Option ℕ) → IsPlaceIn old p → IsPlaceIn new p × (code_at new p ≡ code_at old p)
+  pub held : IsPlaceIn new place
+  pub is : code_at new place ≡ code
+  pub named : (i : ℕ) → i < length new → (i < length old) ⊎ (place ≡ Some i)
+
+-- what is noted of an offset is a place of the code
+abbrev pub ArePlacesOfCodes : KeptCodes → Type 0
+ArePlacesOfCodes kept =
+    (off : ℕ) (place : Option ℕ) → get nat_eq kept.places off ≡ Some place → IsPlaceIn kept.items.items place
+
+-- what is noted of an offset is the place of the code there, or none where there is none
+abbrev pub AreReadCodes : List ℕ → Mentions → KeptCodes → Type 0
+AreReadCodes b m kept =
+    (off : ℕ) (place : Option ℕ) → get nat_eq kept.places off ≡ Some place
+    → IsCodeOrNone b off m (code_at kept.items.items place)

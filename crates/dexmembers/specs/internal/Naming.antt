@@ -37,7 +37,8 @@ methods_read d = method_indices d.direct_methods.items ++ method_indices d.virtu
 pub record NamesRead (b : List ℕ) (o : ℕ) (d : DataRead) : Type 0 where
   pub fields_named : NamesOnly b (o + 16) (fields_count b o) (fields_read d)
   pub methods_named : NamesOnly b (o + 16 + 8 * fields_count b o) (methods_count b o) (methods_read d)
-  pub parameters_named : NamesOnly b (o + 16 + 8 * (fields_count b o + methods_count b o)) (parameters_count b o) (methods_read d)
+  pub parameters_named : NamesOnly b (o + 16 + 8 * (fields_count b o + methods_count b o)) (parameters_count b o)
+      (methods_read d)
 
 -- the indices of each list of class data rise
 pub record ListsRise (d : DataRead) : Type 0 where

@@ -55,31 +55,43 @@ IsAnnotationsFault b r (Refused number) = (number ≡ 22) × (HasAnnotations b r
 -- so it does, or the directory of the row, if one is there, weighs more than it may: 23
 abbrev pub IsAnnotationsFaultWithin : List ℕ → ℕ → ℕ → ItemFault → Type 0
 IsAnnotationsFaultWithin b r most Memory = Unit {0}
-IsAnnotationsFaultWithin b r most (Refused number) = IsAnnotationsFault b r (Refused number) ⊎ ((number ≡ 23) × ((a : Directory) → OrNone DirectoryAt no_directory b (annotations_off b r) a → most < directory_weight a))
+IsAnnotationsFaultWithin b r most (Refused number) =
+    IsAnnotationsFault b r (Refused number)
+    ⊎ ((number ≡ 23)
+    × ((a : Directory) → OrNone DirectoryAt no_directory b (annotations_off b r) a → most < directory_weight a))
 
 -- the annotations of the row that has the offset
 abbrev pub ReadsAnnotations : RowReader → ℕ → DataRead → Result SharedDirectory ItemFault → Type 0
-ReadsAnnotations reader off d result = (r : ℕ) → off ≡ annotations_off reader.frame.now r → IsFile reader → IsDataOf reader.frame.now r reader.pools.now d
+ReadsAnnotations reader off d result =
+    (r : ℕ) → off ≡ annotations_off reader.frame.now r → IsFile reader → IsDataOf reader.frame.now r reader.pools.now d
     → IfOk result (AreAnnotationsOf reader.frame.now r reader.pools.now d)
 
 -- what is refused are the annotations of the row that has the offset
 abbrev pub RefusesAnnotationsWithin : RowReader → ℕ → DataRead → Result SharedDirectory ItemFault → Type 0
-RefusesAnnotationsWithin reader off d result = (r : ℕ) → off ≡ annotations_off reader.frame.now r → IsFile reader → IsDataOf reader.frame.now r reader.pools.now d
+RefusesAnnotationsWithin reader off d result =
+    (r : ℕ) → off ≡ annotations_off reader.frame.now r → IsFile reader → IsDataOf reader.frame.now r reader.pools.now d
     → IfErr result (IsAnnotationsFaultWithin reader.frame.now r reader.most)
 
 -- so they are where they are only checked
 abbrev pub RefusesAnnotations : {X : Type 0} → List ℕ → Mentions → ℕ → DataRead → Result X ItemFault → Type 0
-RefusesAnnotations b m off d result = (r : ℕ) → off ≡ annotations_off b r → ArePools b m → IsDataOf b r m d → IfErr result (IsAnnotationsFault b r)
+RefusesAnnotations b m off d result =
+    (r : ℕ) → off ≡ annotations_off b r → ArePools b m → IsDataOf b r m d → IfErr result (IsAnnotationsFault b r)
 
 -- the directory weighs no more than it may
+abbrev pub IsLightDirectory : Mentions → ℕ → SharedDirectory → Type 0
+IsLightDirectory m most a = min (2 ^ 64 - 1) (directory_weight (directory_in m (shared_directory_of a))) ≤ most
+
+-- so does one that a reader has read
 abbrev pub IsLight : RowReader → SharedDirectory → Type 0
-IsLight reader a = min (2 ^ 64 - 1) (directory_weight (directory_in reader.pools.now (shared_directory_of a))) ≤ reader.most
+IsLight reader a = IsLightDirectory reader.pools.now reader.most a
 
 -- ---- all of it
 
 -- what the row has beside its class data
-pub record ArePartsOf (b : List ℕ) (r : ℕ) (m : Mentions) (d : DataRead) (most : ℕ) (a : SharedDirectory) (direct virtual : List (Option NumberedItem)) (vs : NumberedValues) : Type 0 where
+pub record ArePartsOf (b : List ℕ) (r : ℕ) (m : Mentions) (d : DataRead) (most : ℕ) (a : SharedDirectory)
+    (direct virtual : List (Option NumberedItem)) (vs : NumberedValues) : Type 0 where
   pub annotations : AreAnnotationsOf b r m d a
+  pub light : IsLightDirectory m most a
   pub direct_codes : AreCodesOf b m d.direct_methods.items most direct
   pub virtual_codes : AreCodesOf b m d.virtual_methods.items most virtual
   pub values : AreValuesOf b r m (length d.static_fields.items) most vs
@@ -90,7 +102,8 @@ pub record HaveCodes (d : DataRead) (direct virtual : List (Option NumberedItem)
   pub virtual_many : length virtual ≡ length d.virtual_methods.items
 
 -- all put together
-abbrev pub attached : DataRead → NumberedDirectory → List (Option NumberedItem) → List (Option NumberedItem) → NumberedValues → NumberedMembers
+abbrev pub attached : DataRead → NumberedDirectory → List (Option NumberedItem) → List (Option NumberedItem)
+    → NumberedValues → NumberedMembers
 attached d a direct virtual vs = record {
   annotations = a.own;
   static_fields = map (field_with a.fields) d.static_fields.items;
@@ -105,7 +118,8 @@ attached d a direct virtual vs = record {
 -- one of the conditions 17 to 22 fails at the row; or the row, if it is readable, declares what weighs more: 23
 abbrev pub IsPartFault : List ℕ → ℕ → ℕ → ItemFault → Type 0
 IsPartFault b r most Memory = Unit {0}
-IsPartFault b r most (Refused n) = IsMembersFault b r (Refused n) ⊎ ((n ≡ 23) × (IsReadable b r → AreHeavyMembers b r most))
+IsPartFault b r most (Refused n) =
+    IsMembersFault b r (Refused n) ⊎ ((n ≡ 23) × (IsReadable b r → AreHeavyMembers b r most))
 
 -- what the class row declares, put together, with the weight of its code, or 2^64 - 1 where that is more
 pub record IsPutTogether (b : List ℕ) (r : ℕ) (m : Mentions) (d : DataRead) (most : ℕ) (x : Contents × ℕ) : Type 0 where
@@ -119,9 +133,12 @@ pub record IsPutTogether (b : List ℕ) (r : ℕ) (m : Mentions) (d : DataRead) 
 
 -- what the class row declares
 abbrev pub ReadsContents : RowReader → ClassDef → DataRead → Result (Contents × ℕ) ItemFault → Type 0
-ReadsContents reader row d result = (r : ℕ) → IsClassDef reader.frame.now r row → IsFile reader → IsDataOf reader.frame.now r reader.pools.now d
+ReadsContents reader row d result =
+    (r : ℕ) → IsClassDef reader.frame.now r row → IsFile reader → IsDataOf reader.frame.now r reader.pools.now d
     → IfOk result (IsPutTogether reader.frame.now r reader.pools.now d reader.most)
 
 -- what is refused is a part of the class row
 abbrev pub RefusesParts : RowReader → ClassDef → DataRead → Result (Contents × ℕ) ItemFault → Type 0
-RefusesParts reader row d result = (r : ℕ) → IsClassDef reader.frame.now r row → IsFile reader → IsDataOf reader.frame.now r reader.pools.now d → IfErr result (IsPartFault reader.frame.now r reader.most)
+RefusesParts reader row d result =
+    (r : ℕ) → IsClassDef reader.frame.now r row → IsFile reader → IsDataOf reader.frame.now r reader.pools.now d
+    → IfErr result (IsPartFault reader.frame.now r reader.most)

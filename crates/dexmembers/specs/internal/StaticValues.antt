@@ -32,24 +32,33 @@ pub record AreValuesOf (b : List ℕ) (r : ℕ) (m : Mentions) (fields most : �
 -- allocation says nothing.
 abbrev pub IsValuesFault : List ℕ → ℕ → ℕ → ItemFault → Type 0
 IsValuesFault b r fields Memory = Unit {0}
-IsValuesFault b r fields (Refused number) = (number ≡ 21) × ((vs : Values) → HasValuesFor b r fields vs → ⊥) × ((d : ClassData) → Declares b r d → length d.static_fields ≡ fields → HasValues b r → ⊥)
+IsValuesFault b r fields (Refused number) =
+    (number ≡ 21) × ((vs : Values) → HasValuesFor b r fields vs → ⊥)
+    × ((d : ClassData) → Declares b r d → length d.static_fields ≡ fields → HasValues b r → ⊥)
 
 -- so it is, or they are there and weigh more than they may: 23
 abbrev pub IsValuesFaultWithin : List ℕ → ℕ → ℕ → ℕ → ItemFault → Type 0
 IsValuesFaultWithin b r fields most Memory = Unit {0}
-IsValuesFaultWithin b r fields most (Refused number) = IsValuesFault b r fields (Refused number) ⊎ ((number ≡ 23) × ((vs : Values) → HasValuesFor b r fields vs → most < static_values_weight vs))
+IsValuesFaultWithin b r fields most (Refused number) =
+    IsValuesFault b r fields (Refused number)
+    ⊎ ((number ≡ 23) × ((vs : Values) → HasValuesFor b r fields vs → most < static_values_weight vs))
 
 -- ---- as they are read
 
 -- the static values of the row that has the offset
 abbrev pub ReadsValues : RowReader → ℕ → ℕ → Result (Vec Value) ItemFault → Type 0
 ReadsValues reader off fields result = (r : ℕ) → off ≡ static_values_off reader.frame.now r → IsFile reader
-    → IfOk result (λ values. AreValuesOf reader.frame.now r reader.pools.now fields reader.most (values_of_list (map value_of values.items)))
+    → IfOk result
+    (λ values. AreValuesOf reader.frame.now r reader.pools.now fields reader.most
+    (values_of_list (map value_of values.items)))
 
 -- what is refused are the static values of the row that has the offset
 abbrev pub RefusesValuesWithin : RowReader → ℕ → ℕ → Result (Vec Value) ItemFault → Type 0
-RefusesValuesWithin reader off fields result = (r : ℕ) → off ≡ static_values_off reader.frame.now r → IsFile reader → IfErr result (IsValuesFaultWithin reader.frame.now r fields reader.most)
+RefusesValuesWithin reader off fields result =
+    (r : ℕ) → off ≡ static_values_off reader.frame.now r → IsFile reader
+    → IfErr result (IsValuesFaultWithin reader.frame.now r fields reader.most)
 
 -- so they are where they are only checked
 abbrev pub RefusesValues : {X : Type 0} → List ℕ → Mentions → ℕ → ℕ → Result X ItemFault → Type 0
-RefusesValues b m off fields result = (r : ℕ) → off ≡ static_values_off b r → ArePools b m → IfErr result (IsValuesFault b r fields)
+RefusesValues b m off fields result =
+    (r : ℕ) → off ≡ static_values_off b r → ArePools b m → IfErr result (IsValuesFault b r fields)

@@ -42,7 +42,8 @@ pub record ArePlacesOf (codes : List NumberedItem) (places : List (Option ℕ)) 
 
 -- the method as it is stored, its number remapped
 abbrev pub remapped_stored : Maps → StoredMethod → StoredMethod
-remapped_stored r x = record { number = remapped r kinds.Method x.number; flags = x.flags; code = x.code; set = x.set; list = x.list }
+remapped_stored r x =
+    record { number = remapped r kinds.Method x.number; flags = x.flags; code = x.code; set = x.set; list = x.list }
 
 -- the number of the method as it is stored maps to another
 abbrev pub IsStoredMethodMapped : Maps → StoredMethod → Type 0

@@ -15,4 +15,6 @@ AreWithin x weight most (Err fault) = (fault ≡ Refused 23) × (most < weight)
 
 -- the members, whose code weighs `codes`, with their weight
 abbrev pub IsWeighedWithin : NumberedMembers → ℕ → ℕ → Result (NumberedMembers × ℕ) ItemFault → Type 0
-IsWeighedWithin x codes most result = (m : Mentions) → AreRising m → AreKnownMembers m x → codes ≡ min (2 ^ 64 - 1) (codes_weight (codes_of x)) → AreWithin x (members_weight (members_in m x)) most result
+IsWeighedWithin x codes most result =
+    (m : Mentions) → AreRising m → AreKnownMembers m x → codes ≡ min (2 ^ 64 - 1) (codes_weight (codes_of x))
+    → AreWithin x (members_weight (members_in m x)) most result

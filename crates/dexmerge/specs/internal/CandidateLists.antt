@@ -15,7 +15,8 @@ AreMapped m parts remaps = AllZip (λ part remap. MapsAllInto (mentions (definit
 
 -- the candidates denote just the definitions of the parts
 abbrev pub AreMembersOf : List Collection → List Maps → List Candidate → Type 0
-AreMembersOf parts remaps cs = (m : Mentions) → AreMapped m parts remaps → AreMembers m (flat_map definitions parts) (classes_of cs)
+AreMembersOf parts remaps cs =
+    (m : Mentions) → AreMapped m parts remaps → AreMembers m (flat_map definitions parts) (classes_of cs)
 
 -- the candidates are classes of the parts
 abbrev pub AreOfParts : List Collection → List Maps → List Candidate → Type 0

@@ -36,7 +36,8 @@ abbrev pub HasName : Mentions → List NumberedClass → Text → Type 0
 HasName m cs name = (c : NumberedClass) × Contains cs c × (type_at m c.name ≡ name)
 
 -- classes of these definitions, one of each name; the marks say which types are names
-pub record AreCollected (m : Mentions) (D : List Definition) (cs : List NumberedClass) (is_name : List Bool) : Type 0 where
+pub record AreCollected (m : Mentions) (D : List Definition) (cs : List NumberedClass) (is_name : List Bool) :
+    Type 0 where
   pub count : length is_name ≡ length m.types
   pub known : All (IsKnownClass m) cs
   pub formed : AreWellFormed D
@@ -69,11 +70,14 @@ CollectsPart part remap old new = (m : Mentions) (D : List Definition) → IsPar
 
 -- what a class of the part declares has places in the union
 abbrev pub HasPlaces : Collection → Maps → NumberedClass → Type 0
-HasPlaces K r c = IsKnownClass (mentions (definitions K)) c → Contains (definitions K) (definition_of (mentions (definitions K)) c) → ClassHasPlaces r c
+HasPlaces K r c =
+    IsKnownClass (mentions (definitions K)) c → Contains (definitions K) (definition_of (mentions (definitions K)) c)
+    → ClassHasPlaces r c
 
 -- the class is added, if none of its name is there yet
 abbrev pub IsAdded : NumberedClass → Collected → Collected → Type 0
-IsAdded c old new = (m : Mentions) (D : List Definition) → HasCollected m D old → IsKnownClass m c → IsWellFormed (definition_of m c)
+IsAdded c old new =
+    (m : Mentions) (D : List Definition) → HasCollected m D old → IsKnownClass m c → IsWellFormed (definition_of m c)
     → HasCollected m (D ++ definition_of m c ∷ []) new
 
 -- classes of just these definitions, one of each name

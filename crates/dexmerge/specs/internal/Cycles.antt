@@ -29,7 +29,8 @@ pub record HaveDepths (m : Mentions) (cs : List NumberedClass) (depths : List (O
 pub record IsFirstCycle (m : Mentions) (cs : List NumberedClass) (i : ℕ) : Type 0 where
   pub within : i < length cs
   pub is : IsCycle (map (definition_of m) cs) (type_at m (name_number cs i))
-  pub least : (name : Text) → IsCycle (map (definition_of m) cs) name → text_cmp name (type_at m (name_number cs i)) ≡ Less → ⊥
+  pub least : (name : Text) → IsCycle (map (definition_of m) cs) name
+      → text_cmp name (type_at m (name_number cs i)) ≡ Less → ⊥
 
 -- kept classes have these depths
 abbrev pub KeptHaveDepths : List Candidate → List (Option ℕ) → Type 0

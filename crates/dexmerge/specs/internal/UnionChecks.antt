@@ -23,7 +23,8 @@ pub record IsNoPlan (plan : Plan) (depth files : ℕ) : Type 0 where
 
 -- the marks are those of the plan if it is one, and otherwise it is none
 abbrev pub IsMarkedIfPlan : Plan → ℕ → List Bool → List Bool → Bool → Type 0
-IsMarkedIfPlan plan depth old new is_plan = MatchBool is_plan (IsMarkedBy plan depth old new) (IsNoPlan plan depth (length old))
+IsMarkedIfPlan plan depth old new is_plan =
+    MatchBool is_plan (IsMarkedBy plan depth old new) (IsNoPlan plan depth (length old))
 
 -- each file is marked
 abbrev pub AreAllNamed : List Bool → Type 0

@@ -31,13 +31,15 @@ pub record IsSearch (classes : List (List ℕ)) (s : Search) (path : List Visit)
   pub depth_count : length s.depths.items ≡ length classes
   pub seen_count : length s.is_seen.items ≡ length classes
   pub known : (i d : ℕ) → slice_index_or s.depths.items i None ≡ Some d → IsDepth classes i d
-  pub unknown : (i : ℕ) → slice_index_or s.is_seen.items i false ≡ true → slice_index_or s.depths.items i None ≡ None → IsOn path i ⊎ HasNone classes i
+  pub unknown : (i : ℕ) → slice_index_or s.is_seen.items i false ≡ true → slice_index_or s.depths.items i None ≡ None
+      → IsOn path i ⊎ HasNone classes i
   pub visits : All (IsVisit classes) path
   pub waiting : AllPairs (λ v w. IsWaitingFor classes w.class v) path
 
 -- seen classes stay seen
 abbrev pub AreStillSeen : Search → Search → Type 0
-AreStillSeen s t = (i : ℕ) → slice_index_or s.is_seen.items i false ≡ true → slice_index_or t.is_seen.items i false ≡ true
+AreStillSeen s t =
+    (i : ℕ) → slice_index_or s.is_seen.items i false ≡ true → slice_index_or t.is_seen.items i false ≡ true
 
 -- two steps for each class that was not seen, and one step for each of its parents
 abbrev pub work_unseen : List (List ℕ) → List Bool → ℕ

@@ -64,4 +64,5 @@ AreChecked b texts types m = (o : ℕ) (j : CheckedList) → get nat_eq m o ≡ 
 
 -- no parameters are listed there whose shorty after this letter is the text
 abbrev pub NotListedAs : List ℕ → ℕ → ℕ → Text → Type 0
-NotListedAs b o letter text = (ts : List Text) → OrNone TypeListAt [] b o ts → All IsValueType ts → text ≡ letter ∷ map shorty_letter ts → ⊥
+NotListedAs b o letter text =
+    (ts : List Text) → OrNone TypeListAt [] b o ts → All IsValueType ts → text ≡ letter ∷ map shorty_letter ts → ⊥

@@ -48,11 +48,19 @@ protos_types parameters protos marks = flat_map (entry_types parameters) (kept m
 
 -- the marks of types, and marks on those of marked methods, fields and protos
 abbrev pub marked_types : Tables → List Bool → List Bool → List Bool → List Bool → List Bool
-marked_types t methods fields protos types = mark_all (mark_all (mark_all types (map (λ m. m.class) (kept methods t.methods.items))) (flat_map field_types (kept fields t.fields.items))) (protos_types t.parameters t.protos.items protos)
+marked_types t methods fields protos types =
+    mark_all
+    (mark_all (mark_all types (map (λ m. m.class) (kept methods t.methods.items)))
+    (flat_map field_types (kept fields t.fields.items))) (protos_types t.parameters t.protos.items protos)
 
 -- the marks of texts, and marks on those of marked methods, fields, protos and types
 abbrev pub marked_texts : Tables → List Bool → List Bool → List Bool → List Bool → List Bool → List Bool
-marked_texts t methods fields protos types strings = mark_all (mark_all (mark_all (mark_all strings (map (λ m. m.name) (kept methods t.methods.items))) (map (λ f. f.name) (kept fields t.fields.items))) (map (λ p. p.shorty) (kept protos t.protos.items))) (kept types t.types.items)
+marked_texts t methods fields protos types strings =
+    mark_all
+    (mark_all
+    (mark_all (mark_all strings (map (λ m. m.name) (kept methods t.methods.items)))
+    (map (λ f. f.name) (kept fields t.fields.items))) (map (λ p. p.shorty) (kept protos t.protos.items)))
+    (kept types t.types.items)
 
 -- there are marks for the numbers of a method
 abbrev pub HasMethodMarks : List Bool → List Bool → List Bool → MethodRow → Type 0
@@ -65,8 +73,10 @@ pub record AreClosure (t : Tables) (marks closed : Marks) : Type 0 where
   pub methods_are : closed.methods.items ≡ marks.methods.items
   pub fields_are : closed.fields.items ≡ marks.fields.items
   pub protos_are : closed.protos.items ≡ mark_all marks.protos.items (method_protos t marks.methods.items)
-  pub types_are : closed.types.items ≡ marked_types t marks.methods.items marks.fields.items closed.protos.items marks.types.items
-  pub strings_are : closed.strings.items ≡ marked_texts t marks.methods.items marks.fields.items closed.protos.items closed.types.items marks.strings.items
+  pub types_are : closed.types.items
+      ≡ marked_types t marks.methods.items marks.fields.items closed.protos.items marks.types.items
+  pub strings_are : closed.strings.items
+      ≡ marked_texts t marks.methods.items marks.fields.items closed.protos.items closed.types.items marks.strings.items
 
 -- the numbers of an entry are marked
 pub record HasMarkedEntry (t : Tables) (marks : Marks) (p : ProtoEntry) : Type 0 where
@@ -153,7 +163,13 @@ cut_protos t marks strings types = map (moved_proto strings types t.parameters) 
 pub record IsCut (t : Tables) (marks : Marks) (cut : Tables) : Type 0 where
   pub strings_are : cut.strings.items ≡ kept marks.strings.items t.strings.items
   pub types_are : cut.types.items ≡ cut_types t.types.items marks.types.items (new_numbers marks.strings.items)
-  pub protos_are : map (numbers_of cut.parameters) cut.protos.items ≡ cut_protos t marks.protos.items (new_numbers marks.strings.items) (new_numbers marks.types.items)
+  pub protos_are : map (numbers_of cut.parameters) cut.protos.items
+      ≡ cut_protos t marks.protos.items (new_numbers marks.strings.items) (new_numbers marks.types.items)
   pub spans : All (λ p. HasSpan cut.parameters p.parameters) cut.protos.items
-  pub fields_are : cut.fields.items ≡ map (moved_field (new_numbers marks.strings.items) (new_numbers marks.types.items)) (kept marks.fields.items t.fields.items)
-  pub methods_are : cut.methods.items ≡ map (moved_method (new_numbers marks.strings.items) (new_numbers marks.types.items) (new_numbers marks.protos.items)) (kept marks.methods.items t.methods.items)
+  pub fields_are : cut.fields.items
+      ≡ map (moved_field (new_numbers marks.strings.items) (new_numbers marks.types.items))
+      (kept marks.fields.items t.fields.items)
+  pub methods_are : cut.methods.items
+      ≡ map
+      (moved_method (new_numbers marks.strings.items) (new_numbers marks.types.items) (new_numbers marks.protos.items))
+      (kept marks.methods.items t.methods.items)

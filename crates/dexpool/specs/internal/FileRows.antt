@@ -54,14 +54,16 @@ pub record IsReader (reader : ProtoReader) : Type 0 where
 -- each list that is noted is as IsFileList says, and the letters are those of all numbers of the file
 pub record AreFileLists (reader : ProtoReader) (lists : CheckedLists) : Type 0 where
   pub checked : AreChecked reader.names.now.frame.now reader.names.now.strings.now reader.names.now.types.now lists.long
-  pub letters_are : IfSome lists.letters (λ letters. letters.items ≡ letters_in reader.letters.now (file_numbers reader.names.now.frame.now))
+  pub letters_are : IfSome lists.letters
+      (λ letters. letters.items ≡ letters_in reader.letters.now (file_numbers reader.names.now.frame.now))
 
 -- ---- fields and methods
 
 -- the texts that are marked are names of members
 pub record AreMemberNames (texts : List Text) (known : List Bool) : Type 0 where
   pub count : length known ≡ length texts
-  pub each : (i : ℕ) → i < length texts → IsTrue (slice_index_or known i false) → IsMemberName (slice_index_or texts i [])
+  pub each : (i : ℕ) → i < length texts → IsTrue (slice_index_or known i false)
+      → IsMemberName (slice_index_or texts i [])
 
 -- row i is the field of these numbers
 abbrev pub IsFileField : Names → ℕ → FieldRow → Type 0
@@ -73,8 +75,10 @@ AreFileFields names = AreFields names.frame.now names.strings.now names.types.no
 
 -- row i is the method of these numbers, by these protos
 abbrev pub IsFileMethod : Names → List ProtoEntry → ℕ → MethodRow → Type 0
-IsFileMethod names protos = MethodRowAt names.strings.now names.types.now (file_numbers names.frame.now) protos names.frame.now
+IsFileMethod names protos =
+    MethodRowAt names.strings.now names.types.now (file_numbers names.frame.now) protos names.frame.now
 
 -- the methods of all rows, by these protos
 abbrev pub AreFileMethods : Names → List ProtoEntry → List MethodRow → Type 0
-AreFileMethods names protos = AreMethods names.frame.now names.strings.now names.types.now (file_numbers names.frame.now) protos
+AreFileMethods names protos =
+    AreMethods names.frame.now names.strings.now names.types.now (file_numbers names.frame.now) protos

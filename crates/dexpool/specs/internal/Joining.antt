@@ -28,7 +28,8 @@ pub record Moves {X : Type 0} (from to : List X) (image : List ℕ) : Type 0 whe
   pub same : (i : ℕ) (d : X) → i < length from → IsAt to (slice_index image i) (slice_index_or from i d)
 
 -- the members of all parts, each once and in order, and where those of each part are
-pub record IsUnion {P X : Type 0} (of : P → List X) (R : X → X → Ordering) (parts : List P) (joined : List X) (images : List (List ℕ)) : Type 0 where
+pub record IsUnion {P X : Type 0} (of : P → List X) (R : X → X → Ordering) (parts : List P) (joined : List X)
+    (images : List (List ℕ)) : Type 0 where
   pub all : joined ≡ in_order R (flat_map of parts)
   pub moves : AllZip (λ part image. Moves (of part) joined image) parts images
 
@@ -42,17 +43,21 @@ abbrev pub AreJoinedTexts : List Mentions → List Text → List (List ℕ) → 
 AreJoinedTexts parts texts images = IsUnion (λ m. m.texts) text_cmp parts texts images
 
 -- the types of all parts
-pub record AreJoinedTypes (parts : List Mentions) (texts : List Text) (types : List ℕ) (images : List (List ℕ)) : Type 0 where
+pub record AreJoinedTypes (parts : List Mentions) (texts : List Text) (types : List ℕ) (images : List (List ℕ)) :
+    Type 0 where
   pub union : IsUnion (λ m. m.types) text_cmp parts (map (text_of texts) types) images
   pub within : All (λ n. n < length texts) types
 
 -- the entry's shorty is the text of its shorty
 abbrev pub HasShorty : List Text → List ℕ → List ℕ → ProtoEntry → Type 0
-HasShorty texts types parameters p = text_of texts p.shorty ≡ shorty (type_of texts types p.return_type) (map (type_of texts types) (span_of parameters p.parameters))
+HasShorty texts types parameters p =
+    text_of texts p.shorty
+    ≡ shorty (type_of texts types p.return_type) (map (type_of texts types) (span_of parameters p.parameters))
 
 -- the proto of a row
 abbrev pub proto_of_row : List Text → List ℕ → ProtoNumbers → symbols.Proto
-proto_of_row texts types row = record { return_type = type_of texts types row.return_type; parameters = map (type_of texts types) row.parameters }
+proto_of_row texts types row =
+    record { return_type = type_of texts types row.return_type; parameters = map (type_of texts types) row.parameters }
 
 -- the numbers that the row of a proto is ordered by
 abbrev pub proto_key : ProtoNumbers → List ℕ
@@ -63,22 +68,27 @@ pub record IsRowOf (texts : List Text) (types : List ℕ) (row : ProtoNumbers) :
   pub shorty_in : row.shorty < length texts
   pub return_in : row.return_type < length types
   pub parameters_in : All (λ n. n < length types) row.parameters
-  pub shorty_is : text_of texts row.shorty ≡ shorty (type_of texts types row.return_type) (map (type_of texts types) row.parameters)
+  pub shorty_is : text_of texts row.shorty
+      ≡ shorty (type_of texts types row.return_type) (map (type_of texts types) row.parameters)
 
 -- the protos of all parts
-pub record AreJoinedProtos (parts : List Mentions) (texts : List Text) (types parameters : List ℕ) (protos : List ProtoEntry) (images : List (List ℕ)) : Type 0 where
+pub record AreJoinedProtos (parts : List Mentions) (texts : List Text) (types parameters : List ℕ)
+    (protos : List ProtoEntry) (images : List (List ℕ)) : Type 0 where
   pub union : IsUnion (λ m. m.protos) symbols.proto_cmp parts (map (proto_of texts types parameters) protos) images
   pub within : All (IsEntryWithin (length texts) (length types) parameters) protos
   pub shorties : All (HasShorty texts types parameters) protos
 
 -- the fields of all parts
-pub record AreJoinedFields (parts : List Mentions) (texts : List Text) (types : List ℕ) (fields : List FieldRow) (images : List (List ℕ)) : Type 0 where
+pub record AreJoinedFields (parts : List Mentions) (texts : List Text) (types : List ℕ) (fields : List FieldRow)
+    (images : List (List ℕ)) : Type 0 where
   pub union : IsUnion (λ m. m.fields) symbols.field_cmp parts (map (field_of texts types) fields) images
   pub within : All (IsFieldWithin (length texts) (length types)) fields
 
 -- the methods of all parts
-pub record AreJoinedMethods (parts : List Mentions) (texts : List Text) (types parameters : List ℕ) (protos : List ProtoEntry) (methods : List MethodRow) (images : List (List ℕ)) : Type 0 where
-  pub union : IsUnion (λ m. m.methods) symbols.method_cmp parts (map (method_of texts types parameters protos) methods) images
+pub record AreJoinedMethods (parts : List Mentions) (texts : List Text) (types parameters : List ℕ)
+    (protos : List ProtoEntry) (methods : List MethodRow) (images : List (List ℕ)) : Type 0 where
+  pub union : IsUnion (λ m. m.methods) symbols.method_cmp parts (map (method_of texts types parameters protos) methods)
+      images
   pub within : All (IsMethodWithin (length texts) (length types) (length protos)) methods
 
 -- the maps have the images of each part
@@ -109,27 +119,38 @@ AreTextsOf parts texts = AreJoinedTexts (numberings_of parts) texts.rows.items (
 
 -- the types of all parts, by these texts
 abbrev pub AreTypesOf : List (Bor Mentions) → Joined Text → Joined ℕ → Type 0
-AreTypesOf parts texts types = AreJoinedTypes (numberings_of parts) texts.rows.items types.rows.items (lists_in types.images.items)
+AreTypesOf parts texts types =
+    AreJoinedTypes (numberings_of parts) texts.rows.items types.rows.items (lists_in types.images.items)
 
 -- the protos of all parts, by these texts and types
 abbrev pub AreProtosOf : List (Bor Mentions) → Joined Text → Joined ℕ → JoinedProtos → Type 0
-AreProtosOf parts texts types protos = AreJoinedProtos (numberings_of parts) texts.rows.items types.rows.items protos.table.parameters.items protos.table.rows.items (lists_in protos.images.items)
+AreProtosOf parts texts types protos =
+    AreJoinedProtos (numberings_of parts) texts.rows.items types.rows.items protos.table.parameters.items
+    protos.table.rows.items (lists_in protos.images.items)
 
 -- the fields of all parts, by these texts and types
 abbrev pub AreFieldsOf : List (Bor Mentions) → Joined Text → Joined ℕ → Joined FieldRow → Type 0
-AreFieldsOf parts texts types fields = AreJoinedFields (numberings_of parts) texts.rows.items types.rows.items fields.rows.items (lists_in fields.images.items)
+AreFieldsOf parts texts types fields =
+    AreJoinedFields (numberings_of parts) texts.rows.items types.rows.items fields.rows.items
+    (lists_in fields.images.items)
 
 -- the methods of all parts, by these texts, types and protos
 abbrev pub AreMethodsOf : List (Bor Mentions) → Joined Text → Joined ℕ → JoinedProtos → Joined MethodRow → Type 0
-AreMethodsOf parts texts types protos methods = AreJoinedMethods (numberings_of parts) texts.rows.items types.rows.items protos.table.parameters.items protos.table.rows.items methods.rows.items (lists_in methods.images.items)
+AreMethodsOf parts texts types protos methods =
+    AreJoinedMethods (numberings_of parts) texts.rows.items types.rows.items protos.table.parameters.items
+    protos.table.rows.items methods.rows.items (lists_in methods.images.items)
 
 -- each table has the protos of its part, by these texts and types
 abbrev pub AreTablesOf : List (Bor Mentions) → Joined Text → Joined ℕ → List Protos → Type 0
-AreTablesOf parts texts types tables = AllZip (λ part rows. Denote (proto_of_row texts.rows.items types.rows.items) (IsRowOf texts.rows.items types.rows.items) part.protos rows) (numberings_of parts) (map numbers_in tables)
+AreTablesOf parts texts types tables =
+    AllZip
+    (λ part rows. Denote (proto_of_row texts.rows.items types.rows.items) (IsRowOf texts.rows.items types.rows.items)
+    part.protos rows) (numberings_of parts) (map numbers_in tables)
 
 -- these are the images of a part's members, by its place
 abbrev pub MovesPart : {X : Type 0} → (Mentions → List X) → List (Bor Mentions) → List X → ℕ → List ℕ → Type 0
-MovesPart of parts to i image = (part : Bor Mentions) → part ≡ slice_index_or parts i part → Moves (of part.now) to image
+MovesPart of parts to i image =
+    (part : Bor Mentions) → part ≡ slice_index_or parts i part → Moves (of part.now) to image
 
 -- the images of a part's texts
 abbrev pub MovesTextsOf : List (Bor Mentions) → Joined Text → ℕ → List ℕ → Type 0
@@ -147,7 +168,14 @@ image_at part images = slice_index_or (lists_in images.items) part []
 
 -- the map by the images of a part, one for each number
 abbrev pub total_maps : ℕ → JoinedImages → Maps
-total_maps part images = record { texts = map Some (image_at part images.strings); types = map Some (image_at part images.types); protos = map Some (image_at part images.protos); fields = map Some (image_at part images.fields); methods = map Some (image_at part images.methods) }
+total_maps part images =
+    record {
+      texts = map Some (image_at part images.strings);
+      types = map Some (image_at part images.types);
+      protos = map Some (image_at part images.protos);
+      fields = map Some (image_at part images.fields);
+      methods = map Some (image_at part images.methods);
+    }
 
 -- there are images of as many parts of each kind
 pub record HaveSameParts (images : JoinedImages) : Type 0 where
@@ -174,4 +202,6 @@ pub record SameFrom (part : ℕ) (old new : JoinedImages) : Type 0 where
 
 -- the maps have the images of each part
 abbrev pub AreRemapsOf : JoinedImages → Vec Maps → Type 0
-AreRemapsOf images maps = AreMapsOf (lists_in images.strings.items) (lists_in images.types.items) (lists_in images.protos.items) (lists_in images.fields.items) (lists_in images.methods.items) maps.items
+AreRemapsOf images maps =
+    AreMapsOf (lists_in images.strings.items) (lists_in images.types.items) (lists_in images.protos.items)
+    (lists_in images.fields.items) (lists_in images.methods.items) maps.items

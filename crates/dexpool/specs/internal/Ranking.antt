@@ -17,7 +17,9 @@ pub record PassBelow (test : ℕ → Bool) (k n : ℕ) : Type 0 where
 -- whatever test the comparisons of the numbers below n agree with, if those that pass come first, they are those below
 -- k
 abbrev pub CountsLess : (ℕ → Ordering → Type 0) → ℕ → ℕ → Type 0
-CountsLess Compares n k = (test : ℕ → Bool) → ((i : ℕ) (o : Ordering) → i < n → Compares i o → is_lt o ≡ test i) → ComeFirst test n → PassBelow test k n
+CountsLess Compares n k =
+    (test : ℕ → Bool) → ((i : ℕ) (o : Ordering) → i < n → Compares i o → is_lt o ≡ test i) → ComeFirst test n
+    → PassBelow test k n
 
 -- the types of these numbers
 abbrev pub types_or : Mentions → List ℕ → Text → List Text

@@ -10,7 +10,8 @@ abbrev pub AreAllRows : {X : Type 0} → Condition → (List ℕ → ℕ → X �
 AreAllRows c Row b rows = ReadTo Row (Holds c) b rows (rows_checked c b)
 
 -- row i is this one, and the condition holds there
-pub record IsNextRow {X : Type 0} (c : Condition) (Row : List ℕ → ℕ → X → Type 0) (b : List ℕ) (i : ℕ) (x : X) : Type 0 where
+pub record IsNextRow {X : Type 0} (c : Condition) (Row : List ℕ → ℕ → X → Type 0) (b : List ℕ) (i : ℕ) (x : X) :
+    Type 0 where
   pub is : Row b i x
   pub holds : Holds c b i
 

@@ -14,7 +14,9 @@ use Rattle.dexpool.specs.Reading.{HasSpan}
 
 -- where the numbers that they name are replaced in the order of these, sorted rows stay sorted
 abbrev pub StaySorted : {R : Type 0} → (R → List ℕ) → (Among → R → Type 0) → (Lower → R → R) → Type 0
-StaySorted {R} key numbers_in mapped = (among : Among) (lower : Lower) (rows : List R) → RiseAmong among lower → All (numbers_in among) rows → AreSorted key rows → AreSorted key (map (mapped lower) rows)
+StaySorted {R} key numbers_in mapped =
+    (among : Among) (lower : Lower) (rows : List R) → RiseAmong among lower → All (numbers_in among) rows
+    → AreSorted key rows → AreSorted key (map (mapped lower) rows)
 
 -- ---- rows of types
 
@@ -26,7 +28,8 @@ moved_type strings n = record { descriptor = slice_index strings n }
 
 -- the numbers of an entry
 abbrev pub numbers_of : List ℕ → ProtoEntry → ProtoNumbers
-numbers_of parameters p = record { shorty = p.shorty; return_type = p.return_type; parameters = span_of parameters p.parameters }
+numbers_of parameters p =
+    record { shorty = p.shorty; return_type = p.return_type; parameters = span_of parameters p.parameters }
 
 -- the rows of a table
 abbrev pub numbers_in : Protos → List ProtoNumbers
@@ -65,7 +68,8 @@ pub record IsFieldWithin (strings types : ℕ) (f : FieldRow) : Type 0 where
 
 -- a field's row renumbered
 abbrev pub moved_field : List ℕ → List ℕ → FieldRow → FieldRow
-moved_field strings types f = record { class = slice_index types f.class; name = slice_index strings f.name; typ = slice_index types f.typ }
+moved_field strings types f =
+    record { class = slice_index types f.class; name = slice_index strings f.name; typ = slice_index types f.typ }
 
 -- a method's numbers are in range, for these counts of texts, types and protos
 pub record IsMethodWithin (strings types protos : ℕ) (m : MethodRow) : Type 0 where
@@ -75,4 +79,5 @@ pub record IsMethodWithin (strings types protos : ℕ) (m : MethodRow) : Type 0 
 
 -- a method's row renumbered
 abbrev pub moved_method : List ℕ → List ℕ → List ℕ → MethodRow → MethodRow
-moved_method strings types protos m = record { class = slice_index types m.class; name = slice_index strings m.name; proto = slice_index protos m.proto }
+moved_method strings types protos m =
+    record { class = slice_index types m.class; name = slice_index strings m.name; proto = slice_index protos m.proto }

@@ -20,8 +20,10 @@ pub record IsMerge {R : Type 0} (key : R → List ℕ) (left right rows : List R
 pub record HasTaken {R : Type 0} (key : R → List ℕ) (rows part : List R) (places : List ℕ) : Type 0 where
   pub count : length places ≤ length part
   pub within : (i : ℕ) → i < length places → slice_index places i < length rows
-  pub same : (i : ℕ) (d : R) → i < length places → key (slice_index_or rows (slice_index places i) d) ≡ key (slice_index_or part i d)
-  pub less : (d : R) → length places < length part → All (λ row. row_cmp key row (slice_index_or part (length places) d) ≡ Less) rows
+  pub same : (i : ℕ) (d : R) → i < length places
+      → key (slice_index_or rows (slice_index places i) d) ≡ key (slice_index_or part i d)
+  pub less : (d : R) → length places < length part
+      → All (λ row. row_cmp key row (slice_index_or part (length places) d) ≡ Less) rows
 
 -- the first rows of both are merged
 pub record IsMerging {R : Type 0} (key : R → List ℕ) (left right rows : List R) (lefts rights : List ℕ) : Type 0 where
@@ -48,5 +50,8 @@ IsNext key left i right j Equal = ComeTogether key left i right j
 IsNext key left i right j Greater = ComesFirst key right j left i
 
 -- whichever parts two tables are joined of, these rows are all those parts joined
-abbrev pub IsJoinOfTwo : {R : Type 0} → (R → List ℕ) → List R → List (List ℕ) → List R → List (List ℕ) → List R → List (List ℕ) → Type 0
-IsJoinOfTwo {R} key left left_images right right_images rows images = (parts others : List (List R)) → IsJoin key parts left left_images → IsJoin key others right right_images → IsJoin key (parts ++ others) rows images
+abbrev pub IsJoinOfTwo : {R : Type 0} → (R → List ℕ) → List R → List (List ℕ) → List R → List (List ℕ) → List R
+    → List (List ℕ) → Type 0
+IsJoinOfTwo {R} key left left_images right right_images rows images =
+    (parts others : List (List R)) → IsJoin key parts left left_images → IsJoin key others right right_images
+    → IsJoin key (parts ++ others) rows images

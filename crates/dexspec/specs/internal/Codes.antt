@@ -53,7 +53,9 @@ optional_text_code = coded_option text_code
 
 -- a proto is the pair of its fields
 abbrev pub proto_code : Coded Proto
-proto_code = code_by (Text × List Text) (coded× text_code (coded_list text_code)) (λ p. (p.return_type, p.parameters)) (λ t. record { return_type = t.0; parameters = t.1 }) (λ _. refl)
+proto_code =
+    code_by (Text × List Text) (coded× text_code (coded_list text_code)) (λ p. (p.return_type, p.parameters))
+    (λ t. record { return_type = t.0; parameters = t.1 }) (λ _. refl)
 
 -- a field is its three texts
 abbrev pub field_code : Coded Field
@@ -97,7 +99,9 @@ piece_tree (Payload us) = gcons (gnum 1) (text_code.code us)
 
 -- two pieces with equal codes are equal
 pub one_piece : (x y : Piece) → piece_tree x ≡ piece_tree y → x ≡ y
-one_piece (Instruction us s) (Instruction vs t) p = λ i. Instruction (text_code.inj us vs (ap (λ g. head (tail g)) p) i) ((coded_option symbol_code).inj s t (ap (λ g. tail (tail g)) p) i)
+one_piece (Instruction us s) (Instruction vs t) p =
+    λ i. Instruction (text_code.inj us vs (ap (λ g. head (tail g)) p) i)
+    ((coded_option symbol_code).inj s t (ap (λ g. tail (tail g)) p) i)
 one_piece (Payload us) (Payload vs) p = ap Payload (text_code.inj us vs (ap tail p))
 one_piece x y p = absurd (subst (λ g. T (tag (piece_tree x) == tag g)) p tt)
 
@@ -109,9 +113,12 @@ piece_code = record { code = piece_tree; inj = one_piece }
 abbrev operation_tree : Operation → Gv
 operation_tree (AdvancePc addresses) = gcons (gnum 0) (gnum addresses)
 operation_tree (AdvanceLine lines) = gcons (gnum 1) (coded_ℤ.code lines)
-operation_tree (StartLocal register name type) = gcons (gnum 2) (gcons (gnum register) (gcons (optional_text_code.code name) (optional_text_code.code type)))
+operation_tree (StartLocal register name type) =
+    gcons (gnum 2) (gcons (gnum register) (gcons (optional_text_code.code name) (optional_text_code.code type)))
 operation_tree (StartLocalExtended register name type signature) =
-    gcons (gnum 3) (gcons (gnum register) (gcons (optional_text_code.code name) (gcons (optional_text_code.code type) (optional_text_code.code signature))))
+    gcons (gnum 3)
+    (gcons (gnum register)
+    (gcons (optional_text_code.code name) (gcons (optional_text_code.code type) (optional_text_code.code signature))))
 operation_tree (EndLocal register) = gcons (gnum 4) (gnum register)
 operation_tree (RestartLocal register) = gcons (gnum 5) (gnum register)
 operation_tree SetPrologueEnd = gcons (gnum 6) gnil
@@ -123,10 +130,15 @@ operation_tree (Special opcode) = gcons (gnum 9) (gnum opcode)
 pub one_operation : (x y : Operation) → operation_tree x ≡ operation_tree y → x ≡ y
 one_operation (AdvancePc m) (AdvancePc n) p = ap AdvancePc (coded_ℕ.inj m n (ap tail p))
 one_operation (AdvanceLine m) (AdvanceLine n) p = ap AdvanceLine (coded_ℤ.inj m n (ap tail p))
-one_operation (StartLocal m s t) (StartLocal n u v) p = λ i. StartLocal (coded_ℕ.inj m n (ap (λ g. head (tail g)) p) i) (optional_text_code.inj s u (ap (λ g. head (tail (tail g))) p) i) (optional_text_code.inj t v (ap (λ g. tail (tail (tail g))) p) i)
+one_operation (StartLocal m s t) (StartLocal n u v) p =
+    λ i. StartLocal (coded_ℕ.inj m n (ap (λ g. head (tail g)) p) i)
+    (optional_text_code.inj s u (ap (λ g. head (tail (tail g))) p) i)
+    (optional_text_code.inj t v (ap (λ g. tail (tail (tail g))) p) i)
 one_operation (StartLocalExtended m s t w) (StartLocalExtended n u v x) p =
-    λ i. StartLocalExtended (coded_ℕ.inj m n (ap (λ g. head (tail g)) p) i) (optional_text_code.inj s u (ap (λ g. head (tail (tail g))) p) i)
-    (optional_text_code.inj t v (ap (λ g. head (tail (tail (tail g)))) p) i) (optional_text_code.inj w x (ap (λ g. tail (tail (tail (tail g)))) p) i)
+    λ i. StartLocalExtended (coded_ℕ.inj m n (ap (λ g. head (tail g)) p) i)
+    (optional_text_code.inj s u (ap (λ g. head (tail (tail g))) p) i)
+    (optional_text_code.inj t v (ap (λ g. head (tail (tail (tail g)))) p) i)
+    (optional_text_code.inj w x (ap (λ g. tail (tail (tail (tail g)))) p) i)
 one_operation (EndLocal m) (EndLocal n) p = ap EndLocal (coded_ℕ.inj m n (ap tail p))
 one_operation (RestartLocal m) (RestartLocal n) p = ap RestartLocal (coded_ℕ.inj m n (ap tail p))
 one_operation SetPrologueEnd SetPrologueEnd p = refl
@@ -142,17 +154,22 @@ operation_code = record { code = operation_tree; inj = one_operation }
 -- a debug program is its start, its names and its operations
 abbrev pub debug_code : Coded Debug
 debug_code =
-    code_by (ℕ × (List (Option Text) × List Operation)) (coded× coded_ℕ (coded× (coded_list optional_text_code) (coded_list operation_code))) (λ d. (d.line_start, (d.parameter_names, d.operations)))
+    code_by (ℕ × (List (Option Text) × List Operation))
+    (coded× coded_ℕ (coded× (coded_list optional_text_code) (coded_list operation_code)))
+    (λ d. (d.line_start, (d.parameter_names, d.operations)))
     (λ t. record { line_start = t.0; parameter_names = t.1.0; operations = t.1.1 }) (λ _. refl)
 
 -- a catch is its type and its address
 abbrev pub catch_code : Coded Catch
-catch_code = code_by (Text × ℕ) (coded× text_code coded_ℕ) (λ c. (c.type, c.address)) (λ t. record { type = t.0; address = t.1 }) (λ _. refl)
+catch_code =
+    code_by (Text × ℕ) (coded× text_code coded_ℕ) (λ c. (c.type, c.address)) (λ t. record { type = t.0; address = t.1 })
+    (λ _. refl)
 
 -- a handler is its catches and the catch-all address
 abbrev pub handler_code : Coded Handler
 handler_code =
-    code_by (List Catch × Option ℕ) (coded× (coded_list catch_code) (coded_option coded_ℕ)) (λ h. (h.catches, h.catch_all))
+    code_by (List Catch × Option ℕ) (coded× (coded_list catch_code) (coded_option coded_ℕ))
+    (λ h. (h.catches, h.catch_all))
     (λ t. record { catches = t.0; catch_all = t.1 }) (λ _. refl)
 
 -- a try is its units and its handler
@@ -164,9 +181,20 @@ try_code =
 -- code is its registers, pieces, tries and debug program
 abbrev pub code_code : Coded Code
 code_code =
-    code_by (ℕ × (ℕ × (ℕ × (List Piece × (List Try × Option Debug))))) (coded× coded_ℕ (coded× coded_ℕ (coded× coded_ℕ (coded× (coded_list piece_code) (coded× (coded_list try_code) (coded_option debug_code))))))
+    code_by (ℕ × (ℕ × (ℕ × (List Piece × (List Try × Option Debug)))))
+    (coded× coded_ℕ
+    (coded× coded_ℕ
+    (coded× coded_ℕ (coded× (coded_list piece_code) (coded× (coded_list try_code) (coded_option debug_code))))))
     (λ c. (c.registers, (c.ins, (c.outs, (c.pieces, (c.tries, c.debug))))))
-    (λ t. record { registers = t.0; ins = t.1.0; outs = t.1.1.0; pieces = t.1.1.1.0; tries = t.1.1.1.1.0; debug = t.1.1.1.1.1 }) (λ _. refl)
+    (λ t.
+    record {
+      registers = t.0;
+      ins = t.1.0;
+      outs = t.1.1.0;
+      pieces = t.1.1.1.0;
+      tries = t.1.1.1.1.0;
+      debug = t.1.1.1.1.1;
+    }) (λ _. refl)
 
 -- ---- values
 
@@ -216,7 +244,9 @@ mutual
   one_value (MethodValue s) (MethodValue t) p = ap MethodValue (method_code.inj s t (ap tail p))
   one_value (EnumValue s) (EnumValue t) p = ap EnumValue (field_code.inj s t (ap tail p))
   one_value (ArrayValue vs) (ArrayValue ws) p = ap ArrayValue (one_values vs ws (ap tail p))
-  one_value (AnnotationValue s ds) (AnnotationValue t es) p = λ i. AnnotationValue (text_code.inj s t (ap (λ g. head (tail g)) p) i) (one_elements ds es (ap (λ g. tail (tail g)) p) i)
+  one_value (AnnotationValue s ds) (AnnotationValue t es) p =
+      λ i. AnnotationValue (text_code.inj s t (ap (λ g. head (tail g)) p) i)
+      (one_elements ds es (ap (λ g. tail (tail g)) p) i)
   one_value NullValue NullValue p = refl
   one_value (BooleanValue s) (BooleanValue t) p = ap BooleanValue (coded_bool.inj s t (ap tail p))
   one_value x y p = absurd (subst (λ g. T (tag (value_tree x) == tag g)) p tt)
@@ -224,7 +254,8 @@ mutual
   -- two lists of values with equal codes are equal
   pub one_values : (x y : Values) → values_tree x ≡ values_tree y → x ≡ y
   one_values NoValues NoValues p = refl
-  one_values (ThenValue v vs) (ThenValue w ws) p = λ i. ThenValue (one_value v w (ap head p) i) (one_values vs ws (ap tail p) i)
+  one_values (ThenValue v vs) (ThenValue w ws) p =
+      λ i. ThenValue (one_value v w (ap head p) i) (one_values vs ws (ap tail p) i)
   one_values NoValues (ThenValue w ws) p = absurd (subst HasParts (sym p) tt)
   one_values (ThenValue v vs) NoValues p = absurd (subst HasParts p tt)
 
@@ -232,7 +263,8 @@ mutual
   pub one_elements : (x y : Elements) → elements_tree x ≡ elements_tree y → x ≡ y
   one_elements NoElements NoElements p = refl
   one_elements (ThenElement s v ds) (ThenElement t w es) p =
-      λ i. ThenElement (text_code.inj s t (ap head p) i) (one_value v w (ap (λ g. head (tail g)) p) i) (one_elements ds es (ap (λ g. tail (tail g)) p) i)
+      λ i. ThenElement (text_code.inj s t (ap head p) i) (one_value v w (ap (λ g. head (tail g)) p) i)
+      (one_elements ds es (ap (λ g. tail (tail g)) p) i)
   one_elements NoElements (ThenElement t w es) p = absurd (subst HasParts (sym p) tt)
   one_elements (ThenElement s v ds) NoElements p = absurd (subst HasParts p tt)
 
@@ -253,7 +285,8 @@ elements_code = record { code = elements_tree; inj = one_elements }
 -- an annotation is its visibility, its type and its elements
 abbrev pub annotation_code : Coded Annotation
 annotation_code =
-    code_by (ℕ × (Text × Elements)) (coded× coded_ℕ (coded× text_code elements_code)) (λ a. (a.visibility, (a.type, a.elements)))
+    code_by (ℕ × (Text × Elements)) (coded× coded_ℕ (coded× text_code elements_code))
+    (λ a. (a.visibility, (a.type, a.elements)))
     (λ t. record { visibility = t.0; type = t.1.0; elements = t.1.1 }) (λ _. refl)
 
 -- a set is a list of annotations
@@ -263,23 +296,57 @@ set_code = coded_list annotation_code
 -- a declared field is its name, type, flags and set
 abbrev pub field_def_code : Coded FieldDef
 field_def_code =
-    code_by (Text × (Text × (ℕ × AnnotationSet))) (coded× text_code (coded× text_code (coded× coded_ℕ set_code))) (λ f. (f.name, (f.type, (f.flags, f.annotations))))
+    code_by (Text × (Text × (ℕ × AnnotationSet))) (coded× text_code (coded× text_code (coded× coded_ℕ set_code)))
+    (λ f. (f.name, (f.type, (f.flags, f.annotations))))
     (λ t. record { name = t.0; type = t.1.0; flags = t.1.1.0; annotations = t.1.1.1 }) (λ _. refl)
 
 -- a declared method is its name, proto, flags, code and sets
 abbrev pub method_def_code : Coded MethodDef
 method_def_code =
-    code_by (Text × (Proto × (ℕ × (Option Code × (AnnotationSet × List AnnotationSet))))) (coded× text_code (coded× proto_code (coded× coded_ℕ (coded× (coded_option code_code) (coded× set_code (coded_list set_code))))))
+    code_by (Text × (Proto × (ℕ × (Option Code × (AnnotationSet × List AnnotationSet)))))
+    (coded× text_code
+    (coded× proto_code (coded× coded_ℕ (coded× (coded_option code_code) (coded× set_code (coded_list set_code))))))
     (λ m. (m.name, (m.proto, (m.flags, (m.code, (m.annotations, m.parameter_annotations))))))
-    (λ t. record { name = t.0; proto = t.1.0; flags = t.1.1.0; code = t.1.1.1.0; annotations = t.1.1.1.1.0; parameter_annotations = t.1.1.1.1.1 }) (λ _. refl)
+    (λ t.
+    record {
+      name = t.0;
+      proto = t.1.0;
+      flags = t.1.1.0;
+      code = t.1.1.1.0;
+      annotations = t.1.1.1.1.0;
+      parameter_annotations = t.1.1.1.1.1;
+    }) (λ _. refl)
 
 -- a class without its name is the contents of its row and its lists
 abbrev pub body_code : Coded Body
 body_code =
-    code_by (ℕ × (Option Text × (List Text × (Option Text × (AnnotationSet × (List FieldDef × (List FieldDef × (List MethodDef × (List MethodDef × Values)))))))))
-    (coded× coded_ℕ (coded× optional_text_code (coded× (coded_list text_code) (coded× optional_text_code (coded× set_code
-    (coded× (coded_list field_def_code) (coded× (coded_list field_def_code) (coded× (coded_list method_def_code) (coded× (coded_list method_def_code) values_code)))))))))
-    (λ c. (c.flags, (c.superclass, (c.interfaces, (c.source, (c.annotations, (c.static_fields, (c.instance_fields, (c.direct_methods, (c.virtual_methods, c.static_values))))))))))
+    code_by
+    (ℕ
+    × (Option Text
+    × (List Text
+    × (Option Text
+    × (AnnotationSet × (List FieldDef × (List FieldDef × (List MethodDef × (List MethodDef × Values)))))))))
+    (coded× coded_ℕ
+    (coded× optional_text_code (coded× (coded_list text_code) (coded× optional_text_code (coded× set_code
+    (coded× (coded_list field_def_code)
+    (coded× (coded_list field_def_code)
+    (coded× (coded_list method_def_code) (coded× (coded_list method_def_code) values_code)))))))))
+    (λ c. (
+      c.flags,
+      (
+        c.superclass,
+        (
+          c.interfaces,
+          (
+            c.source,
+            (
+              c.annotations,
+              (c.static_fields, (c.instance_fields, (c.direct_methods, (c.virtual_methods, c.static_values)))),
+            ),
+          ),
+        ),
+      ),
+    ))
     (λ t. record {
       flags = t.0;
       superclass = t.1.0;

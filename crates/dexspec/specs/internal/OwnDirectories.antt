@@ -47,5 +47,7 @@ own_directory name c = record {
 pub record HasSetsAt (b : List ℕ) (name : Text) (c : Body) (sets : SetOffsets) (ref_lists : List ℕ) : Type 0 where
   pub own : BytesIfSome (SetAt b) sets.own c.annotations
   pub fields : AllZip (λ o (x : Field × AnnotationSet). BytesIfSome (SetAt b) o x.1) sets.fields (field_sets name c)
-  pub methods : AllZip (λ o (x : Method × AnnotationSet). BytesIfSome (SetAt b) o x.1) (map (λ offs. slice_index offs 0) sets.methods) (own_method_sets name c)
-  pub parameters : AllZip (λ o (x : Method × List AnnotationSet). BytesIfSome (RefListAt b) o x.1) ref_lists (parameter_sets name c)
+  pub methods : AllZip (λ o (x : Method × AnnotationSet). BytesIfSome (SetAt b) o x.1)
+      (map (λ offs. slice_index offs 0) sets.methods) (own_method_sets name c)
+  pub parameters : AllZip (λ o (x : Method × List AnnotationSet). BytesIfSome (RefListAt b) o x.1) ref_lists
+      (parameter_sets name c)

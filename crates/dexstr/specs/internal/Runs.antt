@@ -18,4 +18,5 @@ AreLatest bytes n runs = (j : ℕ) (d : Run) → j < 3 → j < n → IsRun bytes
 
 -- a block for each 64 bytes, from the end on: the latest runs at its third place
 abbrev pub AreBlocks : List ℕ → List (List Run) → Type 0
-AreBlocks bytes blocks = (k : ℕ) (d : List Run) → k < length blocks → AreLatest bytes (64 * k + 3) (slice_index_or blocks k d)
+AreBlocks bytes blocks =
+    (k : ℕ) (d : List Run) → k < length blocks → AreLatest bytes (64 * k + 3) (slice_index_or blocks k d)

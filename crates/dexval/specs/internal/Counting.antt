@@ -45,20 +45,26 @@ IsSetNoted old new place = IsNoted (λ i. place ≡ Some i) (λ i. ⊥) (IsPlace
 
 -- the sets of a list were recorded at the places
 abbrev pub AreSetsNoted : DirectoryCache → DirectoryCache → Vec (Option ℕ) → Type 0
-AreSetsNoted old new places = IsNoted (λ i. Contains places.items (Some i)) (λ i. ⊥) (All (IsPlaceIn new.table.sets) places.items) old new
+AreSetsNoted old new places =
+    IsNoted (λ i. Contains places.items (Some i)) (λ i. ⊥) (All (IsPlaceIn new.table.sets) places.items) old new
 
 -- a list was recorded at the place, and its sets
 abbrev pub IsListNoted : DirectoryCache → DirectoryCache → ℕ → Type 0
-IsListNoted old new place = IsNoted (IsListed new.table) (λ i. Some place ≡ Some i) (IsPlaceIn new.table.lists (Some place)) old new
+IsListNoted old new place =
+    IsNoted (IsListed new.table) (λ i. Some place ≡ Some i) (IsPlaceIn new.table.lists (Some place)) old new
 
 -- the item of a member was recorded at the place
-abbrev pub IsItemNoted : (NumberedTable → Option ℕ → Type 0) → (NumberedTable → Option ℕ → ℕ → Type 0) → (Option ℕ → ℕ → Type 0) → DirectoryCache → DirectoryCache → ℕ → Type 0
-IsItemNoted is_held names_set names_list old new place = IsNoted (names_set new.table (Some place)) (names_list (Some place)) (is_held new.table (Some place)) old new
+abbrev pub IsItemNoted : (NumberedTable → Option ℕ → Type 0) → (NumberedTable → Option ℕ → ℕ → Type 0)
+    → (Option ℕ → ℕ → Type 0) → DirectoryCache → DirectoryCache → ℕ → Type 0
+IsItemNoted is_held names_set names_list old new place =
+    IsNoted (names_set new.table (Some place)) (names_list (Some place)) (is_held new.table (Some place)) old new
 
 -- the items of members were recorded at their places
-abbrev pub AreAllNoted : (NumberedTable → Option ℕ → Type 0) → (NumberedTable → Option ℕ → ℕ → Type 0) → (Option ℕ → ℕ → Type 0) → DirectoryCache → DirectoryCache → Vec (ℕ × ℕ) → Type 0
+abbrev pub AreAllNoted : (NumberedTable → Option ℕ → Type 0) → (NumberedTable → Option ℕ → ℕ → Type 0)
+    → (Option ℕ → ℕ → Type 0) → DirectoryCache → DirectoryCache → Vec (ℕ × ℕ) → Type 0
 AreAllNoted is_held names_set names_list old new members =
-    IsNoted (IsNamedOf (names_set new.table) members.items) (IsNamedOf names_list members.items) (All (λ e. is_held new.table (Some e.1)) members.items) old new
+    IsNoted (IsNamedOf (names_set new.table) members.items) (IsNamedOf names_list members.items)
+    (All (λ e. is_held new.table (Some e.1)) members.items) old new
 
 -- ---- items that are counted
 
@@ -76,7 +82,8 @@ pub record HasCounted {X : Type 0} (Read : X → Type 0) (weighs : X → ℕ) (o
 -- no such item is there; or each one, counted after the weight `before`, exceeds `most`, which is below 2^64 - 1
 abbrev pub IsFaultWithin : {Y : Type 0} → (Y → Type 0) → (Y → ℕ) → ℕ → ℕ → ItemFault → Type 0
 IsFaultWithin {Y} At weighs before most (Refused number) =
-    ((number ≡ 22) × ((y : Y) → At y → ⊥)) ⊎ ((number ≡ 23) × (most < 2 ^ 64 - 1) × ((y : Y) → At y → most < before + weighs y))
+    ((number ≡ 22) × ((y : Y) → At y → ⊥))
+    ⊎ ((number ≡ 23) × (most < 2 ^ 64 - 1) × ((y : Y) → At y → most < before + weighs y))
 IsFaultWithin {Y} At weighs before most Memory = Unit {0}
 
 -- what weighs `weight` is too heavy
@@ -85,35 +92,51 @@ IsTooHeavy budget weight = IsFaultWithin (λ n. n ≡ weight) (λ n. n) budget.w
 
 -- the set at the offset, by its place
 abbrev pub HasCountedSet : File → ℕ → Budget → Budget → DirectoryCache → ℕ → Type 0
-HasCountedSet file off old new cache place = HasCounted (IsSetAt file.frame.now off file.pools.now) (set_weight_in file.pools.now) old new (set_at cache.table.sets (Some place))
+HasCountedSet file off old new cache place =
+    HasCounted (IsSetAt file.frame.now off file.pools.now) (set_weight_in file.pools.now) old new
+    (set_at cache.table.sets (Some place))
 
 -- the set at the offset, by its place, or none at offset 0
 abbrev pub HasCountedSetOrEmpty : File → ℕ → Budget → Budget → DirectoryCache → Option ℕ → Type 0
-HasCountedSetOrEmpty file off old new cache place = HasCounted (IsSetOrEmptyAt file.frame.now off file.pools.now) (set_weight_in file.pools.now) old new (set_at cache.table.sets place)
+HasCountedSetOrEmpty file off old new cache place =
+    HasCounted (IsSetOrEmptyAt file.frame.now off file.pools.now) (set_weight_in file.pools.now) old new
+    (set_at cache.table.sets place)
 
 -- the list at the offset, by the places of its sets
 abbrev pub HasCountedSets : File → ℕ → Budget → Budget → DirectoryCache → Vec (Option ℕ) → Type 0
 HasCountedSets file off old new cache places =
-    HasCounted (IsRefListAt file.frame.now off file.pools.now) (sets_weight_in file.pools.now) old new (map (set_at cache.table.sets) places.items)
+    HasCounted (IsRefListAt file.frame.now off file.pools.now) (sets_weight_in file.pools.now) old new
+    (map (set_at cache.table.sets) places.items)
 
 -- the list at the offset, by its place
 abbrev pub HasCountedList : File → ℕ → Budget → Budget → DirectoryCache → ℕ → Type 0
-HasCountedList file off old new cache place = HasCounted (IsRefListAt file.frame.now off file.pools.now) (sets_weight_in file.pools.now) old new (sets_at cache.table (Some place))
+HasCountedList file off old new cache place =
+    HasCounted (IsRefListAt file.frame.now off file.pools.now) (sets_weight_in file.pools.now) old new
+    (sets_at cache.table (Some place))
 
 -- the item of a member, by its place
-abbrev pub HasCountedItem : {X Y : Type 0} → (Mentions → X → Type 0) → (Mentions → X → Y) → (List ℕ → ℕ → Y → Type 0) → (Y → ℕ) → (NumberedTable → Option ℕ → X) → File → ℕ → Budget → Budget → DirectoryCache → ℕ → Type 0
+abbrev pub HasCountedItem : {X Y : Type 0} → (Mentions → X → Type 0) → (Mentions → X → Y) → (List ℕ → ℕ → Y → Type 0)
+    → (Y → ℕ) → (NumberedTable → Option ℕ → X) → File → ℕ → Budget → Budget → DirectoryCache → ℕ → Type 0
 HasCountedItem is_known inside encodes weighs of file off old new cache place =
-    HasCounted (IsKnownAt (is_known file.pools.now) (inside file.pools.now) (encodes file.frame.now off)) (λ x. weighs (inside file.pools.now x)) old new (of cache.table (Some place))
+    HasCounted (IsKnownAt (is_known file.pools.now) (inside file.pools.now) (encodes file.frame.now off))
+    (λ x. weighs (inside file.pools.now x)) old new (of cache.table (Some place))
 
 -- the items of the members of these pairs, by their places
-abbrev pub HaveCountedPairs : {X Y : Type 0} → (Mentions → X → Type 0) → (Mentions → X → Y) → (List ℕ → ℕ → Y → Type 0) → (Y → ℕ) → (NumberedTable → Option ℕ → X) → File → PairRange → Budget → Budget → DirectoryCache → Vec (ℕ × ℕ) → Type 0
+abbrev pub HaveCountedPairs : {X Y : Type 0} → (Mentions → X → Type 0) → (Mentions → X → Y) → (List ℕ → ℕ → Y → Type 0)
+    → (Y → ℕ) → (NumberedTable → Option ℕ → X) → File → PairRange → Budget → Budget → DirectoryCache → Vec (ℕ × ℕ)
+    → Type 0
 HaveCountedPairs is_known inside encodes weighs of file pairs old new cache members =
-    HasCounted (ArePairsAt (is_known file.pools.now) (inside file.pools.now) encodes file.frame.now pairs.at pairs.count pairs.limit) (sum_by (λ e. weighs (inside file.pools.now e.1))) old new
+    HasCounted
+    (ArePairsAt (is_known file.pools.now) (inside file.pools.now) encodes file.frame.now pairs.at pairs.count
+    pairs.limit) (sum_by (λ e. weighs (inside file.pools.now e.1))) old new
     (map (λ e. (e.0, of cache.table (Some e.1))) members.items)
 
 -- a fault of such pairs
-abbrev pub IsPairsFault : {Y : Type 0} → (List ℕ → ℕ → Y → Type 0) → (Y → ℕ) → List ℕ → PairRange → Budget → ItemFault → Type 0
-IsPairsFault encodes weighs b pairs budget = IsFaultWithin (PairsAt (IsIndexBelow pairs.limit) encodes b pairs.at pairs.count) (sum_by (λ e. weighs e.1)) budget.weight budget.most
+abbrev pub IsPairsFault : {Y : Type 0} → (List ℕ → ℕ → Y → Type 0) → (Y → ℕ) → List ℕ → PairRange → Budget → ItemFault
+    → Type 0
+IsPairsFault encodes weighs b pairs budget =
+    IsFaultWithin (PairsAt (IsIndexBelow pairs.limit) encodes b pairs.at pairs.count) (sum_by (λ e. weighs e.1))
+    budget.weight budget.most
 
 -- ---- pairs and faults
 
@@ -126,7 +149,8 @@ pub record ArePairsOf (b : List ℕ) (off : ℕ) (m : Mentions) (pairs : Directo
   pub counts_are : AreMemberCounts b off pairs.counts
   pub fields_are : IsRange pairs.fields (off + 16) (fields_count b off) (length m.fields)
   pub methods_are : IsRange pairs.methods (off + 16 + 8 * fields_count b off) (methods_count b off) (length m.methods)
-  pub parameters_are : IsRange pairs.parameters (off + 16 + 8 * fields_count b off + 8 * methods_count b off) (parameters_count b off) (length m.methods)
+  pub parameters_are : IsRange pairs.parameters (off + 16 + 8 * fields_count b off + 8 * methods_count b off)
+      (parameters_count b off) (length m.methods)
 
 -- the number and the offset of a pair
 abbrev pub IsPairAt : List ℕ → ℕ → ℕ → ℕ → ℕ × ℕ → Type 0
@@ -147,9 +171,14 @@ abbrev pub HasSetOrEmptyOf : List ℕ → ℕ → Mentions → ℕ → Type 0
 HasSetOrEmptyOf b off m = IsWeighed (IsSetOrEmptyAt b off m) (set_weight_in m)
 
 -- the item of a member
-abbrev pub HasItemOf : {X Y : Type 0} → (Mentions → X → Type 0) → (Mentions → X → Y) → (List ℕ → ℕ → Y → Type 0) → (Y → ℕ) → List ℕ → ℕ → Mentions → ℕ → Type 0
-HasItemOf is_known inside encodes weighs b off m = IsWeighed (IsKnownAt (is_known m) (inside m) (encodes b off)) (λ x. weighs (inside m x))
+abbrev pub HasItemOf : {X Y : Type 0} → (Mentions → X → Type 0) → (Mentions → X → Y) → (List ℕ → ℕ → Y → Type 0)
+    → (Y → ℕ) → List ℕ → ℕ → Mentions → ℕ → Type 0
+HasItemOf is_known inside encodes weighs b off m =
+    IsWeighed (IsKnownAt (is_known m) (inside m) (encodes b off)) (λ x. weighs (inside m x))
 
 -- the items of the members of these pairs
-abbrev pub HasPairsOf : {X Y : Type 0} → (Mentions → X → Type 0) → (Mentions → X → Y) → (List ℕ → ℕ → Y → Type 0) → (Y → ℕ) → List ℕ → PairRange → Mentions → ℕ → Type 0
-HasPairsOf is_known inside encodes weighs b pairs m = IsWeighed (ArePairsAt (is_known m) (inside m) encodes b pairs.at pairs.count pairs.limit) (sum_by (λ e. weighs (inside m e.1)))
+abbrev pub HasPairsOf : {X Y : Type 0} → (Mentions → X → Type 0) → (Mentions → X → Y) → (List ℕ → ℕ → Y → Type 0)
+    → (Y → ℕ) → List ℕ → PairRange → Mentions → ℕ → Type 0
+HasPairsOf is_known inside encodes weighs b pairs m =
+    IsWeighed (ArePairsAt (is_known m) (inside m) encodes b pairs.at pairs.count pairs.limit)
+    (sum_by (λ e. weighs (inside m e.1)))

@@ -34,7 +34,9 @@ FindsUleb128 b o found = MatchOption found (NoNumberAt b o) (λ read. Uleb128At 
 
 -- the bytes of a number of at most `width` bytes, which are after the first byte of a value, or there is no such number
 abbrev pub FindsNumber : List ℕ → ℕ → ℕ → Option (Bor (List ℕ)) → Type 0
-FindsNumber b o width found = MatchOption found ((xs : List ℕ) (n : ℕ) → SizedAt (slice_index b o % 32) width b o xs n → ⊥) (λ number. SizedAt (slice_index b o % 32) width b o number.now (1 + length number.now))
+FindsNumber b o width found =
+    MatchOption found ((xs : List ℕ) (n : ℕ) → SizedAt (slice_index b o % 32) width b o xs n → ⊥)
+    (λ number. SizedAt (slice_index b o % 32) width b o number.now (1 + length number.now))
 
 -- the bytes after a first byte of a type code encode the value
 abbrev pub SpellsValue : Mentions → ℕ → List ℕ → Value → Type 0
@@ -44,7 +46,8 @@ SpellsValue m code bytes value = Spells m code bytes (value_of value)
 
 -- a value that holds no other value, and its size, or none is at the offset
 abbrev pub FindsScalar : List ℕ → ℕ → Mentions → Option (Value × ℕ) → Type 0
-FindsScalar b o m found = MatchOption found ((depth : ℕ) → NoValueAt b o depth) (λ read. IsReadAt b o m 0 (value_of read.0) read.1)
+FindsScalar b o m found =
+    MatchOption found ((depth : ℕ) → NoValueAt b o depth) (λ read. IsReadAt b o m 0 (value_of read.0) read.1)
 
 -- a value that nests at most `depth` deep, and its size
 abbrev pub IsValueRead : List ℕ → ℕ → Mentions → ℕ → Value × ℕ → Type 0
@@ -64,29 +67,38 @@ AreElementsRead b o m depth count read = AreElementsReadAt b o m depth count (el
 
 -- an encoded_annotation, and its size
 abbrev pub IsAnnotationRead : List ℕ → ℕ → Mentions → ℕ → EncodedAnnotation × ℕ → Type 0
-IsAnnotationRead b o m depth read = IsAnnotationReadAt b o m depth (encoded_type read.0) (encoded_elements read.0) read.1
+IsAnnotationRead b o m depth read =
+    IsAnnotationReadAt b o m depth (encoded_type read.0) (encoded_elements read.0) read.1
 
 -- ---- values that are checked
 
 -- the measure of a value that nests at most `depth` deep, or none is at the offset
 abbrev pub MeasuresValue : List ℕ → ℕ → Mentions → ℕ → Option Measure → Type 0
-MeasuresValue b o m depth found = MatchOption found (NoValueAt b o depth) (λ value. HasValue b o m depth value.size value.weight)
+MeasuresValue b o m depth found =
+    MatchOption found (NoValueAt b o depth) (λ value. HasValue b o m depth value.size value.weight)
 
 -- the number of the values of an encoded_array, and its measure
 abbrev pub MeasuresArray : List ℕ → ℕ → Mentions → ℕ → Option (ℕ × Measure) → Type 0
-MeasuresArray b o m depth found = MatchOption found (NoArrayAt b o depth) (λ array. HasArray b o m depth array.0 array.1.size array.1.weight)
+MeasuresArray b o m depth found =
+    MatchOption found (NoArrayAt b o depth) (λ array. HasArray b o m depth array.0 array.1.size array.1.weight)
 
 -- the number of the name of an element, which is at least `least`, and its measure
 abbrev pub MeasuresElement : List ℕ → ℕ → Mentions → ℕ → ℕ → Option (ℕ × Measure) → Type 0
-MeasuresElement b o m depth least found = MatchOption found (NoElementAt b o depth least) (λ element. HasElement b o m depth least element.0 element.1.size element.1.weight)
+MeasuresElement b o m depth least found =
+    MatchOption found (NoElementAt b o depth least)
+    (λ element. HasElement b o m depth least element.0 element.1.size element.1.weight)
 
 -- the measure of `count` elements whose names rise strictly
 abbrev pub MeasuresElements : List ℕ → ℕ → Mentions → ℕ → ℕ → Option Measure → Type 0
-MeasuresElements b o m depth count found = MatchOption found (NoElementsAt b o depth count) (λ elements. HasElements b o m depth count elements.size elements.weight)
+MeasuresElements b o m depth count found =
+    MatchOption found (NoElementsAt b o depth count)
+    (λ elements. HasElements b o m depth count elements.size elements.weight)
 
 -- the number of the type of an encoded_annotation, and its measure
 abbrev pub MeasuresAnnotation : List ℕ → ℕ → Mentions → ℕ → Option (ℕ × Measure) → Type 0
-MeasuresAnnotation b o m depth found = MatchOption found (NoAnnotationAt b o depth) (λ annotation. HasAnnotation b o m depth annotation.0 annotation.1.size annotation.1.weight)
+MeasuresAnnotation b o m depth found =
+    MatchOption found (NoAnnotationAt b o depth)
+    (λ annotation. HasAnnotation b o m depth annotation.0 annotation.1.size annotation.1.weight)
 
 -- ---- items of a file
 
@@ -104,8 +116,10 @@ MeasuresSet b off m found = MatchOption found (NoSetAt b off) (HasSetShape b off
 
 -- the shape of an encoded_value, or none is at the offset
 abbrev pub MeasuresEncodedValue : List ℕ → ℕ → Mentions → Option ValueShape → Type 0
-MeasuresEncodedValue b off m found = MatchOption found ((v : ValueMeant) (n : ℕ) → EncodedValueAt b off v n → ⊥) (HasValueShape b off m)
+MeasuresEncodedValue b off m found =
+    MatchOption found ((v : ValueMeant) (n : ℕ) → EncodedValueAt b off v n → ⊥) (HasValueShape b off m)
 
 -- the shape of an encoded_array_item, or none is at the offset
 abbrev pub MeasuresStatics : List ℕ → ℕ → Mentions → Option StaticsShape → Type 0
-MeasuresStatics b off m found = MatchOption found ((vs : ValuesMeant) (n : ℕ) → EncodedArrayItemAt b off vs n → ⊥) (HasStaticsShape b off m)
+MeasuresStatics b off m found =
+    MatchOption found ((vs : ValuesMeant) (n : ℕ) → EncodedArrayItemAt b off vs n → ⊥) (HasStaticsShape b off m)

@@ -73,7 +73,8 @@ code_of_reference EnumReference = 0x1b
 -- the bytes after a first byte of a type code encode the value
 abbrev pub Spells : Mentions → ℕ → List ℕ → NumberedValue → Type 0
 Spells m code bytes (Plain literal) = SpellsLiteral code bytes literal
-Spells m code bytes (Named reference i) = (code ≡ code_of_reference reference) × HasNumber m (kind_of_reference reference) bytes i
+Spells m code bytes (Named reference i) =
+    (code ≡ code_of_reference reference) × HasNumber m (kind_of_reference reference) bytes i
 Spells m code bytes (Array xs) = ⊥
 Spells m code bytes (Annotated t es) = ⊥
 

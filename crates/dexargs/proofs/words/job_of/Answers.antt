@@ -1,17 +1,12 @@
-use Rattle.std.proofs.Common.{Option, Some, None, IfSome}
-use Rattle.std.proofs.lemmas.Result.{IfOk-weaker}
-use Rattle.dexargs.specs.Words.{EndsNames}
-use Rattle.dexargs.specs.declared.lists.Ending.{Ending}
-use Rattle.dexargs.specs.declared.words.Job.{Job}
+use Rattle.std.proofs.Common.{rules, ◌≡◌, true}
+use Rattle.clap.specs.Matches.{found_of}
+use Rattle.clap.specs.Walk.{rows_of}
+use Rattle.dexargs.specs.Asked.{ends_names}
+use Rattle.dexargs.proofs.MatchLemmas.{command_met}
 use Rattle.dexargs.proofs.words.job_of.Goals as goal
 
--- what has any ending has this one
-at_ending : (ending : Ending) (job : Option Job) → IfSome job (λ j. (e : Ending) → EndsNames e j) → IfSome job (EndsNames ending)
-at_ending ending None h = tt
-at_ending ending (Some job) h = h ending
-
-pub returns-in-merge-clause-ending : goal.returns-in-merge-clause-ending
-returns-in-merge-clause-ending c = IfOk-weaker c.merge_of.result _ _ (at_ending c.args.ending) c.merge_of.ensures.ending
-
-pub returns-in_ok-dump_of-in-dump-clause-ending : goal.returns-in_ok-dump_of-in-dump-clause-ending
-returns-in_ok-dump_of-in-dump-clause-ending c = c.in_ok-dump_of-in-dump.ensures.ending c.args.ending
+pub returns-clause-job : goal.returns-clause-job
+returns-clause-job c =
+    let met = command_met c.args.matches.now c.subcommand.result c.subcommand.ensures.name c.subcommand.ensures.rows c.in-Some.command c.in-Some.found c.in-Some.is in
+    let ends : ends_names c.args.ending c.in-Some.command.now (rows_of (found_of c.in-Some.found.now)) ≡ true = search rules in
+    rw (met, ends) c.job_of_command.ensures.job

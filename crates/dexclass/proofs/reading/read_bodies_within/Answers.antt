@@ -30,16 +30,16 @@ returns-in-Err-clause-refused c =
     (omega (arith, c.saturating_sub-left.ensures, own (goal.at.returns-in-Err-clause-refused c).After-row_weight-own)) c.in-Err.fault c.at_row.result c.at_row.ensures
     (c.in-Err.ensures.refused c.loop-r.r c.at-row.ensures c.requires.pools (c.requires.before Condition.Classes (omega arith) c.loop-r.r lt))
 
-pub returns-then-weight-most-clause-refused : goal.returns-then-weight-most-clause-refused
-returns-then-weight-most-clause-refused c =
+pub returns-then-before-most-clause-refused : goal.returns-then-before-most-clause-refused
+returns-then-before-most-clause-refused c =
     let b = c.args.frame.now in
     let lt : c.loop-r.r < table_size b ClassDefs = omega (arith, c.loop-r-test.true, c.size-rows.ensures) in
     let read = c.in-Ok.ensures.read c.loop-r.r c.at-row.ensures c.requires.pools (c.requires.before Condition.Classes (omega arith) c.loop-r.r lt) in
-    let w = c.row_weight-own.result + c.from.result in
+    let w = c.row_weight-own.result + c.in-Ok.found.1 in
     subst (IsFaultWithin c.args.most b) (sym c.too_heavy.ensures)
-    (heavy_within b c.loop-r.r c.args.most (c.loop-r.bodies.weight + w) c.requires.most c.if-weight-most.true
-    (class_heavy b c.args.pools.now c.requires.pools c.requires.before c.loop-r.r lt c.saturating_sub-left.result c.in-Ok.found.0 read.0 (c.row_weight-own.result + c.from.result)
-    (omega (arith, own (goal.at.returns-then-weight-most-clause-refused c).After-row_weight-own, c.from.ensures, read.1)) c.loop-r.bodies c.loop-r.invariant))
+    (heavy_within b c.loop-r.r c.args.most (c.loop-r.bodies.weight + w) c.requires.most (omega (arith, c.if-before-most.true))
+    (class_heavy b c.args.pools.now c.requires.pools c.requires.before c.loop-r.r lt c.saturating_sub-left.result c.in-Ok.found.0 read.0 w
+    (omega (arith, own (goal.at.returns-then-before-most-clause-refused c).After-row_weight-own, read.1)) c.loop-r.bodies c.loop-r.invariant))
 
 pub loop-r-preserved : goal.loop-r-preserved
 loop-r-preserved c =
@@ -54,7 +54,7 @@ loop-r-preserved c =
     let class : _ ≡ class_of_row b c.loop-r.r c.in-Ok.found.0 w =
     λ i. record { name = sym row.class_is i; flags = sym row.flags_are i; superclass = superclass i; interfaces = interfaces i; source = source i; members = c.in-Ok.found.0; weight = w } in
     class_more b c.args.pools.now c.requires.pools c.requires.before c.loop-r.r lt c.saturating_sub-left.result c.in-Ok.found.0 read.0 w (omega (arith, own (goal.at.loop-r-preserved c).After-row_weight-own, c.from.ensures, read.1))
-    c.loop-r.bodies c.loop-r.invariant (omega (arith, c.if-weight-most.false, c.requires.most)) _ class (record { classes = c.push.new.self; weight = c.loop-r.bodies.weight + w }) c.in_ok-push.ensures.items refl
+    c.loop-r.bodies c.loop-r.invariant (omega (arith, c.if-before-most.false, c.requires.most, c.saturating_sub-left.ensures, c.from.ensures, read.0.light, read.1)) _ class (record { classes = c.push.new.self; weight = c.loop-r.bodies.weight + w }) c.in_ok-push.ensures.items refl
 
 pub returns-clause-accepted : goal.returns-clause-accepted
 returns-clause-accepted c =

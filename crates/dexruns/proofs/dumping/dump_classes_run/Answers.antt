@@ -19,7 +19,7 @@ pub returns-clause-listed : goal.returns-clause-listed
 returns-clause-listed g c = λ reads K denotes.
     let choice = subst (IsChoice (map string_bytes c.args.names.now) c.in_ok-program.program) c.in-Classes.is c.in_ok-choice.ensures in
     classes_written c.one_collection.ensures (map string_bytes c.args.names.now) (bytes_read (g.R.Source.to_come c.args.input.now)) c.as_slice.result.now c.in_ok-program.program c.in_ok-program.ensures.accepted
-    c.as_slice-2.result.now choice.0 (c.as_slice-2.ensures.value ∙ choice.1) (g.W.Sink.reports c.args.out.now) (g.W.Sink.taken c.args.out.now) (g.W.Sink.taken c.write_listing_of.new.out) K
+    c.as_slice-2.result.now choice.0 (c.as_slice-2.ensures.value ∙ choice.1) c.args.detail (g.W.Sink.reports c.args.out.now) (g.W.Sink.taken c.args.out.now) (g.W.Sink.taken c.write_listing_of.new.out) K
     (c.as_slice.ensures.value ∙ c.in_ok-bytes.ensures.bytes reads) denotes c.in_ok-write_listing_of.ensures.written
 
 pub returns-in_err-write_listing_of-clause-left : goal.returns-in_err-write_listing_of-clause-left
@@ -27,5 +27,5 @@ returns-in_err-write_listing_of-clause-left g c =
     let choice = subst (IsChoice (map string_bytes c.args.names.now) c.in_ok-program.program) c.in-Classes.is c.in_ok-choice.ensures in
     let p = err_from_is_err_and c.from_residual-in_err-write_listing_of.result c.from_residual-in_err-write_listing_of.ensures.1 in
     rw (p.1, p.2) (left_by_classes c.one_collection.ensures (map string_bytes c.args.names.now) (bytes_read (g.R.Source.to_come c.args.input.now)) c.as_slice.result.now c.in_ok-program.program c.in_ok-program.ensures.accepted
-    c.as_slice-2.result.now choice.0 (c.as_slice-2.ensures.value ∙ choice.1) (g.R.Source.reports c.args.input.now) (g.W.Sink.reports c.args.out.now) c.args.out.now c.write_listing_of.new.out g.W.Sink.taken c.in_err-write_listing_of.field-0.0
+    c.as_slice-2.result.now choice.0 (c.as_slice-2.ensures.value ∙ choice.1) c.args.detail (g.R.Source.reports c.args.input.now) (g.W.Sink.reports c.args.out.now) c.args.out.now c.write_listing_of.new.out g.W.Sink.taken c.in_err-write_listing_of.field-0.0
     (λ reads. c.as_slice.ensures.value ∙ c.in_ok-bytes.ensures.bytes reads) c.in_err-write_listing_of.ensures.left)

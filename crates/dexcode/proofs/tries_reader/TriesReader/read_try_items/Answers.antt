@@ -1,4 +1,4 @@
-use Rattle.dexcode.proofs.Common.{◌≡◌, ◌∷◌, [], ◌++◌, ◌+◌, ◌*◌, refl, sym, subst, arith, common_steps, length-append, Sequence, one_after, ListedTryAt}
+use Rattle.dexcode.proofs.Common.{◌≡◌, ◌∷◌, [], ◌++◌, ◌+◌, ◌*◌, refl, sym, subst, ◌∙◌, arith, length-append, Sequence, one_after, ListedTryAt}
 use Rattle.dexcode.proofs.Prefixes.{stuck}
 use Rattle.dexcode.proofs.TryTables.{one_listed_try, apart_more, overlap}
 use Rattle.dexcode.proofs.tries_reader.TriesReader.read_try_items.Goals as goal
@@ -21,10 +21,13 @@ returns-then-item-end-clause-fault c = (
       (subst (λ i. at c.args.self.now.bytes.now i c.in-Some.item 8) c.loop.invariant.0 c.in-Some.ensures.some) c.loop.invariant.2.apart (omega arith) h apart,
 )
 
+pub push_reserved-requires : goal.push_reserved-requires
+push_reserved-requires c = omega (arith, c.loop.invariant.2.many, c.loop.invariant.3, c.loop.tries.ok.0, c.loop-test.true)
+
 pub loop-preserved : goal.loop-preserved
 loop-preserved c =
     let at = ListedTryAt c.args.units c.args.numbers.now in
-    let pushed : c.push.new.self.items ≡ c.loop.tries.items ++ c.in-Some.item ∷ [] = grind (arith, common_steps) in
+    let pushed = c.push_reserved.ensures.items in
     let next : c.in-Some.item.start_addr + c.from-in-loop.result ≡ c.in-Some.item.start_addr + c.in-Some.item.insn_count = omega arith in
     let size : 8 * c.loop.counter + 8 ≡ 8 * (c.loop.counter + 1) = omega arith in
     let are_encoded = subst (λ n. Sequence at c.args.self.now.bytes.now c.args.at (c.loop.tries.items ++ c.in-Some.item ∷ []) n) size
@@ -38,4 +41,5 @@ loop-preserved c =
         many = rw pushed (omega (arith, length-append c.loop.tries.items (c.in-Some.item ∷ []), c.loop.invariant.2.many));
         apart = rw pushed (rw next apart);
       },
+      c.push_reserved.ensures.capacity ∙ c.loop.invariant.3,
     )

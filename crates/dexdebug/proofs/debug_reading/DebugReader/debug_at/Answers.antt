@@ -9,8 +9,8 @@ overflow_add-shape c = let t = c.requires.shape.operations in omega (arith, c.re
 
 pub invariant_of-result : goal.invariant_of-result
 invariant_of-result c =
-    let n = c.in_ok-keep_names.ensures in
-    let h = c.in_ok-keep_symbols.ensures in
+    let n = c.keep_names.ensures.kept in
+    let h = c.keep_symbols.ensures.kept in
     let none : c.in_ok-indices.indices.items ≡ [] = search rules in
     let is = read_is c.args.self.now.counts c.args.self.now.bytes.now c.args.shape.names_at c.args.shape.names c.args.shape.operations_at c.args.shape.tally c.in_ok-indices.indices.items c.keep_names.new.indices.items c.keep_symbols.new.indices.items none n h c.args.shape.line_start in (
       subst IsFormedDebug (sym is) (built_formed c.args.self.now.counts c.args.self.now.bytes.now c.args.at c.args.shape n.names h.operations c.requires.shape n.are h.are),
@@ -20,7 +20,7 @@ invariant_of-result c =
 
 pub returns : goal.returns
 returns c =
-    let h = c.in_ok-keep_symbols.ensures in
+    let h = c.keep_symbols.ensures.kept in
     let none : c.in_ok-indices.indices.items ≡ [] = search rules in
-    let is = read_is c.args.self.now.counts c.args.self.now.bytes.now c.args.shape.names_at c.args.shape.names c.args.shape.operations_at c.args.shape.tally c.in_ok-indices.indices.items c.keep_names.new.indices.items c.keep_symbols.new.indices.items none c.in_ok-keep_names.ensures h c.args.shape.line_start in
-    subst (NumberedDebugAt c.args.self.now.counts c.args.self.now.bytes.now c.args.at) (sym is) (built_at c.args.self.now.counts c.args.self.now.bytes.now c.args.at c.args.shape c.in_ok-keep_names.ensures.names h.operations c.requires.shape c.in_ok-keep_names.ensures.are h.are)
+    let is = read_is c.args.self.now.counts c.args.self.now.bytes.now c.args.shape.names_at c.args.shape.names c.args.shape.operations_at c.args.shape.tally c.in_ok-indices.indices.items c.keep_names.new.indices.items c.keep_symbols.new.indices.items none c.keep_names.ensures.kept h c.args.shape.line_start in
+    subst (NumberedDebugAt c.args.self.now.counts c.args.self.now.bytes.now c.args.at) (sym is) (built_at c.args.self.now.counts c.args.self.now.bytes.now c.args.at c.args.shape c.keep_names.ensures.kept.names h.operations c.requires.shape c.keep_names.ensures.kept.are h.are)

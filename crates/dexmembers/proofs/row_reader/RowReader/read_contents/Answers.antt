@@ -54,6 +54,7 @@ returns-clause-read c = λ r row pools is.
       values = values_of_list (map value_of c.in_ok-static_values.static_values.items);
       parts = record {
         annotations = annotations;
+        light = c.in_ok-directory.ensures.within pools;
         direct_codes = subst (λ (l : List EncodedMethod). AreCodesOf b m l most direct) c.deref.ensures.value (c.in_ok-direct_methods.ensures.read pools);
         virtual_codes = subst (λ (l : List EncodedMethod). AreCodesOf b m l most virtual) c.deref-4.ensures.value (c.in_ok-virtual_methods.ensures.read pools);
         values = c.in_ok-static_values.ensures.read r (sym row.static_values_are) pools;

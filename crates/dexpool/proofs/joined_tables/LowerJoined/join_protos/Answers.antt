@@ -44,10 +44,19 @@ join_rows-requires c =
     let same = ap (map (λ rows. rows.items)) c.deref-2.ensures.value ∙ c.loop-table.invariant ∙ ap (map numbers_in) (take_all c.loop-table.table-index c.deref-table-items.result.now c.loop-table-test.false ∙ c.deref-table-items.ensures.value) in
     all_seen (λ rows. rows.items) numbers_in (AreSorted proto_key) c.deref-2.result.now c.loop-i.tables.items same c.loop-i.invariant.sorted
 
+pub stored_protos-requires-clause-spans : goal.stored_protos-requires-clause-spans
+stored_protos-requires-clause-spans c = subst (All HasSpans) (sym c.deref-3.ensures.value) c.loop-i.invariant.spans
+
+pub stored_protos-requires-clause-joined : goal.stored_protos-requires-clause-joined
+stored_protos-requires-clause-joined c =
+    let joined = c.in_ok-joined.joined in
+    let same = ap (map (λ rows. rows.items)) c.deref-2.ensures.value ∙ c.loop-table.invariant ∙ ap (map numbers_in) (take_all c.loop-table.table-index c.deref-table-items.result.now c.loop-table-test.false ∙ c.deref-table-items.ensures.value ∙ sym c.deref-3.ensures.value) in
+    subst (λ rows. IsJoin proto_key rows joined.rows.items (map (λ image. image.items) joined.images.items)) same c.in_ok-joined.ensures
+
 pub returns : goal.returns
 returns c =
     let tables_are : AreTablesOf c.args.self.now.parts.now c.args.self.now.strings.now c.args.self.now.types.now c.loop-i.tables.items = zip_all (λ (part : Mentions) xs. Denote (proto_of_row c.args.self.now.strings.now.rows.items c.args.self.now.types.now.rows.items) (IsRowOf c.args.self.now.strings.now.rows.items c.args.self.now.types.now.rows.items) part.protos xs) (λ part. part.now) numbers_in
     c.args.self.now.parts.now c.loop-i.tables.items c.loop-i.tables.items c.loop-i.i c.loop-i-test.false refl c.loop-i.invariant.rows in
     let same = ap (map (λ rows. rows.items)) c.deref-2.ensures.value ∙ c.loop-table.invariant ∙ ap (map numbers_in) (take_all c.loop-table.table-index c.deref-table-items.result.now c.loop-table-test.false ∙ c.deref-table-items.ensures.value) in
     protos_joined (map (λ part. part.now) c.args.self.now.parts.now) c.requires.numberings c.args.self.now.strings.now.rows.items (map (λ image. image.items) c.args.self.now.strings.now.images.items) c.requires.strings c.args.self.now.types.now.rows.items (map (λ image. image.items) c.args.self.now.types.now.images.items) c.requires.types (map numbers_in c.loop-i.tables.items) tables_are
-    c.in_ok-joined.joined.rows.items (map (λ image. image.items) c.in_ok-joined.joined.images.items) c.in_ok-stored.field-0 (subst (λ rows. IsJoin proto_key rows c.in_ok-joined.joined.rows.items (map (λ image. image.items) c.in_ok-joined.joined.images.items)) same c.in_ok-joined.ensures) c.in_ok-stored.ensures.spans (c.in_ok-stored.ensures.rows ∙ c.deref-3.ensures.value)
+    c.in_ok-joined.joined.rows.items (map (λ image. image.items) c.in_ok-joined.joined.images.items) c.in_ok-stored_protos.field-0 (subst (λ rows. IsJoin proto_key rows c.in_ok-joined.joined.rows.items (map (λ image. image.items) c.in_ok-joined.joined.images.items)) same c.in_ok-joined.ensures) c.in_ok-stored_protos.ensures.spans c.in_ok-stored_protos.ensures.rows

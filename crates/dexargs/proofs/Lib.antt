@@ -1,0 +1,5 @@
+mod ProgramIsSimple
+mod MatchLemmas
+mod Made
+mod Refusals
+mod Examples

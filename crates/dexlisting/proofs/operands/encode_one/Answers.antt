@@ -1,0 +1,8 @@
+use Rattle.dexhead.proofs.Encoded.{then_given}
+use Rattle.dexlisting.proofs.operands.encode_one.Goals as goal
+
+pub returns : goal.returns
+returns g c =
+    let G = g.O.Output.gives in
+    let B = g.met.O.Output.both in
+    then_given G B c.byte.ensures c.encode_register.ensures

@@ -1,6 +1,0 @@
-use Rattle.std.proofs.Common.{◌≡◌, length}
-use Rattle.dextests.proofs.texts.are_read_equally.Given as goal
-
--- the places are those of the reader's bytes
-abbrev pub invariant-places : goal.invariant-places
-invariant-places l = length l.reader ≡ l.at-end

@@ -1,10 +1,14 @@
 -- The statements of the laws of canonical files.
-use Rattle.std.specs.Prelude.{◌≡◌, ℕ, ◌+◌, ◌%◌, ◌^◌, ◌<◌, ◌≤◌, List, ◌++◌, length, map, All, slice_index, slice_index_or}
+use Rattle.std.specs.Prelude.{◌≡◌, ℕ, ◌+◌, ◌%◌, ◌^◌, ◌<◌, ◌≤◌, List, ◌++◌, length, map, All, slice_index}
+use Rattle.std.specs.Prelude.{slice_index_or}
 use Rattle.std.specs.List.{Contains}
 use Rattle.dexspec.specs.Bytes.{uint, BytesAt, round_up}
 use Rattle.dexspec.specs.Texts.{Text}
-use Rattle.dexspec.specs.Symbols.{Proto, Field, Method, Symbol, TextSymbol, TypeSymbol, ProtoSymbol, FieldSymbol, MethodSymbol}
-use Rattle.dexspec.specs.Header.{Table, StringIds, TypeIds, ProtoIds, FieldIds, MethodIds, ClassDefs, table_size, data_off, data_size, file_size, map_off, header_length, HasSize, HasMagic, HasVersion, HasLengths, HasEndian, HasNoLink, HasChecksum, HasSignature}
+use Rattle.dexspec.specs.Symbols.{Proto, Field, Method, Symbol, TextSymbol, TypeSymbol, ProtoSymbol, FieldSymbol}
+use Rattle.dexspec.specs.Symbols.{MethodSymbol}
+use Rattle.dexspec.specs.Header.{Table, StringIds, TypeIds, ProtoIds, FieldIds, MethodIds, ClassDefs, table_size}
+use Rattle.dexspec.specs.Header.{data_off, data_size, file_size, map_off, header_length, HasSize, HasMagic, HasVersion}
+use Rattle.dexspec.specs.Header.{HasLengths, HasEndian, HasNoLink, HasChecksum, HasSignature}
 use Rattle.dexspec.specs.Sections.{IsInData, Section, MapEntry, type_code, entries_at}
 use Rattle.dexspec.specs.Rows.{row_at, SymbolRow}
 use Rattle.dexspec.specs.Classes.{Definition}
@@ -12,7 +16,9 @@ use Rattle.dexspec.specs.Files.{Collection, definitions}
 use Rattle.dexspec.specs.Mentions.{Mentions, mentions}
 use Rattle.dexspec.specs.Spellings.{text_index, symbol_index}
 use Rattle.dexspec.specs.Placing.{Ordered, Placed, offsets, end, uses_offsets}
-use Rattle.dexspec.specs.Canonical.{with_sums, unsigned_file, canonical, table_count, data_start, type_list_section, string_section, directory_section, data_sections, class_offsets, map_of, map_bytes, proto_row_bytes, field_row_bytes, method_row_bytes, class_row_bytes}
+use Rattle.dexspec.specs.Canonical.{with_sums, unsigned_file, canonical, table_count, data_start, type_list_section}
+use Rattle.dexspec.specs.Canonical.{string_section, directory_section, data_sections, class_offsets, map_of, map_bytes}
+use Rattle.dexspec.specs.Canonical.{proto_row_bytes, field_row_bytes, method_row_bytes, class_row_bytes}
 use Rattle.dexspec.specs.WellFormed.{AreWellFormed}
 use Rattle.dexspec.specs.Merging.{Caps, AreCaps, Fits}
 use Rattle.dexspec.specs.Accepted.{IsFrame}

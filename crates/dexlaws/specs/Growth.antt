@@ -9,7 +9,8 @@ use Rattle.dexspec.specs.Texts.{Text, text_cmp}
 use Rattle.dexspec.specs.Names.{shorty}
 use Rattle.dexspec.specs.Symbols.{Symbol, Proto, Field, Method, proto_cmp, field_cmp, method_cmp}
 use Rattle.dexspec.specs.Classes.{Definition}
-use Rattle.dexspec.specs.Mentions.{Mentions, mentions, symbols_of, texts_in, types_in, protos_in, fields_in, methods_in, proto_types}
+use Rattle.dexspec.specs.Mentions.{Mentions, mentions, symbols_of, texts_in, types_in, protos_in, fields_in, methods_in}
+use Rattle.dexspec.specs.Mentions.{proto_types}
 use Rattle.dexspec.specs.Depth.{is_defined, above, is_below, HasDepth, IsAcyclic}
 use Rattle.dexspec.specs.Merging.{Caps, IsGood, Cause, IsCause}
 

@@ -1,5 +1,6 @@
 -- What the bytes determine, and how items are shared.
-use Rattle.std.specs.Prelude.{◌≡◌, ◌↔◌, ℕ, ℤ, suc, ◌+◌, ◌-◌, ◌*◌, ◌/◌, ◌^◌, ◌<◌, ◌≤◌, Bool, true, List, length, All, Option, None, Some, slice_index_or}
+use Rattle.std.specs.Prelude.{◌≡◌, ◌↔◌, ℕ, ℤ, suc, ◌+◌, ◌-◌, ◌*◌, ◌/◌, ◌^◌, ◌<◌, ◌≤◌, Bool, true, List, length, All}
+use Rattle.std.specs.Prelude.{Option, None, Some, slice_index_or}
 use Rattle.std.specs.List.{Contains}
 use Rattle.dexspec.specs.Lists.{Item, AreDistinct}
 use Rattle.dexspec.specs.Bytes.{number_of, bytes_of, signed_in, BytesAt}
@@ -8,8 +9,10 @@ use Rattle.dexspec.specs.Texts.{Text}
 use Rattle.dexspec.specs.Symbols.{Symbol, pool_of}
 use Rattle.dexspec.specs.Rows.{SymbolRow}
 use Rattle.dexspec.specs.Header.{data_off}
-use Rattle.dexspec.specs.Values.{Value, Elements, ValueAt, value_depth, most_depth, EncodedAnnotationAt, UnsignedAt, SignedAt, BitsAt}
-use Rattle.dexspec.specs.Spellings.{unsigned_width, signed_width, bits_width, complement, unsigned_bytes, signed_bytes, bits_bytes}
+use Rattle.dexspec.specs.Values.{Value, Elements, ValueAt, value_depth, most_depth, EncodedAnnotationAt, UnsignedAt}
+use Rattle.dexspec.specs.Values.{SignedAt, BitsAt}
+use Rattle.dexspec.specs.Spellings.{unsigned_width, signed_width, bits_width, complement, unsigned_bytes, signed_bytes}
+use Rattle.dexspec.specs.Spellings.{bits_bytes}
 use Rattle.dexspec.specs.Placing.{Items}
 
 -- the bytes determine the item at an offset, and its size

@@ -9,10 +9,13 @@ use Rattle.dexspec.specs.Values.{Value, Values, ThenValue, Elements}
 use Rattle.dexspec.specs.Annotations.{Annotation}
 use Rattle.dexspec.specs.Classes.{Definition, declared_fields, declared_methods}
 use Rattle.dexspec.specs.Mentions.{Mentions, mentions}
-use Rattle.dexspec.specs.Weight.{weight, code_weight, value_weight, values_weight, elements_weight, annotation_weight, static_values_weight, mentions_weight, body_weight}
+use Rattle.dexspec.specs.Weight.{weight, code_weight, value_weight, values_weight, elements_weight, annotation_weight}
+use Rattle.dexspec.specs.Weight.{static_values_weight, mentions_weight, body_weight}
 use Rattle.dexspec.specs.Depth.{in_class_order}
-use Rattle.dexspec.specs.Spellings.{type_index, handler_off, handler_list_bytes, code_bytes, value_bytes, values_bytes, elements_bytes, encoded_array_bytes, annotation_bytes, class_data_bytes}
-use Rattle.dexspec.specs.Placing.{EachForItself, SetOffsets, end_from, bytes_from, section_bytes, directory_bytes, Ordered}
+use Rattle.dexspec.specs.Spellings.{type_index, handler_off, handler_list_bytes, code_bytes, value_bytes, values_bytes}
+use Rattle.dexspec.specs.Spellings.{elements_bytes, encoded_array_bytes, annotation_bytes, class_data_bytes}
+use Rattle.dexspec.specs.Placing.{EachForItself, SetOffsets, end_from, bytes_from, section_bytes, directory_bytes}
+use Rattle.dexspec.specs.Placing.{Ordered}
 use Rattle.dexspec.specs.Canonical.{data_sections, table_bytes, ordered, canonical}
 use Rattle.dexspec.specs.Files.{Collection, definitions}
 use Rattle.dexspec.specs.Merging.{Caps, Fits}

@@ -1,5 +1,6 @@
 -- The statements of the laws of written items.
-use Rattle.std.specs.Prelude.{◌≡◌, ℕ, ◌+◌, ◌%◌, ◌^◌, ◌<◌, ◌≤◌, IsTrue, All, List, [], ◌++◌, length, map, take, drop, Option, Some, None, IfSome}
+use Rattle.std.specs.Prelude.{◌≡◌, ℕ, ◌+◌, ◌%◌, ◌^◌, ◌<◌, ◌≤◌, IsTrue, All, List, [], ◌++◌, length, map, take, drop}
+use Rattle.std.specs.Prelude.{Option, Some, None, IfSome}
 use Rattle.std.specs.List.{Contains, AllZip}
 use Rattle.std.specs.Ordering.{nat_cmp}
 use Rattle.dexspec.specs.Lists.{rises, zip_with, OrNone, SomeAt, Item}
@@ -10,15 +11,18 @@ use Rattle.dexspec.specs.Symbols.{Symbol, field_cmp, method_cmp}
 use Rattle.dexspec.specs.Header.{data_off}
 use Rattle.dexspec.specs.Rows.{FieldRow, MethodRow, SymbolRow}
 use Rattle.dexspec.specs.Values.{Values, count_values, EncodedArrayAt}
-use Rattle.dexspec.specs.Annotations.{PairAt, AnnotationSet, AnnotationAt, SetAt, RefListAt, Directory, DirectoryAt, no_directory, annotated}
+use Rattle.dexspec.specs.Annotations.{PairAt, AnnotationSet, AnnotationAt, SetAt, RefListAt, Directory, DirectoryAt}
+use Rattle.dexspec.specs.Annotations.{no_directory, annotated}
 use Rattle.dexspec.specs.Debug.{DebugAt}
 use Rattle.dexspec.specs.Pieces.{Cut}
 use Rattle.dexspec.specs.Code.{Handler, HandlerAt, Code, CodeAt, handlers_weight, most_handlers}
 use Rattle.dexspec.specs.Placing.{SetOffsets, pairs_bytes, directory_bytes}
 use Rattle.dexspec.specs.ClassData.{EncodedField, EncodedMethod, ClassData, ClassDataAt}
 use Rattle.dexspec.specs.Classes.{FieldDef, MethodDef, Body, Definition, declared_fields, declared_methods}
-use Rattle.dexspec.specs.Mentions.{Mentions, mentions, field_of, method_of, symbols_of, values_symbols, handler_symbols, code_symbols}
-use Rattle.dexspec.specs.Spellings.{symbol_index, field_index, method_index, encoded_array_bytes, offsets_bytes, handler_bytes, class_data_bytes, handler_off, code_bytes}
+use Rattle.dexspec.specs.Mentions.{Mentions, mentions, field_of, method_of, symbols_of, values_symbols, handler_symbols}
+use Rattle.dexspec.specs.Mentions.{code_symbols}
+use Rattle.dexspec.specs.Spellings.{symbol_index, field_index, method_index, encoded_array_bytes, offsets_bytes}
+use Rattle.dexspec.specs.Spellings.{handler_bytes, class_data_bytes, handler_off, code_bytes}
 use Rattle.dexspec.specs.internal.IndexPlaces.{IndexFits}
 use Rattle.dexspec.specs.internal.OwnDirectories.{HasSetsAt, own_directory}
 use Rattle.dexspec.specs.WellFormed.{IsHandlerOf, IsCodeItem, IsWellFormed}

@@ -45,7 +45,7 @@ impl ConditionSet {
         }
     }
 
-    /// Whether the condition with a number is in the set.
+    /// Returns whether the condition with a number is in the set.
     pub fn contains(&self, number: u8) -> bool
         ensures { result ≡ has_condition self.now number }
     {

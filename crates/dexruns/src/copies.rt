@@ -108,7 +108,7 @@ fn some_new(copies: &[ClassCopy], old: usize) -> bool
 }
 
 impl Copies {
-    /// Whether some copy has another digest than the first.
+    /// Returns whether some copy has another digest than the first.
     pub(crate) fn differ(&self) -> bool
         ensures { result ≡ differ (copies_list self.now) }
     {
@@ -116,14 +116,14 @@ impl Copies {
         self.others.iter().any(|copy| copy.digest != first)
     }
 
-    /// Whether some copy is in one of the first files, of which there are `old`.
+    /// Returns whether some copy is in one of the first files, of which there are `old`.
     pub(crate) fn has_old(&self, old: usize) -> bool
         ensures { result ≡ has_old old (copies_list self.now) }
     {
         self.first.file < old || some_old(self.others.as_slice(), old)
     }
 
-    /// Whether some copy is in none of the first files, of which there are `old`.
+    /// Returns whether some copy is in none of the first files, of which there are `old`.
     pub(crate) fn has_new(&self, old: usize) -> bool
         ensures { result ≡ has_new old (copies_list self.now) }
     {

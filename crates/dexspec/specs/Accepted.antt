@@ -1,13 +1,16 @@
 -- What is accepted: the conditions 16 to 23 at a class row, all 23 as one predicate on bytes and row, and what a
 -- refusal says. Source: the constraints that "Dalvik Executable format" states with each item; which refusal is
 -- reported, and its place, is this project's rule.
-use Rattle.std.specs.Prelude.{◌≡◌, ◌≢◌, ◌⊎◌, ℕ, ◌+◌, ◌<◌, ◌≤◌, ◌==◌, if◌then◌else◌, List, [], ◌∷◌, ◌++◌, length, map, All, Option, Some, None}
+use Rattle.std.specs.Prelude.{◌≡◌, ◌≢◌, ◌⊎◌, ℕ, ◌+◌, ◌<◌, ◌≤◌, ◌==◌, if◌then◌else◌, List, [], ◌∷◌, ◌++◌, length, map}
+use Rattle.std.specs.Prelude.{All, Option, Some, None}
 use Rattle.std.specs.List.{Contains, AllZip, range_with_len}
 use Rattle.std.specs.Option.{option_map_or}
 use Rattle.dexspec.specs.Lists.{OrNone}
 use Rattle.dexspec.specs.Bytes.{uint_at}
 use Rattle.dexspec.specs.Texts.{Text}
-use Rattle.dexspec.specs.Header.{Table, StringIds, TypeIds, ProtoIds, FieldIds, MethodIds, ClassDefs, table_size, HasSize, HasMagic, HasVersion, version, HasLengths, HasEndian, HasNoLink, HasChecksum, HasSignature}
+use Rattle.dexspec.specs.Header.{Table, StringIds, TypeIds, ProtoIds, FieldIds, MethodIds, ClassDefs, table_size}
+use Rattle.dexspec.specs.Header.{HasSize, HasMagic, HasVersion, version, HasLengths, HasEndian, HasNoLink, HasChecksum}
+use Rattle.dexspec.specs.Header.{HasSignature}
 use Rattle.dexspec.specs.Sections.{HasLayout, HasMap}
 use Rattle.dexspec.specs.Rows.{StringRow, type_indices, HasString, HasType, HasProto, HasField, HasMethod}
 use Rattle.dexspec.specs.Pieces.{Cut, Piece}
@@ -16,7 +19,9 @@ use Rattle.dexspec.specs.Code.{Try, PiecesAt, TriesAt}
 use Rattle.dexspec.specs.Values.{Values, NoValues, count_values}
 use Rattle.dexspec.specs.Annotations.{Directory, DirectoryAt, no_directory}
 use Rattle.dexspec.specs.ClassData.{ClassData, ClassDataAt, no_class_data, fields_of, methods_of, BelongTo}
-use Rattle.dexspec.specs.Classes.{Definition, ClassRow, ClassTypeRow, ClassListAt, IndexOrNone, StaticValuesAt, class_idx, superclass_idx, interfaces_off, source_file_idx, annotations_off, class_data_off, static_values_off, no_index}
+use Rattle.dexspec.specs.Classes.{Definition, ClassRow, ClassTypeRow, ClassListAt, IndexOrNone, StaticValuesAt}
+use Rattle.dexspec.specs.Classes.{class_idx, superclass_idx, interfaces_off, source_file_idx, annotations_off}
+use Rattle.dexspec.specs.Classes.{class_data_off, static_values_off, no_index}
 use Rattle.dexspec.specs.Weight.{weight, most_weight}
 use Rattle.dexspec.specs.Conditions.{Condition}
 
@@ -123,44 +128,87 @@ HasWeight b r =
 
 -- ---- all of them
 
--- all conditions as one table: the number that a refusal reports, the table of the file at whose rows the condition is
--- checked, if there is one, and what holds for the bytes at a row
-abbrev pub condition_entry : Condition → ℕ × Option Table × (List ℕ → ℕ → Type 0)
-condition_entry Condition.Size = (1, None, λ b r. HasSize b)
-condition_entry Condition.Magic = (2, None, λ b r. HasMagic b)
-condition_entry Condition.Version = (3, None, λ b r. HasVersion b)
-condition_entry Condition.Lengths = (4, None, λ b r. HasLengths b)
-condition_entry Condition.Endian = (5, None, λ b r. HasEndian b)
-condition_entry Condition.Link = (6, None, λ b r. HasNoLink b)
-condition_entry Condition.Checksum = (7, None, λ b r. HasChecksum b)
-condition_entry Condition.Signature = (8, None, λ b r. HasSignature b)
-condition_entry Condition.Layout = (9, None, λ b r. HasLayout b)
-condition_entry Condition.Map = (10, None, λ b r. HasMap b)
-condition_entry Condition.Strings = (11, Some StringIds, HasString)
-condition_entry Condition.Types = (12, Some TypeIds, HasType)
-condition_entry Condition.Protos = (13, Some ProtoIds, HasProto)
-condition_entry Condition.Fields = (14, Some FieldIds, HasField)
-condition_entry Condition.Methods = (15, Some MethodIds, HasMethod)
-condition_entry Condition.Classes = (16, Some ClassDefs, HasClass)
-condition_entry Condition.Members = (17, Some ClassDefs, HasMembers)
-condition_entry Condition.Code = (18, Some ClassDefs, HasCode)
-condition_entry Condition.Tries = (19, Some ClassDefs, HasTries)
-condition_entry Condition.Debug = (20, Some ClassDefs, HasDebug)
-condition_entry Condition.Values = (21, Some ClassDefs, HasValues)
-condition_entry Condition.Annotations = (22, Some ClassDefs, HasAnnotations)
-condition_entry Condition.Weight = (23, Some ClassDefs, HasWeight)
-
 -- the number that a refusal reports
 abbrev pub number : Condition → ℕ
-number c = (condition_entry c).0
+number Condition.Size = 1
+number Condition.Magic = 2
+number Condition.Version = 3
+number Condition.Lengths = 4
+number Condition.Endian = 5
+number Condition.Link = 6
+number Condition.Checksum = 7
+number Condition.Signature = 8
+number Condition.Layout = 9
+number Condition.Map = 10
+number Condition.Strings = 11
+number Condition.Types = 12
+number Condition.Protos = 13
+number Condition.Fields = 14
+number Condition.Methods = 15
+number Condition.Classes = 16
+number Condition.Members = 17
+number Condition.Code = 18
+number Condition.Tries = 19
+number Condition.Debug = 20
+number Condition.Values = 21
+number Condition.Annotations = 22
+number Condition.Weight = 23
 
--- the number of rows at which a condition is checked; the first ten are checked once
-abbrev pub rows_checked : Condition → List ℕ → ℕ
-rows_checked c b = option_map_or (table_size b) (condition_entry c).1 1
-
--- the condition holds for the bytes at a row
+-- what holds for the bytes at a row; the first ten conditions are about the whole file
 abbrev pub Holds : Condition → List ℕ → ℕ → Type 0
-Holds c = (condition_entry c).2
+Holds Condition.Size = λ b r. HasSize b
+Holds Condition.Magic = λ b r. HasMagic b
+Holds Condition.Version = λ b r. HasVersion b
+Holds Condition.Lengths = λ b r. HasLengths b
+Holds Condition.Endian = λ b r. HasEndian b
+Holds Condition.Link = λ b r. HasNoLink b
+Holds Condition.Checksum = λ b r. HasChecksum b
+Holds Condition.Signature = λ b r. HasSignature b
+Holds Condition.Layout = λ b r. HasLayout b
+Holds Condition.Map = λ b r. HasMap b
+Holds Condition.Strings = HasString
+Holds Condition.Types = HasType
+Holds Condition.Protos = HasProto
+Holds Condition.Fields = HasField
+Holds Condition.Methods = HasMethod
+Holds Condition.Classes = HasClass
+Holds Condition.Members = HasMembers
+Holds Condition.Code = HasCode
+Holds Condition.Tries = HasTries
+Holds Condition.Debug = HasDebug
+Holds Condition.Values = HasValues
+Holds Condition.Annotations = HasAnnotations
+Holds Condition.Weight = HasWeight
+
+-- the table of the file at whose rows a condition is checked; the first ten are checked once
+abbrev pub checked_table : Condition → Option Table
+checked_table Condition.Size = None
+checked_table Condition.Magic = None
+checked_table Condition.Version = None
+checked_table Condition.Lengths = None
+checked_table Condition.Endian = None
+checked_table Condition.Link = None
+checked_table Condition.Checksum = None
+checked_table Condition.Signature = None
+checked_table Condition.Layout = None
+checked_table Condition.Map = None
+checked_table Condition.Strings = Some StringIds
+checked_table Condition.Types = Some TypeIds
+checked_table Condition.Protos = Some ProtoIds
+checked_table Condition.Fields = Some FieldIds
+checked_table Condition.Methods = Some MethodIds
+checked_table Condition.Classes = Some ClassDefs
+checked_table Condition.Members = Some ClassDefs
+checked_table Condition.Code = Some ClassDefs
+checked_table Condition.Tries = Some ClassDefs
+checked_table Condition.Debug = Some ClassDefs
+checked_table Condition.Values = Some ClassDefs
+checked_table Condition.Annotations = Some ClassDefs
+checked_table Condition.Weight = Some ClassDefs
+
+-- the number of rows at which a condition is checked
+abbrev pub rows_checked : Condition → List ℕ → ℕ
+rows_checked c b = option_map_or (table_size b) (checked_table c) 1
 
 -- the condition holds at each of its rows
 abbrev pub HoldsThroughout : Condition → List ℕ → Type 0

@@ -1,6 +1,7 @@
 -- Numbers of fixed size, the bytes at an offset, and alignment. Source: "Dalvik Executable format",
 -- "Overall file layout" (all numbers are little-endian).
-use Rattle.std.specs.Prelude.{◌≡◌, ℕ, zero, suc, ℤ, pos, ◌-ℤ◌, ◌+◌, ◌-◌, ◌*◌, ◌/◌, ◌%◌, ◌^◌, List, [], ◌∷◌, length, take, drop, nat_lt, if◌then◌else◌, replicate}
+use Rattle.std.specs.Prelude.{◌≡◌, ℕ, zero, suc, ℤ, pos, ◌-ℤ◌, ◌+◌, ◌-◌, ◌*◌, ◌/◌, ◌%◌, ◌^◌, List, [], ◌∷◌, length}
+use Rattle.std.specs.Prelude.{take, drop, nat_lt, if◌then◌else◌, replicate}
 
 -- the number that bytes encode, the lowest first
 unfoldable pub number_of : List ℕ → ℕ

@@ -1,6 +1,7 @@
 -- The canonical file of a collection. Source: "Dalvik Executable format", "Overall file layout", "header_item",
 -- "map_list" and the items of the tables. The order of the sections and of their items is this project's rule.
-use Rattle.std.specs.Prelude.{ℕ, ◌+◌, ◌-◌, ◌*◌, ◌==◌, if◌then◌else◌, List, [], ◌∷◌, ◌++◌, length, map, drop, slice_index}
+use Rattle.std.specs.Prelude.{ℕ, ◌+◌, ◌-◌, ◌*◌, ◌==◌, if◌then◌else◌, List, [], ◌∷◌, ◌++◌, length, map, drop}
+use Rattle.std.specs.Prelude.{slice_index}
 use Rattle.std.specs.List.{flat_map, concat, zip}
 use Rattle.std.specs.Option.{option_map_or}
 use Rattle.sha1.specs.Sha1.{sha1}
@@ -9,8 +10,11 @@ use Rattle.dexspec.specs.Bytes.{ushort, uint, round_up, padding}
 use Rattle.dexspec.specs.Texts.{Text, string_data}
 use Rattle.dexspec.specs.Names.{shorty}
 use Rattle.dexspec.specs.Symbols.{Proto, Field, Method}
-use Rattle.dexspec.specs.Header.{Table, StringIds, TypeIds, ProtoIds, FieldIds, MethodIds, ClassDefs, adler_32, header_length, row_size}
-use Rattle.dexspec.specs.Sections.{Section, HeaderItem, TableOf, MapList, TypeLists, AnnotationSetRefLists, AnnotationSets, ClassDataItems, CodeItems, StringDataItems, DebugInfoItems, AnnotationItems, EncodedArrayItems, AnnotationsDirectories, type_code}
+use Rattle.dexspec.specs.Header.{Table, StringIds, TypeIds, ProtoIds, FieldIds, MethodIds, ClassDefs, adler_32}
+use Rattle.dexspec.specs.Header.{header_length, row_size}
+use Rattle.dexspec.specs.Sections.{Section, HeaderItem, TableOf, MapList, TypeLists, AnnotationSetRefLists}
+use Rattle.dexspec.specs.Sections.{AnnotationSets, ClassDataItems, CodeItems, StringDataItems, DebugInfoItems}
+use Rattle.dexspec.specs.Sections.{AnnotationItems, EncodedArrayItems, AnnotationsDirectories, type_code}
 use Rattle.dexspec.specs.Debug.{Debug}
 use Rattle.dexspec.specs.Annotations.{AnnotationSet}
 use Rattle.dexspec.specs.Classes.{Definition, no_index}
@@ -18,8 +22,12 @@ use Rattle.dexspec.specs.Sameness.{same_types, same_debug, same_set}
 use Rattle.dexspec.specs.Files.{Collection, definitions}
 use Rattle.dexspec.specs.Mentions.{Mentions, mentions}
 use Rattle.dexspec.specs.Depth.{in_class_order}
-use Rattle.dexspec.specs.Spellings.{text_index, type_index, proto_index, type_list_bytes, code_bytes, debug_bytes, encoded_array_bytes, annotation_bytes, offsets_bytes, class_data_bytes}
-use Rattle.dexspec.specs.Placing.{Items, own_items, EqualOnce, items_by, Placed, section, offsets, end, section_bytes, uses_offsets, Ordered, type_list_uses, set_uses, debug_uses, code_uses, static_values_uses, class_data_uses, SetOffsets, set_offsets_by_class, ref_list_uses, directory_uses}
+use Rattle.dexspec.specs.Spellings.{text_index, type_index, proto_index, type_list_bytes, code_bytes, debug_bytes}
+use Rattle.dexspec.specs.Spellings.{encoded_array_bytes, annotation_bytes, offsets_bytes, class_data_bytes}
+use Rattle.dexspec.specs.Placing.{Items, own_items, unnumbered_items, EqualOnce, items_by, Placed, section, offsets}
+use Rattle.dexspec.specs.Placing.{end, section_bytes, uses_offsets, Ordered, type_list_uses, set_uses, debug_uses}
+use Rattle.dexspec.specs.Placing.{code_uses, static_values_uses, class_data_uses, SetOffsets, set_offsets_by_class}
+use Rattle.dexspec.specs.Placing.{ref_list_uses, directory_uses}
 
 -- ---- the tables
 
@@ -69,7 +77,7 @@ class_row_bytes m (name, c) offs =
 
 -- ---- the sections of the data, each after the one before it: items hold offsets of items of earlier sections
 
--- the distinct type lists
+-- the type lists that are written
 abbrev pub type_list_items : Ordered → Items (List Text)
 type_list_items C = items_by C.sharing same_types (type_list_uses C)
 
@@ -77,14 +85,14 @@ type_list_items C = items_by C.sharing same_types (type_list_uses C)
 unfoldable pub type_list_section : Ordered → Placed
 type_list_section C = section TypeLists 4 (data_start C) (type_list_bytes C.pools) (type_list_items C)
 
--- the distinct sets
+-- the sets that are written
 abbrev pub set_items : Ordered → Items AnnotationSet
 set_items C = items_by C.sharing same_set (set_uses C)
 
 -- their annotations, set by set
 unfoldable pub annotation_section : Ordered → Placed
 annotation_section C = section AnnotationItems 1 (end (type_list_section C)) (annotation_bytes C.pools)
-    (record { numbers = []; written = flat_map (λ set. set) (set_items C).written })
+    (unnumbered_items (flat_map (λ set. set) (set_items C).written))
 
 -- the offsets of the annotations, set by set
 unfoldable pub annotation_offsets : Ordered → List (List ℕ)
@@ -98,9 +106,9 @@ array_section C = section EncodedArrayItems 1 (end (annotation_section C)) (enco
 -- the string data
 unfoldable pub string_section : Ordered → Placed
 string_section C =
-    section StringDataItems 1 (end (array_section C)) string_data (record { numbers = []; written = C.pools.texts })
+    section StringDataItems 1 (end (array_section C)) string_data (unnumbered_items C.pools.texts)
 
--- the distinct debug programs
+-- the debug programs that are written
 abbrev pub debug_items : Ordered → Items Debug
 debug_items C = items_by C.sharing same_debug (debug_uses C)
 

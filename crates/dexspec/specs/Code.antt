@@ -2,7 +2,8 @@
 -- "try_item", "encoded_catch_handler_list", "encoded_catch_handler" and "encoded_type_addr_pair". This project's rules:
 -- a try names the start of a handler of the list, every handler of the list is checked, and the distinct handlers that
 -- tries name are few.
-use Rattle.std.specs.Prelude.{◌≡◌, ◌≢◌, ℕ, ℤ, pos, nat_abs, ◌<ℤ◌, ◌≤ℤ◌, ◌+◌, ◌*◌, ◌%◌, ◌<◌, ◌≤◌, ◌⊎◌, Bool, ◌&&◌, ◌==◌, IsTrue, List, [], ◌∷◌, ◌++◌, length, map, Option, Some, None, sum_by}
+use Rattle.std.specs.Prelude.{◌≡◌, ◌≢◌, ℕ, ℤ, pos, nat_abs, ◌<ℤ◌, ◌≤ℤ◌, ◌+◌, ◌*◌, ◌%◌, ◌<◌, ◌≤◌, ◌⊎◌, Bool, ◌&&◌, ◌==◌}
+use Rattle.std.specs.Prelude.{IsTrue, List, [], ◌∷◌, ◌++◌, length, map, Option, Some, None, sum_by}
 use Rattle.std.specs.List.{AllZip}
 use Rattle.std.specs.Option.{option_eq}
 use Rattle.std.specs.Cmp.Lexicographic.{pointwise}
@@ -93,6 +94,7 @@ pub record PiecesAt (b : List ℕ) (o : ℕ) (cuts : List Cut) (ps : List Piece)
 abbrev pub IsStart : List ℕ → List Cut → ℕ → Type 0
 IsStart us cuts address = IsTrue (is_instruction_start us cuts (pos address))
 
+-- `us` are the units of the code, `cuts` its pieces: the first two arguments of each definition of this module
 module _ (us : List ℕ) (cuts : List Cut) where
   -- an encoded_type_addr_pair is at offset o
   pub record CatchAt (b : List ℕ) (o : ℕ) (c : Catch) (n : ℕ) : Type 0 where

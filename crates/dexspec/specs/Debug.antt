@@ -1,7 +1,7 @@
 -- Debug programs. Source: "Dalvik Executable format", "debug_info_item" and "Byte code values". Registers and addresses
 -- are not checked (this project's rule).
 use Rattle.std.specs.Prelude.{◌≡◌, ℕ, ℤ, ◌+◌, ◌≤◌, List, [], ◌∷◌, length, Option}
-use Rattle.dexspec.specs.Lists.{Item, Sequence, BothOrNone}
+use Rattle.dexspec.specs.Lists.{Sequence, BothOrNone}
 use Rattle.dexspec.specs.Bytes.{BytesAt}
 use Rattle.dexspec.specs.Numbers.{Uleb128At, Sleb128At, Uleb128p1At}
 use Rattle.dexspec.specs.Texts.{Text}
@@ -28,15 +28,15 @@ pub record Debug : Type 0 where
 -- ---- in a file
 
 -- a uleb128p1 that names a string, or nothing, is at offset o
-abbrev pub OptionalTextAt : Item (Option Text)
+abbrev pub OptionalTextAt : List ℕ → ℕ → Option Text → ℕ → Type 0
 OptionalTextAt b o s n = (i : Option ℕ) × Uleb128p1At b o i n × BothOrNone (StringRow b) i s
 
 -- the same for a type
-abbrev pub OptionalTypeAt : Item (Option Text)
+abbrev pub OptionalTypeAt : List ℕ → ℕ → Option Text → ℕ → Type 0
 OptionalTypeAt b o t n = (i : Option ℕ) × Uleb128p1At b o i n × BothOrNone (TypeRow b) i t
 
 -- the operation is at offset o
-abbrev pub OperationAt : Item Operation
+abbrev pub OperationAt : List ℕ → ℕ → Operation → ℕ → Type 0
 OperationAt b o (AdvancePc count) n = BytesAt b o (0x01 ∷ []) × (k : ℕ) × Uleb128At b (o + 1) count k × (n ≡ 1 + k)
 OperationAt b o (AdvanceLine lines) n = BytesAt b o (0x02 ∷ []) × (k : ℕ) × Sleb128At b (o + 1) lines k × (n ≡ 1 + k)
 OperationAt b o (StartLocal register name type) n = BytesAt b o (0x03 ∷ [])

@@ -96,19 +96,21 @@ data_off b = uint_at b 108
 
 -- the number of bytes of a row
 abbrev pub row_size : Table → ℕ
+row_size StringIds = 4
+row_size TypeIds = 4
 row_size ProtoIds = 12
 row_size FieldIds = 8
 row_size MethodIds = 8
 row_size ClassDefs = 32
-row_size _ = 4
 
 -- the maximum number of rows; strings and classes are bounded by the size of the file alone
 abbrev pub MayHave : Table → ℕ → Type 0
+MayHave StringIds n = Unit {0}
 MayHave TypeIds n = n ≤ 65535
 MayHave ProtoIds n = n ≤ 65535
 MayHave FieldIds n = n ≤ 65536
 MayHave MethodIds n = n ≤ 65536
-MayHave _ n = Unit {0}
+MayHave ClassDefs n = Unit {0}
 
 -- ---- conditions 1 to 8
 

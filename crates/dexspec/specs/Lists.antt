@@ -1,5 +1,6 @@
 -- Lists in order, ranks, lists cut into parts, and items in sequence. Terms of this project.
-use Rattle.std.specs.Prelude.{◌≡◌, ◌≢◌, ◌⊎◌, ℕ, ◌+◌, Bool, true, ◌&&◌, not, List, [], ◌∷◌, take, drop, Option, Some, None, option_to_list, count_by}
+use Rattle.std.specs.Prelude.{◌≡◌, ◌≢◌, ◌⊎◌, ℕ, ◌+◌, Bool, true, ◌&&◌, not, List, [], ◌∷◌, take, drop, Option, Some}
+use Rattle.std.specs.Prelude.{None, option_to_list, count_by}
 use Rattle.std.specs.List.{AllPairs, filter, flat_map}
 use Rattle.std.specs.Ordering.{is_lt}
 use Rattle.std.specs.declared.cmp.Ordering.{Ordering}
@@ -62,7 +63,7 @@ abbrev pub distinct : {X : Type 0} → (X → X → Bool) → List X → List X
 distinct same [] = []
 distinct same (x ∷ xs) = x ∷ filter (λ y. not (same x y)) (distinct same xs)
 
--- A kind of item: x is at offset o of b, in n bytes.
+-- A kind of item, as `Sequence` takes it: x is at offset o of b, in n bytes.
 abbrev pub Item : Type 0 → Type 1
 Item X = List ℕ → ℕ → X → ℕ → Type 0
 

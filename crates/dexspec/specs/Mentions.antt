@@ -5,11 +5,13 @@ use Rattle.std.specs.List.{flat_map}
 use Rattle.dexspec.specs.Lists.{in_order}
 use Rattle.dexspec.specs.Texts.{Text, text_cmp}
 use Rattle.dexspec.specs.Names.{shorty}
-use Rattle.dexspec.specs.Symbols.{Proto, Field, Method, Symbol, TextSymbol, TypeSymbol, ProtoSymbol, FieldSymbol, MethodSymbol, proto_cmp, field_cmp, method_cmp}
+use Rattle.dexspec.specs.Symbols.{Proto, Field, Method, Symbol, TextSymbol, TypeSymbol, ProtoSymbol, FieldSymbol}
+use Rattle.dexspec.specs.Symbols.{MethodSymbol, proto_cmp, field_cmp, method_cmp}
 use Rattle.dexspec.specs.Pieces.{Piece, Instruction, Payload}
 use Rattle.dexspec.specs.Debug.{Operation, StartLocal, StartLocalExtended, SetFile, Debug}
 use Rattle.dexspec.specs.Code.{Handler, Code, handlers_of}
-use Rattle.dexspec.specs.Values.{Value, StringValue, TypeValue, FieldValue, MethodValue, EnumValue, ArrayValue, AnnotationValue, Values, NoValues, ThenValue, Elements, NoElements, ThenElement}
+use Rattle.dexspec.specs.Values.{Value, StringValue, TypeValue, FieldValue, MethodValue, EnumValue, ArrayValue}
+use Rattle.dexspec.specs.Values.{AnnotationValue, Values, NoValues, ThenValue, Elements, NoElements, ThenElement}
 use Rattle.dexspec.specs.Annotations.{Annotation, AnnotationSet}
 use Rattle.dexspec.specs.Classes.{FieldDef, MethodDef, Definition, declared_fields, declared_methods}
 

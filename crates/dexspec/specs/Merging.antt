@@ -1,5 +1,6 @@
 -- Unions of collections, caps, fitting, plans, and the causes for which there is no merged file. This project's rules.
-use Rattle.std.specs.Prelude.{◌≡◌, ◌≢◌, ℕ, ◌+◌, ◌<◌, ◌≤◌, max, List, [], ◌∷◌, ◌++◌, length, All, slice_index, slice_index_or, Some, true}
+use Rattle.std.specs.Prelude.{◌≡◌, ◌≢◌, ℕ, ◌+◌, ◌<◌, ◌≤◌, max, List, [], ◌∷◌, ◌++◌, length, All, slice_index}
+use Rattle.std.specs.Prelude.{slice_index_or, Some, true}
 use Rattle.std.specs.List.{flat_map, Contains}
 use Rattle.std.specs.declared.cmp.Ordering.TheVariants.{Less}
 use Rattle.dexspec.specs.Lists.{AreDistinct, rank}
@@ -72,12 +73,13 @@ pub record HasShortString (D : List Definition) (s : Text) : Type 0 where
 
 -- The clause fails. For the weight: some members, no two of them equal, weigh more.
 abbrev pub Exceeds : Caps → List Definition → Cap → Type 0
-Exceeds c D TypeCap = c.types < length (mentions D).types
-Exceeds c D ProtoCap = c.protos < length (mentions D).protos
-Exceeds c D FieldCap = c.fields < length (mentions D).fields
-Exceeds c D MethodCap = c.methods < length (mentions D).methods
-Exceeds c D ShortStringCap = (s : Text) × HasShortString D s × (c.short_strings ≤ rank text_cmp s (mentions D).texts)
-Exceeds c D WeightCap = (E : List Definition) × AreDistinct E × AreWithin E D × (c.weight < weight E)
+Exceeds caps D TypeCap = caps.types < length (mentions D).types
+Exceeds caps D ProtoCap = caps.protos < length (mentions D).protos
+Exceeds caps D FieldCap = caps.fields < length (mentions D).fields
+Exceeds caps D MethodCap = caps.methods < length (mentions D).methods
+Exceeds caps D ShortStringCap =
+    (s : Text) × HasShortString D s × (caps.short_strings ≤ rank text_cmp s (mentions D).texts)
+Exceeds caps D WeightCap = (E : List Definition) × AreDistinct E × AreWithin E D × (caps.weight < weight E)
 
 -- the definitions fit the caps
 pub record Fits (caps : Caps) (D : List Definition) : Type 0 where
@@ -128,11 +130,14 @@ IsCause caps D (Exceeded cap) = Exceeds caps D cap
 -- of two causes the one that is reported: a conflict before a cycle before a cap, then the least
 abbrev pub IsReportedBefore : Cause → Cause → Type 0
 IsReportedBefore (Conflict m) (Conflict n) = text_cmp m n ≡ Less
-IsReportedBefore (Conflict m) _ = Unit {0}
+IsReportedBefore (Conflict m) (Cycle n) = Unit {0}
+IsReportedBefore (Conflict m) (Exceeded k) = Unit {0}
+IsReportedBefore (Cycle m) (Conflict n) = ⊥
 IsReportedBefore (Cycle m) (Cycle n) = text_cmp m n ≡ Less
 IsReportedBefore (Cycle m) (Exceeded k) = Unit {0}
+IsReportedBefore (Exceeded j) (Conflict n) = ⊥
+IsReportedBefore (Exceeded j) (Cycle n) = ⊥
 IsReportedBefore (Exceeded j) (Exceeded k) = cap_number j < cap_number k
-IsReportedBefore _ _ = ⊥
 
 -- the first cause that holds for the definitions
 pub record IsFirstCause (caps : Caps) (D : List Definition) (cause : Cause) : Type 0 where

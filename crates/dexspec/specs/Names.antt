@@ -1,7 +1,8 @@
 -- Names: type descriptors, class names, member names and shorties.
 -- Source: "Dalvik Executable format", "TypeDescriptor", "ShortyDescriptor" and "MemberName".
 -- This project's rule: a name's part may hold every unit but `.` `;` `[` `/`.
-use Rattle.std.specs.Prelude.{◌≡◌, ◌≢◌, ℕ, ◌<◌, ◌≤◌, ◌⊎◌, List, [], ◌∷◌, ◌++◌, length, map, All, replicate, if◌then◌else◌, ◌==◌}
+use Rattle.std.specs.Prelude.{◌≡◌, ◌≢◌, ℕ, ◌<◌, ◌≤◌, ◌⊎◌, List, [], ◌∷◌, ◌++◌, length, map, All, replicate}
+use Rattle.std.specs.Prelude.{if◌then◌else◌, ◌==◌}
 use Rattle.std.specs.List.{join_with_byte, Contains}
 use Rattle.dexspec.specs.Texts.{Text}
 

@@ -1,9 +1,9 @@
 -- LEB128: numbers as one to five bytes of seven bits each, the lowest group first. Source: "Dalvik Executable format",
 -- "LEB128". This project's rules: an encoding may be longer than needed, and the exact value must be in the range of
 -- its 32-bit type.
-use Rattle.std.specs.Prelude.{◌≡◌, ℕ, zero, suc, negsuc, ℤ, pos, ◌-ℤ◌, ◌+◌, ◌-◌, ◌*◌, ◌%◌, ◌/◌, ◌^◌, ◌<◌, ◌≤◌, List, [], ◌∷◌, length, take, drop, Option, Some, None, FitsSigned, if◌then◌else◌, nat_le, nat_lt}
+use Rattle.std.specs.Prelude.{◌≡◌, ℕ, zero, suc, negsuc, ℤ, pos, ◌-ℤ◌, ◌+◌, ◌-◌, ◌*◌, ◌%◌, ◌/◌, ◌^◌, ◌<◌, ◌≤◌, List, []}
+use Rattle.std.specs.Prelude.{◌∷◌, length, take, drop, Option, Some, None, FitsSigned, if◌then◌else◌, nat_le, nat_lt}
 use Rattle.std.specs.Int.{w32}
-use Rattle.dexspec.specs.Lists.{Item}
 
 -- one byte or more, the top bit set in each but the last
 abbrev pub IsChain : List ℕ → Type 0
@@ -58,15 +58,15 @@ pub record BeginsWith {V : Type 0} (Says : List ℕ → V → Type 0) (bytes : L
   pub spelled : Says (take n bytes) v
 
 -- the number is at offset o of b, in n bytes
-abbrev pub Uleb128At : Item ℕ
+abbrev pub Uleb128At : List ℕ → ℕ → ℕ → ℕ → Type 0
 Uleb128At b o v n = BeginsWith IsUleb128 (drop o b) v n
 
 -- the same for an sleb128
-abbrev pub Sleb128At : Item ℤ
+abbrev pub Sleb128At : List ℕ → ℕ → ℤ → ℕ → Type 0
 Sleb128At b o v n = BeginsWith IsSleb128 (drop o b) v n
 
 -- the same for a uleb128p1
-abbrev pub Uleb128p1At : Item (Option ℕ)
+abbrev pub Uleb128p1At : List ℕ → ℕ → Option ℕ → ℕ → Type 0
 Uleb128p1At b o v n = BeginsWith IsUleb128p1 (drop o b) v n
 
 -- ---- the shortest encodings

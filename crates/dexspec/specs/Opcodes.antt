@@ -1,7 +1,8 @@
 -- The 256 opcodes of version 035, of which 218 are used: formats, kinds of index and mnemonics, as one table.
 -- Source: "Dalvik bytecode", "Summary of bytecode set", and "Dalvik executable instruction formats". An
 -- opcode that the table lacks is unused in this version (this project's rule).
-use Rattle.std.specs.Prelude.{ℕ, ◌+◌, ◌-◌, ◌&&◌, Bool, List, [], ◌∷◌, ◌++◌, length, map, Option, Some, None, slice_index_or, nat_le, nat_lt, codes}
+use Rattle.std.specs.Prelude.{ℕ, ◌+◌, ◌-◌, ◌&&◌, Bool, List, [], ◌∷◌, ◌++◌, length, map, Option, Some, None}
+use Rattle.std.specs.Prelude.{slice_index_or, nat_le, nat_lt, codes}
 use Rattle.std.specs.List.{find}
 use Rattle.std.specs.Option.{option_map}
 use Rattle.dexspec.specs.Symbols.{Pool, StringPool, TypePool, FieldPool, MethodPool}
@@ -18,6 +19,17 @@ units_in F12x = 1
 units_in F11n = 1
 units_in F11x = 1
 units_in F10t = 1
+units_in F20t = 2
+units_in F22x = 2
+units_in F21t = 2
+units_in F21s = 2
+units_in F21h = 2
+units_in F21c = 2
+units_in F23x = 2
+units_in F22b = 2
+units_in F22s = 2
+units_in F22t = 2
+units_in F22c = 2
 units_in F30t = 3
 units_in F32x = 3
 units_in F31i = 3
@@ -26,7 +38,6 @@ units_in F31c = 3
 units_in F35c = 3
 units_in F3rc = 3
 units_in F51l = 5
-units_in _ = 2
 
 -- an opcode: its format, the pool of its index, if it has one, and its mnemonic
 pub record Opcode : Type 0 where

@@ -4,14 +4,17 @@
 -- 00 of a format is zero, the count of 35c is at most five, sparse keys rise strictly, an element has 1, 2, 4 or 8
 -- bytes, targets are starts of instructions or of a payload of the right kind, and a payload that no instruction refers
 -- to is allowed.
-use Rattle.std.specs.Prelude.{◌≡◌, ℕ, zero, suc, ℤ, pos, ◌+ℤ◌, nat_abs, ◌+◌, ◌*◌, ◌/◌, ◌%◌, ◌<◌, Bool, true, false, not, ◌&&◌, ◌||◌, ◌==◌, nat_le, IsTrue, if◌then◌else◌, List, [], ◌∷◌, length, take, drop, All, slice_index, slice_set, Option, Some, None}
+use Rattle.std.specs.Prelude.{◌≡◌, ℕ, zero, suc, ℤ, pos, ◌+ℤ◌, nat_abs, ◌+◌, ◌*◌, ◌/◌, ◌%◌, ◌<◌, Bool, true, false, not}
+use Rattle.std.specs.Prelude.{◌&&◌, ◌||◌, ◌==◌, nat_le, IsTrue, if◌then◌else◌, List, [], ◌∷◌, length, take, drop, All}
+use Rattle.std.specs.Prelude.{slice_index, slice_set, Option, Some, None}
 use Rattle.std.specs.List.{list_any, list_all}
 use Rattle.std.specs.Option.{option_map_or, option_and_then}
 use Rattle.std.specs.Ordering.{int_cmp, int_eq}
 use Rattle.dexspec.specs.Lists.{rises}
 use Rattle.dexspec.specs.Bytes.{signed_in}
 use Rattle.dexspec.specs.Symbols.{Pool, Symbol, pool_of}
-use Rattle.dexspec.specs.Opcodes.{Format, Opcode, F10x, F20t, F30t, F32x, F35c, F10t, F21t, F22t, F31t, units_in, opcode_of}
+use Rattle.dexspec.specs.Opcodes.{Format, Opcode, F10x, F20t, F30t, F32x, F35c, F10t, F21t, F22t, F31t, units_in}
+use Rattle.dexspec.specs.Opcodes.{opcode_of}
 
 -- the low byte of an instruction's first unit is its opcode
 abbrev pub low_byte : ℕ → ℕ
@@ -211,7 +214,8 @@ index_in us = if is_wide_index us then two_units us 1 else slice_index us 1
 abbrev pub with_index : ℕ → List ℕ → List ℕ
 with_index i us = if is_wide_index us then slice_set (slice_set us 1 (i % 65536)) 2 (i / 65536) else slice_set us 1 i
 
--- the units encode the piece, if indices and symbols are related in this way
+-- The units encode the piece. `Names i s` says that index i stands for symbol s: in a file that row i of the symbol's
+-- pool has it; in units that are not in a file, which have zero for each index, that i is 0.
 abbrev pub DenotesPiece : (ℕ → Symbol → Type 0) → List ℕ → Piece → Type 0
 DenotesPiece Names us (Instruction xs None) =
     (is_payload_ident (slice_index us 0) ≡ false) × (index_pool us ≡ None) × (xs ≡ us)

@@ -1,6 +1,7 @@
 -- The items, their order and their offsets: uses, items, sections and directories. This project's rule: the order of
 -- uses, and that equal type lists, debug programs and annotation sets have one item.
-use Rattle.std.specs.Prelude.{ℕ, ◌+◌, Bool, ◌==◌, if◌then◌else◌, List, [], ◌∷◌, ◌++◌, length, map, take, drop, slice_index, Option, Some, None}
+use Rattle.std.specs.Prelude.{ℕ, ◌+◌, Bool, ◌==◌, if◌then◌else◌, List, [], ◌∷◌, ◌++◌, length, map, take, drop}
+use Rattle.std.specs.Prelude.{slice_index, Option, Some, None}
 use Rattle.std.specs.List.{flat_map, zip, position_or_len}
 use Rattle.std.specs.Ordering.{nat_cmp}
 use Rattle.std.specs.declared.cmp.Ordering.{Ordering}
@@ -19,7 +20,8 @@ use Rattle.dexspec.specs.Spellings.{field_index, method_index}
 
 -- ---- uses and items
 
--- The items of one kind: for each use in turn the number of its item, if it has one, and the items.
+-- The items of one kind, and for each use in turn the number of its item, if it has one. There are no numbers where no
+-- use asks for one: offsets of annotations are cut into sets, and those of texts are in the order of the texts.
 pub record Items (X : Type 0) : Type 0 where
   pub numbers : List (Option ℕ)
   pub written : List X
@@ -33,6 +35,10 @@ own_numbers n (Some x ∷ uses) = Some n ∷ own_numbers (n + 1) uses
 -- each use that is present has its own item
 abbrev pub own_items : {X : Type 0} → List (Option X) → Items X
 own_items uses = record { numbers = own_numbers 0 uses; written = present uses }
+
+-- items that no use asks for by its number
+abbrev pub unnumbered_items : {X : Type 0} → List X → Items X
+unnumbered_items items = record { numbers = []; written = items }
 
 -- equal uses by a test have one item, at the place of the first of them
 abbrev pub shared_items : {X : Type 0} → (X → X → Bool) → List (Option X) → Items X

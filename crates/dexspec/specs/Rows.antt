@@ -10,8 +10,10 @@ use Rattle.dexspec.specs.Lists.{OrNone}
 use Rattle.dexspec.specs.Bytes.{uint_at, ushort_at, ushorts_at}
 use Rattle.dexspec.specs.Texts.{Text, text_cmp, StringDataAt}
 use Rattle.dexspec.specs.Names.{IsDescriptor, IsValueType, shorty}
-use Rattle.dexspec.specs.Symbols.{Proto, Field, Method, Symbol, TextSymbol, TypeSymbol, ProtoSymbol, FieldSymbol, MethodSymbol, IsField, IsMethod}
-use Rattle.dexspec.specs.Header.{Table, StringIds, TypeIds, ProtoIds, FieldIds, MethodIds, table_size, table_off, row_size, data_off}
+use Rattle.dexspec.specs.Symbols.{Proto, Field, Method, Symbol, TextSymbol, TypeSymbol, ProtoSymbol, FieldSymbol}
+use Rattle.dexspec.specs.Symbols.{MethodSymbol, IsField, IsMethod}
+use Rattle.dexspec.specs.Header.{Table, StringIds, TypeIds, ProtoIds, FieldIds, MethodIds, table_size, table_off}
+use Rattle.dexspec.specs.Header.{row_size, data_off}
 use Rattle.dexspec.specs.Sections.{IsInData}
 
 -- the offset of row i of a table

@@ -1,11 +1,14 @@
 -- The offsets of the tables, the data and the map: conditions 9 and 10. Source: "Dalvik Executable format",
 -- "header_item", "map_list", "map_item" and "Type codes".
-use Rattle.std.specs.Prelude.{◌≡◌, ◌≢◌, ℕ, zero, suc, ◌+◌, ◌*◌, ◌%◌, ◌<◌, ◌≤◌, ◌⊎◌, List, [], ◌∷◌, length, map, All, IsTrue}
+use Rattle.std.specs.Prelude.{◌≡◌, ◌≢◌, ℕ, zero, suc, ◌+◌, ◌*◌, ◌%◌, ◌<◌, ◌≤◌, ◌⊎◌, List, [], ◌∷◌, length, map, All}
+use Rattle.std.specs.Prelude.{IsTrue}
 use Rattle.std.specs.List.{Contains}
 use Rattle.std.specs.Ordering.{nat_cmp}
 use Rattle.dexspec.specs.Lists.{rises, AreDistinct}
 use Rattle.dexspec.specs.Bytes.{uint_at, ushort_at}
-use Rattle.dexspec.specs.Header.{Table, StringIds, TypeIds, ProtoIds, FieldIds, MethodIds, ClassDefs, tables, table_size, table_off, row_size, MayHave, data_size, data_off, file_size, header_length, map_off}
+use Rattle.dexspec.specs.Header.{Table, StringIds, TypeIds, ProtoIds, FieldIds, MethodIds, ClassDefs, tables}
+use Rattle.dexspec.specs.Header.{table_size, table_off, row_size, MayHave, data_size, data_off, file_size}
+use Rattle.dexspec.specs.Header.{header_length, map_off}
 
 -- ---- condition 9
 

@@ -1,18 +1,24 @@
 -- The canonical bytes of each item, for given pools and offsets: every encoding is the shortest. Source: "Dalvik
 -- Executable format", the headings that the files on reading each item name. The shortest encoding, and the order of
 -- handlers by first use, are this project's rule.
-use Rattle.std.specs.Prelude.{ℕ, suc, ℤ, pos, negsuc, ◌-ℤ◌, ◌+◌, ◌-◌, ◌*◌, ◌/◌, ◌%◌, ◌^◌, ◌==◌, nat_lt, if◌then◌else◌, List, [], ◌∷◌, ◌++◌, length, map, take, drop, Option, Some, unwrap_or, option_to_list}
+use Rattle.std.specs.Prelude.{ℕ, suc, ℤ, pos, negsuc, ◌-ℤ◌, ◌+◌, ◌-◌, ◌*◌, ◌/◌, ◌%◌, ◌^◌, ◌==◌, nat_lt, if◌then◌else◌}
+use Rattle.std.specs.Prelude.{List, [], ◌∷◌, ◌++◌, length, map, take, drop, Option, Some, unwrap_or, option_to_list}
 use Rattle.std.specs.List.{flat_map, concat, find, zip}
 use Rattle.std.specs.Option.{option_map, option_map_or}
 use Rattle.dexspec.specs.Lists.{rank, zip_with}
 use Rattle.dexspec.specs.Bytes.{bytes_of, ushort, uint}
 use Rattle.dexspec.specs.Numbers.{uleb128, sleb128, uleb128p1, magnitude}
 use Rattle.dexspec.specs.Texts.{Text, text_cmp}
-use Rattle.dexspec.specs.Symbols.{Proto, Field, Method, Symbol, TextSymbol, TypeSymbol, ProtoSymbol, FieldSymbol, MethodSymbol, proto_cmp, field_cmp, method_cmp}
+use Rattle.dexspec.specs.Symbols.{Proto, Field, Method, Symbol, TextSymbol, TypeSymbol, ProtoSymbol, FieldSymbol}
+use Rattle.dexspec.specs.Symbols.{MethodSymbol, proto_cmp, field_cmp, method_cmp}
 use Rattle.dexspec.specs.Pieces.{Piece, Instruction, units_of, with_index}
 use Rattle.dexspec.specs.Code.{Catch, Handler, Try, Code, same_handler, handlers_of}
-use Rattle.dexspec.specs.Debug.{Operation, AdvancePc, AdvanceLine, StartLocal, StartLocalExtended, EndLocal, RestartLocal, SetPrologueEnd, SetEpilogueBegin, SetFile, Special, Debug}
-use Rattle.dexspec.specs.Values.{Value, ByteValue, ShortValue, CharValue, IntValue, LongValue, FloatValue, DoubleValue, StringValue, TypeValue, FieldValue, MethodValue, EnumValue, ArrayValue, AnnotationValue, NullValue, BooleanValue, Values, NoValues, ThenValue, Elements, NoElements, ThenElement, count_values, names_of, value_byte}
+use Rattle.dexspec.specs.Debug.{Operation, AdvancePc, AdvanceLine, StartLocal, StartLocalExtended, EndLocal}
+use Rattle.dexspec.specs.Debug.{RestartLocal, SetPrologueEnd, SetEpilogueBegin, SetFile, Special, Debug}
+use Rattle.dexspec.specs.Values.{Value, ByteValue, ShortValue, CharValue, IntValue, LongValue, FloatValue, DoubleValue}
+use Rattle.dexspec.specs.Values.{StringValue, TypeValue, FieldValue, MethodValue, EnumValue, ArrayValue}
+use Rattle.dexspec.specs.Values.{AnnotationValue, NullValue, BooleanValue, Values, NoValues, ThenValue, Elements}
+use Rattle.dexspec.specs.Values.{NoElements, ThenElement, count_values, names_of, value_byte}
 use Rattle.dexspec.specs.Annotations.{Annotation}
 use Rattle.dexspec.specs.Classes.{FieldDef, MethodDef, Definition}
 use Rattle.dexspec.specs.Mentions.{Mentions, field_of, method_of}

@@ -1,12 +1,12 @@
 -- Texts: lists of 16-bit units, and their bytes as MUTF-8. Source: "Dalvik Executable format", "MUTF-8 (Modified UTF-8)
 -- encoding" and "string_data_item". This project's rule: each unit, also a surrogate, is encoded by itself in the one
 -- form that `form` gives, and a surrogate need not have a partner.
-use Rattle.std.specs.Prelude.{◌≡◌, ℕ, ◌+◌, ◌/◌, ◌%◌, ◌^◌, ◌<◌, Bool, List, [], ◌∷◌, ◌++◌, length, drop, All, if◌then◌else◌, nat_lt, ◌==◌}
+use Rattle.std.specs.Prelude.{◌≡◌, ℕ, ◌+◌, ◌/◌, ◌%◌, ◌^◌, ◌<◌, Bool, List, [], ◌∷◌, ◌++◌, length, drop, All}
+use Rattle.std.specs.Prelude.{if◌then◌else◌, nat_lt, ◌==◌}
 use Rattle.std.specs.List.{flat_map}
 use Rattle.std.specs.Ordering.{nat_cmp}
 use Rattle.std.specs.Cmp.Lexicographic.{slice_cmp, pointwise}
 use Rattle.std.specs.declared.cmp.Ordering.{Ordering}
-use Rattle.dexspec.specs.Lists.{Item}
 use Rattle.dexspec.specs.Numbers.{IsUleb128, BeginsWith, uleb128}
 
 -- A text: the list of its units.
@@ -45,7 +45,7 @@ pub record IsStringData (bytes : List ℕ) (s : Text) : Type 0 where
   pub parts : bytes ≡ count ++ (spelling s ++ 0 ∷ [])
 
 -- a string_data_item of the text is at offset o of b, in n bytes
-abbrev pub StringDataAt : Item Text
+abbrev pub StringDataAt : List ℕ → ℕ → Text → ℕ → Type 0
 StringDataAt b o s n = BeginsWith IsStringData (drop o b) s n
 
 -- the shortest string_data_item of the text

@@ -1,8 +1,9 @@
 -- Encoded values, arrays and annotations. Source: "Dalvik Executable format", "encoded_value encoding", "Value
 -- formats", "encoded_array format", "encoded_annotation format". This project's rules: every width up to the type's own
 -- is accepted, and arrays and annotations nest at most 32 deep.
-use Rattle.std.specs.Prelude.{◌≡◌, ℕ, ℤ, ◌+◌, ◌-◌, ◌*◌, ◌^◌, ◌<◌, ◌≤◌, max, Bool, if◌then◌else◌, IsTrue, List, [], ◌∷◌, length}
-use Rattle.dexspec.specs.Lists.{Item, rises}
+use Rattle.std.specs.Prelude.{◌≡◌, ℕ, ℤ, ◌+◌, ◌-◌, ◌*◌, ◌^◌, ◌<◌, ◌≤◌, max, Bool, if◌then◌else◌, IsTrue, List, [], ◌∷◌}
+use Rattle.std.specs.Prelude.{length}
+use Rattle.dexspec.specs.Lists.{rises}
 use Rattle.dexspec.specs.Bytes.{number_of, signed_in, BytesAt}
 use Rattle.dexspec.specs.Numbers.{Uleb128At}
 use Rattle.dexspec.specs.Texts.{Text, text_cmp}
@@ -11,7 +12,8 @@ use Rattle.dexspec.specs.Header.{data_off}
 use Rattle.dexspec.specs.Rows.{StringRow, TypeRow, FieldRow, MethodRow}
 
 -- A value is a tree. A char is a number; floats are their bit patterns; an enum is a field. The elements of an
--- annotation are in order of name.
+-- annotation are in order of name. The values of an array and the elements of an annotation are lists of their own, so
+-- that what is defined by cases of values recurs into them.
 mutual
   pub data Value : Type 0 where
     ByteValue ShortValue IntValue LongValue : (number : ℤ) → Value
@@ -81,22 +83,23 @@ pub record SizedAt (code width : ℕ) (b : List ℕ) (o : ℕ) (bytes : List ℕ
   pub size : n ≡ 1 + length bytes
 
 -- a signed number, extended by the sign of its highest byte
-abbrev pub SignedAt : ℕ → ℕ → Item ℤ
+abbrev pub SignedAt : ℕ → ℕ → List ℕ → ℕ → ℤ → ℕ → Type 0
 SignedAt code width b o z n = (x : List ℕ) × SizedAt code width b o x n × (z ≡ signed_in (length x) (number_of x))
 
 -- an unsigned number
-abbrev pub UnsignedAt : ℕ → ℕ → Item ℕ
+abbrev pub UnsignedAt : ℕ → ℕ → List ℕ → ℕ → ℕ → ℕ → Type 0
 UnsignedAt code width b o v n = (x : List ℕ) × SizedAt code width b o x n × (v ≡ number_of x)
 
 -- a bit pattern, with zeros at its low end
-abbrev pub BitsAt : ℕ → ℕ → Item ℕ
+abbrev pub BitsAt : ℕ → ℕ → List ℕ → ℕ → ℕ → ℕ → Type 0
 BitsAt code width b o v n = (x : List ℕ) × SizedAt code width b o x n × (v ≡ 256 ^ (width - length x) * number_of x)
 
 -- the index of a row that has the value
-abbrev pub IndexAt : {X : Type 0} → ℕ → (List ℕ → ℕ → X → Type 0) → Item X
+abbrev pub IndexAt : {X : Type 0} → ℕ → (List ℕ → ℕ → X → Type 0) → List ℕ → ℕ → X → ℕ → Type 0
 IndexAt code Row b o x n = (i : ℕ) × UnsignedAt code 4 b o i n × Row b i x
 
--- an encoded_array of `count` values is at offset o; `ValuesFrom` relates the offset and the size of the values
+-- An encoded_array of `count` values is at offset o. `ValuesFrom` relates the offset and the size of the values: it is
+-- an argument since `ValueAt`, which says it of values, is itself defined by this.
 abbrev pub ArrayAround : (ℕ → ℕ → Type 0) → ℕ → List ℕ → ℕ → ℕ → Type 0
 ArrayAround ValuesFrom count b o n = (i j : ℕ) × Uleb128At b o count i × ValuesFrom (o + i) j × (n ≡ i + j)
 
@@ -141,11 +144,11 @@ abbrev mutual
       × ValueAt b (o + i) v j × ElementsAt b (o + i + j) es k × (n ≡ i + j + k)
 
 -- an encoded_array is at offset o
-abbrev pub EncodedArrayAt : Item Values
+abbrev pub EncodedArrayAt : List ℕ → ℕ → Values → ℕ → Type 0
 EncodedArrayAt b o vs n = ArrayAround (λ p k. ValuesAt b p vs k) (count_values vs) b o n
 
 -- an encoded_annotation is at offset o
-abbrev pub EncodedAnnotationAt : Text → Item Elements
+abbrev pub EncodedAnnotationAt : Text → List ℕ → ℕ → Elements → ℕ → Type 0
 EncodedAnnotationAt t b o es n = AnnotationAround (λ p k. ElementsAt b p es k) t (names_of es) b o n
 
 -- ---- in the data

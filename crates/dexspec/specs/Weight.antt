@@ -5,9 +5,12 @@ use Rattle.std.specs.List.{flat_map}
 use Rattle.dexspec.specs.Texts.{Text}
 use Rattle.dexspec.specs.Symbols.{Proto}
 use Rattle.dexspec.specs.Pieces.{units_of}
-use Rattle.dexspec.specs.Debug.{Operation, StartLocal, StartLocalExtended, SetPrologueEnd, SetEpilogueBegin, Special, Debug}
+use Rattle.dexspec.specs.Debug.{Operation, AdvancePc, AdvanceLine, StartLocal, StartLocalExtended, EndLocal}
+use Rattle.dexspec.specs.Debug.{RestartLocal}
+use Rattle.dexspec.specs.Debug.{SetPrologueEnd, SetEpilogueBegin, SetFile, Special, Debug}
 use Rattle.dexspec.specs.Code.{Try, Code, handlers_of, handlers_weight}
-use Rattle.dexspec.specs.Values.{Value, ArrayValue, AnnotationValue, Values, NoValues, ThenValue, Elements, NoElements, ThenElement}
+use Rattle.dexspec.specs.Values.{Value, ArrayValue, AnnotationValue, Values, NoValues, ThenValue, Elements, NoElements}
+use Rattle.dexspec.specs.Values.{ThenElement}
 use Rattle.dexspec.specs.Annotations.{Annotation, AnnotationSet}
 use Rattle.dexspec.specs.Classes.{FieldDef, MethodDef, Body, Definition, declared_fields, declared_methods}
 use Rattle.dexspec.specs.Mentions.{Mentions, mentions}
@@ -32,12 +35,16 @@ mentions_weight m =
 
 -- the number of operands of an operation; a special operation has none
 abbrev pub operands : Operation → ℕ
+operands (AdvancePc addresses) = 1
+operands (AdvanceLine lines) = 1
 operands (StartLocal register name type) = 3
 operands (StartLocalExtended register name type signature) = 4
+operands (EndLocal register) = 1
+operands (RestartLocal register) = 1
 operands SetPrologueEnd = 0
 operands SetEpilogueBegin = 0
+operands (SetFile name) = 1
 operands (Special opcode) = 0
-operands _ = 1
 
 -- a debug_info_item
 abbrev pub debug_weight : Debug → ℕ

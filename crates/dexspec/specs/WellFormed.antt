@@ -8,11 +8,15 @@ use Rattle.std.specs.declared.cmp.Ordering.{Ordering}
 use Rattle.dexspec.specs.Lists.{rises}
 use Rattle.dexspec.specs.Texts.{Text, AreUnits, text_cmp}
 use Rattle.dexspec.specs.Names.{IsDescriptor, IsClass, IsMemberName, IsValueType}
-use Rattle.dexspec.specs.Symbols.{Proto, Symbol, TextSymbol, TypeSymbol, ProtoSymbol, FieldSymbol, MethodSymbol, IsProto, IsField, IsMethod, proto_cmp}
+use Rattle.dexspec.specs.Symbols.{Proto, Symbol, TextSymbol, TypeSymbol, ProtoSymbol, FieldSymbol, MethodSymbol}
+use Rattle.dexspec.specs.Symbols.{IsProto, IsField, IsMethod, proto_cmp}
 use Rattle.dexspec.specs.Pieces.{Cut, IsCode, Piece, DenotesPiece, units_of, cut_units}
-use Rattle.dexspec.specs.Debug.{Operation, AdvancePc, AdvanceLine, StartLocal, StartLocalExtended, EndLocal, RestartLocal, Special, Debug}
+use Rattle.dexspec.specs.Debug.{Operation, AdvancePc, AdvanceLine, StartLocal, StartLocalExtended, EndLocal}
+use Rattle.dexspec.specs.Debug.{RestartLocal, Special, Debug}
 use Rattle.dexspec.specs.Code.{Handler, Try, Code, IsStart, AreApart, handlers_of, handlers_weight, most_handlers}
-use Rattle.dexspec.specs.Values.{Value, ByteValue, ShortValue, CharValue, IntValue, LongValue, FloatValue, DoubleValue, ArrayValue, AnnotationValue, Values, NoValues, ThenValue, Elements, NoElements, ThenElement, names_of, count_values, values_depth, elements_depth, most_depth}
+use Rattle.dexspec.specs.Values.{Value, ByteValue, ShortValue, CharValue, IntValue, LongValue, FloatValue, DoubleValue}
+use Rattle.dexspec.specs.Values.{ArrayValue, AnnotationValue, Values, NoValues, ThenValue, Elements, NoElements}
+use Rattle.dexspec.specs.Values.{ThenElement, names_of, count_values, values_depth, elements_depth, most_depth}
 use Rattle.dexspec.specs.Annotations.{Annotation, AnnotationSet}
 use Rattle.dexspec.specs.ClassData.{ShareNone}
 use Rattle.dexspec.specs.Classes.{FieldDef, MethodDef, Definition, declared_fields, declared_methods}
@@ -41,7 +45,7 @@ IsSymbol (MethodSymbol m) = IsMethod m
 
 -- ---- code
 
--- the pieces are the cuts of their joined units, with zero for each index
+-- the pieces are the cuts of their joined units, in which zero stands for each symbol
 pub record ArePieces (ps : List Piece) (cuts : List Cut) : Type 0 where
   pub code : IsCode (flat_map units_of ps) cuts
   pub pieces : AllZip (λ c p. DenotesPiece (λ i s. i ≡ 0) (cut_units (flat_map units_of ps) c) p) cuts ps

@@ -6,11 +6,16 @@ use Rattle.std.proofs.Common.{refl, sym, ap, subst}
 use Rattle.std.specs.Coded.{Coded, code_by, coded×, coded_ℕ, coded_ℤ, coded_bool, coded_list, coded_option}
 use base.Stored.{Gv, gnil, gnum, gcons}
 use Rattle.dexspec.specs.Texts.{Text}
-use Rattle.dexspec.specs.Symbols.{Proto, Field, Method, Symbol, TextSymbol, TypeSymbol, ProtoSymbol, FieldSymbol, MethodSymbol}
+use Rattle.dexspec.specs.Symbols.{Proto, Field, Method, Symbol, TextSymbol, TypeSymbol, ProtoSymbol, FieldSymbol}
+use Rattle.dexspec.specs.Symbols.{MethodSymbol}
 use Rattle.dexspec.specs.Pieces.{Piece, Instruction, Payload}
-use Rattle.dexspec.specs.Debug.{Operation, AdvancePc, AdvanceLine, StartLocal, StartLocalExtended, EndLocal, RestartLocal, SetPrologueEnd, SetEpilogueBegin, SetFile, Special, Debug}
+use Rattle.dexspec.specs.Debug.{Operation, AdvancePc, AdvanceLine, StartLocal, StartLocalExtended, EndLocal}
+use Rattle.dexspec.specs.Debug.{RestartLocal, SetPrologueEnd, SetEpilogueBegin, SetFile, Special, Debug}
 use Rattle.dexspec.specs.Code.{Catch, Handler, Try, Code}
-use Rattle.dexspec.specs.Values.{Value, ByteValue, ShortValue, CharValue, IntValue, LongValue, FloatValue, DoubleValue, StringValue, TypeValue, FieldValue, MethodValue, EnumValue, ArrayValue, AnnotationValue, NullValue, BooleanValue, Values, NoValues, ThenValue, Elements, NoElements, ThenElement}
+use Rattle.dexspec.specs.Values.{Value, ByteValue, ShortValue, CharValue, IntValue, LongValue, FloatValue, DoubleValue}
+use Rattle.dexspec.specs.Values.{StringValue, TypeValue, FieldValue, MethodValue, EnumValue, ArrayValue}
+use Rattle.dexspec.specs.Values.{AnnotationValue, NullValue, BooleanValue, Values, NoValues, ThenValue, Elements}
+use Rattle.dexspec.specs.Values.{NoElements, ThenElement}
 use Rattle.dexspec.specs.Annotations.{Annotation, AnnotationSet}
 use Rattle.dexspec.specs.Classes.{FieldDef, MethodDef, Body, Definition}
 use Rattle.dexspec.specs.Files.{Collection}

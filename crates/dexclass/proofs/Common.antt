@@ -26,17 +26,17 @@ pub use Rattle.dexmembers.specs.declared.class_def.ClassDef.{ClassDef}
 pub use Rattle.dexorder.proofs.DefinitionDepths.{all_known, same_from_equal}
 pub use Rattle.dexorder.specs.Definitions.{AreClassesOf, AreDepthsOf, AreNamesOf, name_at}
 pub use Rattle.dexorder.specs.Depths.{AreDepths, AreWithin, parents_of}
-pub use Rattle.dexpool.proofs.Bytes.{uint_at_row, ushort_at_rest}
+pub use Rattle.dexids.proofs.Bytes.{uint_at_row, ushort_at_rest}
 pub use Rattle.dexpool.proofs.KeptRows.{kept_from, kept_has, mark_within}
 pub use Rattle.dexpool.proofs.Pairs.{map_both, zip_at, zip_length, zip_push, zip_source, zip_target}
 pub use Rattle.dexpool.proofs.Parts.{all_back, all_map, all_prefix}
-pub use Rattle.dexpool.proofs.TypeLists.{appended_more, if_ok_map}
+pub use Rattle.dexids.proofs.TypeLists.{appended_more, if_ok_map}
 pub use Rattle.dexpool.proofs.Visits.{marked_both, still_all}
 pub use Rattle.dexpool.specs.Numberings.{AllMapTo, AreMarksOf, AreRising, IsAt, IsNumbered, IsNumbering, IsOfKind, Maps, MapsTo, image, marked}
 pub use Rattle.dexpool.specs.Pools.{AreAll, ArePools}
 pub use Rattle.dexpool.specs.Uses.{AreMarkedToo, HasMark, IsMappedUse, IsMarkedUse, IsUseOf, MapsMarked, Use, marks_of, occurs, same_kind}
 pub use Rattle.dexpool.specs.declared.faults.ItemFault.{ItemFault}
-pub use Rattle.dexpool.specs.declared.faults.ReadFault.TheVariants.{Memory, Refused}
+pub use Rattle.dexids.specs.declared.faults.ReadFault.TheVariants.{Memory, Refused}
 pub use Rattle.dexpool.specs.declared.marks.Marks.{Marks}
 pub use Rattle.dexpool.specs.declared.symbols.SymbolKind.{SymbolKind}
 pub use Rattle.dexspec.proofs.determined.Denoted.{AreReadable, HasClasses, defined_rows, denoted_rows, has_classes, rows_define, rows_denote, same_class_row}

@@ -2,7 +2,7 @@
 use Rattle.std.specs.Prelude.{◌/◌}
 use Rattle.dexclass.proofs.Common.{◌≡◌, ◌≢◌, ℕ, ◌+◌, ◌-◌, ◌*◌, ◌<◌, ◌≤◌, ◌↔◌, List, [], ◌∷◌, length, drop, refl, sym, ap, ◌∙◌, subst, arith, inl, inr, All, AllZip, ne_eqb, All-cons, All-tail, uint_at, ushort_at, ushorts_at, Text, IsClass, TypeRow, type_indices, OrNone, ClassListAt, interfaces_off, IsDefinedBefore, ushort_at_rest, IsClassDef, ClassDef, length-ushorts_at}
 use Rattle.dexrows.proofs.Shorts.{short_of}
-use Rattle.dexpool.specs.Reading.{HasRoom}
+use Rattle.dexids.specs.Reading.{HasRoom}
 use Rattle.dexclass.specs.internal.Checked.{AreInterfacesIn}
 use Rattle.dexclass.specs.internal.Rows.{IsClassIndex, IsInterfaceIndex, interface_indices, HasInterfaceList, HasInterfaces}
 

@@ -2,7 +2,7 @@
 use Rattle.dexclass.proofs.Common.{◌≡◌, ℕ, zero, suc, ◌+◌, ◌*◌, ◌-◌, ◌<◌, ◌≤◌, List, [], ◌∷◌, length, map, refl, sym, ap, subst, arith, inl, inr, ClassDefs, table_size, Definition, class_idx, interfaces_off, Mentions, mentions, weight, mentions_weight, most_weight, Condition, number, HasClass, HoldBelow, AreRows, FailsAt, place, rows_checked, IsRefused, AreReadable, ArePools, ItemFault, Refused, Memory, AreHeavyMembers, IsMembersFault, IsMembersFaultWithin}
 use Rattle.std.proofs.Math.Nat.{eq-or-lt_of_le}
 use Rattle.dexpool.specs.declared.faults.ItemFault.TheVariants as items
-use Rattle.dexpool.specs.declared.faults.ReadFault.{ReadFault}
+use Rattle.dexids.specs.declared.faults.ReadFault.{ReadFault}
 use Rattle.dexclass.specs.internal.Rows.{IsClassFault, interface_indices}
 use Rattle.dexclass.specs.internal.Checked.{IsFaultAtRow}
 use Rattle.dexclass.specs.{type_at, definition_of, IsFaultOf}

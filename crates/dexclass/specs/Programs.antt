@@ -9,8 +9,8 @@ use Rattle.dexspec.specs.Depth.{in_class_order}
 use Rattle.dexspec.specs.Merging.{IsGood, greatest_caps}
 use Rattle.dexspec.specs.Accepted.{IsAccepted, IsRefused}
 use Rattle.dexpool.specs.Numberings.{IsAt}
-use Rattle.dexpool.specs.declared.faults.ReadFault.{ReadFault}
-use Rattle.dexpool.specs.declared.faults.ReadFault.TheVariants.{Refused, Memory}
+use Rattle.dexids.specs.declared.faults.ReadFault.{ReadFault}
+use Rattle.dexids.specs.declared.faults.ReadFault.TheVariants.{Refused, Memory}
 use Rattle.dexspec.specs.Weight.{weight}
 use Rattle.dexclass.specs.Numbered.{NumberedClass, definition_of}
 use Rattle.dexclass.specs.Uses.{IsKnownClass}

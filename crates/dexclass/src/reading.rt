@@ -5,7 +5,7 @@ ghost use Rattle.dexspec.specs.Header.{ClassDefs, table_size};
 ghost use Rattle.dexspec.specs.Accepted.{HoldBelow};
 ghost use Rattle.dexspec.specs.Weight.{most_weight};
 ghost use Rattle.dexpool.specs.Pools.{ArePools};
-ghost use Rattle.dexpool.specs.declared.faults.ReadFault.TheVariants.{Refused};
+ghost use Rattle.dexids.specs.declared.faults.ReadFault.TheVariants.{Refused};
 ghost use Rattle.dexclass.specs.internal.Rows.{HasInterfaceList, interface_indices};
 ghost use Rattle.dexclass.specs.internal.Checked.{IsFaultAtRow};
 ghost use Rattle.dexclass.specs.Programs.{IsReadAs, IsFaultOf};

@@ -5,8 +5,8 @@ use Rattle.std.specs.List.{AllZip}
 use Rattle.dexspec.specs.Files.{Collection}
 use Rattle.dexspec.specs.Accepted.{IsRefused}
 use Rattle.dexclass.specs.Programs.{IsReadAs, IsFaultOf}
-use Rattle.dexpool.specs.declared.faults.ReadFault.{ReadFault}
-use Rattle.dexpool.specs.declared.faults.ReadFault.TheVariants.{Refused, Memory}
+use Rattle.dexids.specs.declared.faults.ReadFault.{ReadFault}
+use Rattle.dexids.specs.declared.faults.ReadFault.TheVariants.{Refused, Memory}
 use Rattle.dexkit_c.specs.Calls.{AreReadAs}
 use Rattle.dexruns.specs.declared.faults.MergeCause.{MergeCause}
 use Rattle.dexruns.specs.declared.faults.RunFault.{RunFault}

@@ -4,8 +4,8 @@ use Rattle.std.specs.List.{flat_map}
 use Rattle.dexspec.specs.Files.{Collection, definitions}
 use Rattle.dexspec.specs.Accepted.{IsRefused}
 use Rattle.dexspec.specs.Merging.{Caps, Plan}
-use Rattle.dexpool.specs.declared.faults.ReadFault.{ReadFault}
-use Rattle.dexpool.specs.declared.faults.ReadFault.TheVariants as read
+use Rattle.dexids.specs.declared.faults.ReadFault.{ReadFault}
+use Rattle.dexids.specs.declared.faults.ReadFault.TheVariants as read
 use Rattle.dexruns.specs.Counts.{IsCauseUnderAnyCaps}
 use Rattle.dexruns.specs.Fans.{IsFanPlan}
 use Rattle.dexruns.specs.Lines.{cause_text, exit_status}

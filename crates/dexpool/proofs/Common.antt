@@ -9,9 +9,7 @@ pub use Rattle.std.specs.Cmp.{IsTotalOrder, nat_cmp_is}
 pub use Rattle.std.specs.Cmp.Lexicographic.{slice_cmp}
 pub use Rattle.std.specs.List.{All, AllZip, Contains, FoldsTo, flat_map, swap}
 pub use Rattle.std.specs.Ordering.{is_lt, nat_cmp, ordering_reverse, ordering_then}
-pub use Rattle.std.specs.Prelude.{IfOk, Result, if◌then◌else◌, slice_get}
 pub use Rattle.dexrows.proofs.Composing.{all_seen, at_rest, holds_at_rest}
-pub use Rattle.dexrows.proofs.Shorts.{key_agrees, key_at, key_differs, key_ended, short_of}
 pub use Rattle.dexrows.specs.Join.{AreSorted, IsImage, IsJoin, IsOfParts, row_cmp}
 pub use Rattle.dexrows.specs.Numbers.{Among, Lower, ProtoNumbers, RiseAmong, RisesOn, lower_of}
 pub use Rattle.dexrows.specs.declared.fields.FieldRow.{FieldRow}
@@ -22,11 +20,7 @@ pub use Rattle.dexspec.proofs.lists.Mapped.{All-among, Contains-map_source}
 pub use Rattle.dexspec.proofs.lists.Members.{AreAmong, Contains-cons_cases, Contains-first, Contains-flat_map, Contains-flat_map_source, Contains-later, Contains-nil, and_both, length-among, list_any-member}
 pub use Rattle.dexspec.proofs.merge.Depths.{Contains-map}
 pub use Rattle.dexspec.proofs.merge.SymbolOrders.{field_exact, field_total, method_exact, method_total, proto_exact, proto_total, text_exact, text_total}
-pub use Rattle.dexspec.proofs.wellformed.FormedRows.{length-ushorts_at}
-pub use Rattle.dexspec.specs.Accepted.{HoldBelow, Holds, HoldsThroughout, IsFrame, number, rows_checked}
-pub use Rattle.dexspec.specs.Bytes.{number_of, ushorts_at}
 unfoldable pub use Rattle.dexspec.specs.Bytes.{uint_at, ushort_at}
-pub use Rattle.dexspec.specs.Conditions.{Condition}
 pub use Rattle.dexspec.specs.Header.{FieldIds, MethodIds, ProtoIds, StringIds, TypeIds, table_size}
 pub use Rattle.dexspec.specs.Lists.{OrNone, in_order, rank, rises}
 pub use Rattle.dexspec.specs.Mentions.{Mentions, closed, fields_in, mentions, methods_in, proto_types, protos_in, texts_in, types_in}
@@ -35,20 +29,18 @@ pub use Rattle.dexspec.specs.Rows.{Follows, HasField, HasMethod, HasProto, HasRo
 pub use Rattle.dexspec.specs.Symbols.{Field, FieldSymbol, IsField, IsMethod, IsProto, Method, MethodSymbol, Proto, ProtoSymbol, Symbol, TextSymbol, TypeSymbol, field_cmp, method_cmp, proto_cmp}
 pub use Rattle.dexspec.specs.Texts.{StringDataAt, Text, spelling, text_cmp}
 pub use Rattle.dexspec.specs.Weight.{mentions_weight, proto_weight, text_weight}
-pub use Rattle.dexstr.specs.Units.{IsAscii}
 pub use Rattle.std.specs.FinMap.{IsAntisymmetric}
-pub use Rattle.dexpool.specs.{AllMapTo, AllRanksGrow, AllTypes, AreAll, AreFields, AreMarkedToo, AreMarksOf, AreMethodNames, AreMethods, AreNames, ArePools, AreProtos, AreRising, AreTables, AreTexts, AreTypes, DenotesField, DenotesMethod, DenotesProto, FieldRowAt, HasFieldNumbers, HasFieldParts, HasIndices, HasMark, HasMethodNumbers, HasMethodParts, HasProtoParts, HasRoom, HasSpan, IsAt, IsFault, IsFieldRow, IsListed, IsMapped, IsMappedUse, IsMarkedUse, IsMethodRow, IsNumbered, IsNumbering, IsOfKind, IsParameter, IsPlaced, IsPoolRefusal, IsProtoEntry, IsText, IsType, IsTypeNumber, IsTypeOf, IsUseOf, KeepsOrder, Maps, MapsAll, MapsDown, MapsMarked, MapsTo, MapsUse, MapsWithin, MethodRowAt, ProtoRowAt, RanksAreNumbers, RanksArePlaces, RanksGrow, ReadTo, TypeRowAt, Use, count_of, field_key, field_of, file_numbers, image, image_in, is_above_last, kept, letters_of, listed, marked, marks_of, method_key, method_of, occurs, places, proto_at, proto_of, same_kind, span_of, stored_field, stored_method, stored_proto, stored_type, symbols_in, symbols_of, text_of, type_cmp, type_of, union_of}
-pub use Rattle.dexpool.specs.declared.protos.CheckedList.{CheckedList}
+pub use Rattle.dexids.specs.Reading.{AreNames, AreProtos, AreTexts, FieldRowAt, HasSpan, MethodRowAt, ProtoRowAt, ReadTo, TypeRowAt, file_numbers, listed}
+pub use Rattle.dexids.specs.Tables.{field_key, field_of, method_key, method_of, proto_at, proto_of, span_of, text_of, type_cmp, type_of}
+pub use Rattle.dexpool.specs.{AllMapTo, AllRanksGrow, AreAll, AreMarkedToo, AreMarksOf, ArePools, AreRising, AreTables, DenotesField, DenotesMethod, DenotesProto, HasFieldParts, HasMark, HasMethodParts, HasProtoParts, IsAt, IsFieldRow, IsMapped, IsMappedUse, IsMarkedUse, IsMethodRow, IsNumbered, IsNumbering, IsOfKind, IsProtoEntry, IsTypeNumber, IsTypeOf, IsUseOf, KeepsOrder, Maps, MapsAll, MapsDown, MapsMarked, MapsTo, MapsUse, MapsWithin, RanksAreNumbers, RanksArePlaces, RanksGrow, Use, count_of, image, image_in, kept, marked, marks_of, occurs, places, same_kind, stored_field, stored_method, stored_proto, stored_type, symbols_in, symbols_of, union_of}
 pub use Rattle.dexpool.specs.declared.marks.Marks.{Marks}
-pub use Rattle.dexpool.specs.declared.rows.ProtoEntry.{ProtoEntry}
-pub use Rattle.dexpool.specs.declared.rows.Span.{Span}
+pub use Rattle.dexids.specs.declared.rows.ProtoEntry.{ProtoEntry}
+pub use Rattle.dexids.specs.declared.rows.Span.{Span}
 pub use Rattle.dexpool.specs.declared.symbols.SymbolKind.{SymbolKind}
 pub use Rattle.dexpool.specs.declared.numbering.Tables.{Tables}
-pub use Rattle.dexpool.specs.internal.CheckedLists.{AreLetters, IsChecked, IsLetter, IsNotVoid, AreThese, IsSpelled, NoVoid, NotListedAs, SpellNumbers, letter_in, letters_in}
 pub use Rattle.dexpool.specs.internal.Closing.{AreClosed, AreClosure, HasMarkedEntry, HasMarkedField, HasMarkedMethod, IsCut, IsMarked, entry_types, field_types, kept_places, kept_symbols, mark_all, new_numbers, number_or_none}
 pub use Rattle.dexpool.specs.internal.Joining.{AreJoinedFields, AreJoinedMethods, AreJoinedProtos, AreJoinedTexts, AreJoinedTypes, AreMapsOf, Denote, HasShorty, IsRowOf, IsUnion, Moves, lists_in, numberings_of, proto_of_row, HavePart, HaveSameParts, SameFrom, image_at, total_maps}
 pub use Rattle.dexpool.specs.internal.Marking.{HaveAllMarks}
 pub use Rattle.dexpool.specs.internal.Ranking.{ComeFirst, PassBelow}
-pub use Rattle.dexpool.specs.internal.ReadRows.{DecidesNext, IsOfPools}
 pub use Rattle.dexpool.specs.internal.Renumbering.{HasSpans, IsEntryWithin, IsFieldWithin, IsMethodWithin, StaySorted, moved_field, moved_method, moved_proto, moved_type, numbers_in, numbers_of}
 pub use Rattle.dexpool.specs.internal.SharedLists.{Covers, IsPlaceWithin}

@@ -2,8 +2,8 @@
 use Rattle.dexpool.proofs.Common.{◌≡◌, ℕ, ◌<◌, true, List, [], ◌∷◌, length, map, refl, sym, ap, ◌∙◌, subst, All, AllZip, flat_map, ordering_then, nat_cmp, IsTotalOrder, slice_cmp, IsAntisymmetric, Ordering, map-id, All-map, rises, Text, text_cmp, Mentions, rises-in_order, text_total, text_exact, proto_total, proto_exact, field_total, field_exact, method_total, method_exact, row_cmp, IsJoin, ProtoNumbers, FieldRow, MethodRow, ProtoEntry, text_of, type_of, proto_of, field_of, method_of, type_cmp, field_key, method_key, IsNumbering, numbers_of, numbers_in, HasSpans, IsFieldWithin, IsMethodWithin, IsUnion, Denote, AreJoinedTexts, AreJoinedTypes, AreJoinedProtos, AreJoinedFields, AreJoinedMethods, proto_of_row, IsRowOf}
 use Rattle.dexspec.specs.Symbols as symbols
 use Rattle.dexrows.specs.declared.types.TypeRow.{TypeRow}
-use Rattle.dexpool.specs.declared.protos.Protos.{Protos}
-use Rattle.dexpool.specs.{proto_cmp}
+use Rattle.dexpool.specs.declared.renumbering.Protos.{Protos}
+use Rattle.dexids.specs.Tables.{proto_cmp}
 use Rattle.dexpool.proofs.Moved.{entries_of}
 use Rattle.dexpool.proofs.NumberOrder as order
 use Rattle.dexpool.proofs.NumberOrder.{slices-map}

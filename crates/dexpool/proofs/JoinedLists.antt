@@ -1,6 +1,6 @@
 -- Where the parameters of joined rows are: in the lists of the tables, one after the other.
 use Rattle.dexpool.proofs.Common.{◌≡◌, ℕ, ◌+◌, ◌-◌, ◌<◌, List, [], ◌++◌, length, get_or, take, drop, set, refl, sym, ap, ◌∙◌, subst, arith, inl, inr, slice_index, Contains, length-append, length-map, drop_at, drop-drop, get_or-map, get_or-set_same, get_or-set_other, get_or_default, cases_eq, cases_order, on_total, key_cmp, text_total, Rises-from_rises, Rises-places, irreflexive, row_cmp, IsImage, IsJoin, ProtoNumbers, ProtoEntry, Span, span_of, HasSpan, HasSpans, numbers_of, numbers_in}
-use Rattle.dexpool.specs.declared.protos.Protos.{Protos}
+use Rattle.dexpool.specs.declared.renumbering.Protos.{Protos}
 use Rattle.dexpool.specs.internal.Joining.{proto_key}
 use Rattle.dexpool.specs.internal.SharedLists.{HasParametersOf, AreImages, shifted}
 use Rattle.dexpool.proofs.Pairs.{zip_target}

@@ -1,7 +1,7 @@
 -- The marked rows of tables, renumbered: tables of the marked symbols.
 use Rattle.dexpool.proofs.Common.{◌≡◌, ℕ, ◌<◌, Bool, true, List, length, get_or, map, refl, sym, ap, ◌∙◌, subst, slice_index, Ordering, All, IsTotalOrder, All-weaker, rises, text_cmp, IsDescriptor, Rises-from_rises, rises-from_Rises, text_total, row_cmp, AreSorted, kept, text_of, field_of, method_of, type_cmp, AreMarksOf, symbols_in, stored_proto, stored_field, stored_method, IsProtoEntry, AreTables, Tables, Marks, numbers_of, IsFieldWithin, IsMethodWithin, Denote, proto_of_row, IsRowOf, new_numbers, IsCut, IsMarked, AreClosed, HasMarkedEntry, HasMarkedField, HasMarkedMethod, kept_symbols}
 use Rattle.dexspec.specs.Symbols as symbols
-use Rattle.dexpool.specs.{proto_cmp, field_cmp, method_cmp}
+use Rattle.dexids.specs.Tables.{proto_cmp, field_cmp, method_cmp}
 use Rattle.dexpool.specs.internal.Joining.{proto_key}
 use Rattle.dexpool.proofs.KeptRows.{is_marked, kept_all, kept-map, kept_rises, kept_keeps, length-new_numbers}
 use Rattle.dexpool.proofs.Moved.{Keeps, denote, text_kept, IsEntryAmong, IsFieldAmong, IsMethodAmong, protos_denote, fields_denote, methods_denote, entries_of}

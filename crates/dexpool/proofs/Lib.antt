@@ -1,11 +1,5 @@
 pub mod Common
-pub mod Bytes
-pub mod FirstUnits
-pub mod Refusing
-pub mod Steps
-pub mod Spellings
 pub mod KindCounts
-pub mod TypeLists
 pub mod Ranking
 pub mod Weighing
 pub mod KeptRows
@@ -15,7 +9,7 @@ pub mod KeptSymbols
 pub mod KeptWhole
 pub mod NumberOrder
 pub mod TablesAreAt
-pub mod ReadTables
+pub mod FileTables
 pub mod RowOrder
 pub mod RowParts
 pub mod SameTables
@@ -35,11 +29,7 @@ pub mod Parts
 pub mod Visits
 pub mod Changed
 pub mod KeptNumbers
-pub mod FileLists
-pub mod ListedPlaces
-pub mod SpelledLists
 pub mod StoredImages
 pub mod InPlace
 pub mod CutRows
 pub mod KeptPlaces
-pub mod Tested

@@ -1,7 +1,7 @@
 -- Numbers of rows are in the order of the symbols that the rows denote.
 use Rattle.dexpool.proofs.Common.{◌≡◌, ℕ, ◌<◌, ◌&&◌, true, List, [], ◌∷◌, length, get_or, refl, sym, ap, ◌∙◌, inl, inr, map, All, is_lt, nat_cmp, ordering_then, ordering_reverse, IsTotalOrder, nat_cmp_is, slice_cmp, Ordering, Less, Equal, Greater, cases_order, tied_itself, on_total, nat_list_cmp_total, get_or_default, All-head, All-tail, rises, Text, text_cmp, Rises-from_rises, Rises-places, text_total, FieldRow, MethodRow, ProtoEntry, IsEntryWithin, IsFieldWithin, IsMethodWithin, text_of, type_of, span_of, proto_of, field_of, proto_at, method_of, field_key, method_key, type_cmp}
 use Rattle.dexspec.specs.Symbols as symbols
-use Rattle.dexpool.specs.{proto_key, proto_cmp, field_cmp, method_cmp}
+use Rattle.dexids.specs.Tables.{proto_key, proto_cmp, field_cmp, method_cmp}
 
 -- ---- any list
 

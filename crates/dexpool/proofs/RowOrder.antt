@@ -4,7 +4,7 @@ use Rattle.dexpool.proofs.Common.{◌≡◌, ℕ, Bool, true, false, List, [], �
 use Rattle.dexspec.specs.Symbols as symbols
 use Rattle.dexrows.specs.declared.types.TypeRow.{TypeRow}
 use Rattle.dexpool.proofs.KeptPlaces.{marked_has}
-use Rattle.dexpool.specs.{proto_cmp}
+use Rattle.dexids.specs.Tables.{proto_cmp}
 use Rattle.dexpool.specs.internal.Joining.{proto_key}
 use Rattle.dexpool.proofs.KeptRows.{is_marked, mark_within, new_number, places_keep}
 use Rattle.dexpool.proofs.Mapping.{maps_to}

@@ -1,7 +1,7 @@
 -- What tables whose rows are in range denote: the symbols of a numbering.
 use Rattle.dexpool.proofs.Common.{◌≡◌, ℕ, ◌<◌, true, [], length, get_or, sym, ◌∙◌, subst, inl, inr, map, All, Contains, nat_cmp, All-weaker, All-map, All-contains, Contains-get_or, rises, text_cmp, IsDescriptor, IsValueType, IsProto, IsField, IsMethod, Contains-cons_cases, Contains-map, Contains-map_source, FieldRow, MethodRow, all_seen, ProtoEntry, Tables, text_of, type_of, span_of, proto_of, field_of, proto_at, method_of, type_cmp, symbols_in, stored_type, stored_proto, stored_field, stored_method, IsTypeNumber, IsTypeOf, IsProtoEntry, IsFieldRow, IsMethodRow, AreTables, HasProtoParts, HasFieldParts, HasMethodParts, AreRising, IsNumbering, HasShorty, IsEntryWithin, IsFieldWithin, IsMethodWithin}
 use Rattle.dexspec.specs.Symbols as symbols
-use Rattle.dexpool.specs.{proto_cmp, field_cmp, method_cmp}
+use Rattle.dexids.specs.Tables.{proto_cmp, field_cmp, method_cmp}
 use Rattle.dexpool.proofs.NumberOrder as order
 
 module _ (t : Tables) where

@@ -1,6 +1,3 @@
-pub mod Faults
-pub mod Reading
-pub mod Tables
 pub mod Pools
 pub mod Numberings
 pub mod Stored
@@ -10,12 +7,8 @@ pub mod Orderly
 pub mod Uses
 pub mod Images
 pub mod Packed
-pub mod Lists
 pub mod Cut
 pub mod internal
-unfoldable pub use Faults.*
-unfoldable pub use Reading.*
-unfoldable pub use Tables.*
 unfoldable pub use Pools.*
 unfoldable pub use Numberings.*
 unfoldable pub use Stored.*
@@ -25,5 +18,4 @@ unfoldable pub use Orderly.*
 unfoldable pub use Uses.*
 unfoldable pub use Images.*
 unfoldable pub use Packed.*
-unfoldable pub use Lists.*
 unfoldable pub use Cut.*

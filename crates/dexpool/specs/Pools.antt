@@ -4,12 +4,12 @@ use Rattle.dexspec.specs.Texts.{Text}
 use Rattle.dexspec.specs.Mentions.{Mentions}
 use Rattle.dexspec.specs.Header.{StringIds, TypeIds, ProtoIds, FieldIds, MethodIds, table_size}
 use Rattle.dexspec.specs.Rows as rows
-use Rattle.dexpool.specs.declared.rows.ProtoEntry.{ProtoEntry}
+use Rattle.dexids.specs.declared.rows.ProtoEntry.{ProtoEntry}
 use Rattle.dexrows.specs.declared.fields.FieldRow.{FieldRow}
 use Rattle.dexrows.specs.declared.methods.MethodRow.{MethodRow}
 use Rattle.dexpool.specs.declared.symbols.SymbolKind.{SymbolKind}
 use Rattle.dexpool.specs.declared.symbols.SymbolKind.TheVariants as kinds
-use Rattle.dexpool.specs.Tables.{text_of, proto_of, field_of, method_of}
+use Rattle.dexids.specs.Tables.{text_of, proto_of, field_of, method_of}
 
 -- what the rows of the tables denote
 abbrev pub symbols_of : List Text → List ℕ → List ℕ → List ProtoEntry → List FieldRow → List MethodRow → Mentions

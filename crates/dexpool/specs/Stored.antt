@@ -7,10 +7,10 @@ use Rattle.dexspec.specs.Mentions.{Mentions}
 use Rattle.dexspec.specs.Symbols as symbols
 use Rattle.dexrows.specs.declared.fields.FieldRow.{FieldRow}
 use Rattle.dexrows.specs.declared.methods.MethodRow.{MethodRow}
-use Rattle.dexpool.specs.declared.rows.ProtoEntry.{ProtoEntry}
+use Rattle.dexids.specs.declared.rows.ProtoEntry.{ProtoEntry}
 use Rattle.dexpool.specs.declared.numbering.Tables.{Tables}
-use Rattle.dexpool.specs.Tables.{text_of, type_of, span_of, type_cmp, proto_cmp, field_cmp, method_cmp, proto_of, field_of, method_of}
-use Rattle.dexpool.specs.Reading.{HasSpan}
+use Rattle.dexids.specs.Tables.{text_of, type_of, span_of, type_cmp, proto_cmp, field_cmp, method_cmp, proto_of, field_of, method_of}
+use Rattle.dexids.specs.Reading.{HasSpan}
 use Rattle.dexpool.specs.Pools.{symbols_of}
 
 -- what the tables denote

@@ -1,11 +1,7 @@
 -- Words of the contracts of private functions: no public contract reaches them.
-pub mod Kinds
 pub mod Ranking
 pub mod Renumbering
 pub mod Closing
 pub mod Marking
 pub mod Joining
-pub mod CheckedLists
-pub mod FileRows
-pub mod ReadRows
 pub mod SharedLists

@@ -8,10 +8,9 @@ ghost use Rattle.dexpool.specs.Stored.{symbols_in, AreTables};
 ghost use Rattle.dexpool.specs.internal.Renumbering.{IsEntryWithin, IsFieldWithin};
 ghost use Rattle.dexpool.specs.internal.Closing.{mark_all, field_types, AreClosure, protos_types, HasMethodMarks};
 
-use crate::lists::Parameters;
 use crate::marks::Marks;
 use crate::numbering::Tables;
-use crate::rows::{ProtoEntry, Span};
+use dexids::{Parameters, ProtoEntry, Span};
 use dexrows::{FieldRow, MethodRow};
 use std::alloc::AllocError;
 

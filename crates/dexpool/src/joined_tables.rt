@@ -11,14 +11,13 @@ ghost use Rattle.dexpool.specs.internal.Joining.{JoinsRows, AreTextsOf, AreTypes
 ghost use Rattle.std.specs.List.{AllZip};
 ghost use Rattle.dexpool.specs.Laws.{MapsAll};
 
-use crate::lists::Parameters;
 use crate::numbering::{Numbering, Tables};
-use crate::protos::Protos;
 use crate::remap::{Images, Remap};
 use crate::renumbering::{
-    descriptors, proto_rows, renumbered_protos, renumbered_rows, renumbered_types, sorted_law,
-    stored, stored_together,
+    Protos, descriptors, proto_rows, renumbered_protos, renumbered_rows, renumbered_types,
+    sorted_law, stored, stored_together,
 };
+use dexids::Parameters;
 use dexrows::{FieldRow, Joined, LowerPlaces, MethodRow, ProtoRow, Row, TypeRow, join};
 use dexstr::{KeyedText, Text};
 use std::alloc::{AllocError, Global};

@@ -12,11 +12,11 @@ ghost use Rattle.dexpool.specs.Orderly.{MapsDown};
 ghost use Rattle.dexpool.specs.Uses.{MapsMarked};
 
 use crate::closing::closed;
-use crate::lists::Parameters;
 use crate::marks::Marks;
 use crate::numbering::{Numbering, Tables};
 use crate::remap::{Images, Remap};
 use crate::renumbering::{renumbered_numbers, renumbered_protos, renumbered_rows, sorted_law};
+use dexids::Parameters;
 use dexrows::{FieldRow, LowerPlaces, MethodRow, ProtoRow, Row, TypeRow};
 use std::alloc::{AllocError, Global};
 

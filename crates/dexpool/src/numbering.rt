@@ -7,10 +7,9 @@ ghost use Rattle.dexspec.specs.Symbols.{Proto, Field, Method};
 ghost use Rattle.dexpool.specs.Pools.{count_of};
 ghost use Rattle.dexpool.specs.Numberings.{IsAt, IsNumbering, DenotesProto, DenotesField, DenotesMethod};
 
-use crate::lists::Parameters;
 use crate::pools::Pools;
-use crate::rows::ProtoEntry;
 use crate::symbols::SymbolKind;
+use dexids::{Parameters, ProtoEntry};
 use dexrows::{FieldRow, MethodRow, ProtoRow};
 use dexstr::Text;
 use std::alloc::{AllocError, Global};

@@ -1,28 +1,19 @@
 //! The five pools of a file.
 
 ghost use Rattle.std.specs.Prelude.{◌≡◌, ◌<◌, length, slice_index_or, OnOk, IfOk, IfErr};
-ghost use Rattle.dexspec.specs.Accepted.{HoldBelow, IsFrame};
+ghost use Rattle.dexspec.specs.Accepted.{HoldBelow};
 ghost use Rattle.dexspec.specs.Symbols.{Proto, Field, Method};
 ghost use Rattle.dexpool.specs.Pools.{ArePools, count_of};
-ghost use Rattle.dexpool.specs.Reading.{AreNames, file_numbers};
-ghost use Rattle.dexpool.specs.internal.FileRows.{AreFileProtos, AreFileFields, AreFileMethods};
 ghost use Rattle.dexpool.specs.Numberings.{IsAt, IsNumbered, IsOfKind, DenotesProto, DenotesField, DenotesMethod};
 ghost use Rattle.dexpool.specs.Owned.{symbol_of};
-ghost use Rattle.dexpool.specs.Faults.{IsFault};
+ghost use Rattle.dexids.specs.Faults.{IsFault};
 
-use crate::faults::ReadFault;
-use crate::lists::Parameters;
-use crate::members::MethodReader;
-use crate::names::Names;
 use crate::numbering::{Numbering, Tables};
-use crate::protos::read_protos;
-use crate::reading::read_table;
-use crate::rows::ProtoEntry;
 use crate::symbols::{Symbol, SymbolKind};
-use crate::types::TypeReader;
 use dexhead::Frame;
+use dexids::{FileTables, ReadFault, read_tables};
 use dexrows::{FieldRow, MethodRow, ProtoRow};
-use dexstr::{Name, Text, TextReader};
+use dexstr::{Name, Text};
 use std::alloc::{AllocError, Global};
 use std::marker::Model;
 
@@ -55,20 +46,14 @@ impl<'a> Pools<'a> {
         ensures rows { IfOk result (ArePools frame.now) }
         ensures refused { IfErr result (IsFault frame.now) }
     {
-        checked(frame);
-        let strings = read_table(alloc, frame, &mut TextReader::new(alloc, frame.bytes()))?;
-        let reader = TypeReader {
-            frame,
-            strings: &strings,
-        };
-        let types = read_table(alloc, &reader, &mut ())?;
-        let names = Names {
-            frame,
-            strings: &strings,
-            types: &types,
-        };
-        let parameters = Parameters::of_file(frame.bytes());
-        let (protos, fields, methods) = read_rows(alloc, &names, &parameters)?;
+        let FileTables {
+            strings,
+            types,
+            protos,
+            parameters,
+            fields,
+            methods,
+        } = read_tables(alloc, frame)?;
         Ok(Pools {
             numbering: Numbering {
                 tables: Tables {
@@ -176,38 +161,4 @@ impl<'a> Pools<'a> {
             SymbolKind::Method => Symbol::Method(tables.method(alloc, &tables.methods[i])?),
         })
     }
-}
-
-// The protos, fields and methods of a file whose texts and types are read.
-fn read_rows<'a>(
-    alloc: Global,
-    names: &Names<'_, 'a>,
-    parameters: &Parameters<'a>,
-) -> Result<(Vec<ProtoEntry>, Vec<FieldRow>, Vec<MethodRow>), ReadFault>
-    requires names { AreNames names.now.frame.now names.now.strings.now names.now.types.now }
-    requires file { parameters.now ≡ file_numbers names.now.frame.now }
-    requires before { HoldBelow 13 names.now.frame.now }
-    ensures protos { IfOk result (λ rows. AreFileProtos names.now rows.0.items) }
-    ensures fields { IfOk result (λ rows. AreFileFields names.now rows.1.items) }
-    ensures methods { IfOk result (λ rows.
-        AreFileMethods names.now rows.0.items rows.2.items) }
-    ensures below { OnOk result (HoldBelow 16 names.now.frame.now) }
-    ensures err { IfErr result (IsFault names.now.frame.now) }
-{
-    let protos = read_protos(alloc, names, parameters)?;
-    let mut known_names = vec![in alloc; false; names.strings.len()]?;
-    let fields = read_table(alloc, names, &mut known_names)?;
-    let reader = MethodReader {
-        names,
-        protos: &protos,
-    };
-    let methods = read_table(alloc, &reader, &mut known_names)?;
-    Ok((protos, fields, methods))
-}
-
-// A frame meets the conditions before those of the pools.
-fn checked(frame: &Frame<'_>)
-    ensures { IsFrame frame.now }
-{
-    let _bytes = frame.bytes();
 }

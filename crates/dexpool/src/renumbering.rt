@@ -4,14 +4,19 @@
 ghost use Rattle.std.specs.Prelude.{◌≡◌, ◌<◌, ◌+◌, ◌++◌, ◌^◌, length, map, All, IfOk, OnOk, slice_index, ℕ, List};
 ghost use Rattle.dexrows.specs.Numbers.{among_of, lower_of};
 ghost use Rattle.dexpool.specs.internal.Renumbering.{StaySorted, moved_type, IsEntryWithin, HasSpans, numbers_in, AreMovedProtos};
-ghost use Rattle.dexpool.specs.Reading.{HasSpan};
+ghost use Rattle.dexids.specs.Reading.{HasSpan};
 ghost use Rattle.dexpool.specs.internal.SharedLists.{Covers, IsPlaceWithin, ArePlaced, HaveParameters, AreTablesJoined};
 
-use crate::lists::Parameters;
-use crate::protos::Protos;
-use crate::rows::{ProtoEntry, Span};
+use dexids::{Parameters, ProtoEntry, Span};
 use dexrows::{Joined, LowerPlaces, ProtoRow, Row, TypeNumbers, TypeRow};
 use std::alloc::{AllocError, Global};
+
+/// The protos by row, and the types of their parameters, each as its number.
+#[derive(Drop)]
+pub(crate) struct Protos {
+    pub(crate) rows: Vec<ProtoEntry>,
+    pub(crate) parameters: Vec<usize>,
+}
 
 /// The rows of types, by the images of their texts.
 pub(crate) fn renumbered_types(

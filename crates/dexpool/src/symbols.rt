@@ -5,7 +5,7 @@ ghost use Rattle.dexspec.specs.Symbols as symbols;
 ghost use Rattle.dexpool.specs.Stored.{IsProtoEntry, IsFieldRow, IsMethodRow, AreTables, stored_type, stored_proto, stored_field, stored_method};
 
 use crate::numbering::Tables;
-use crate::rows::ProtoEntry;
+use dexids::ProtoEntry;
 use dexrows::{FieldRow, MethodRow, TypeNumbers};
 use dexstr::Name;
 use std::alloc::{AllocError, Global};

@@ -5,8 +5,8 @@ use Rattle.dexspec.specs.Classes.{class_idx}
 use Rattle.dexspec.specs.Accepted.{IsDefinedBefore}
 use Rattle.dexpool.specs.declared.faults.ItemFault.{ItemFault}
 use Rattle.dexpool.specs.declared.faults.ItemFault.TheVariants as items
-use Rattle.dexpool.specs.declared.faults.ReadFault.{ReadFault}
-use Rattle.dexpool.specs.declared.faults.ReadFault.TheVariants.{Refused, Memory}
+use Rattle.dexids.specs.declared.faults.ReadFault.{ReadFault}
+use Rattle.dexids.specs.declared.faults.ReadFault.TheVariants.{Refused, Memory}
 use Rattle.dexclass.specs.declared.checked_lists.CheckedLists.{CheckedLists}
 use Rattle.dexclass.specs.declared.class_checks.KnownFile.{KnownFile}
 use Rattle.dexclass.specs.internal.Rows.{AreDefinedMarks, IsInterfaceIndex, superclass_indices}

@@ -2,8 +2,8 @@
 use Rattle.std.specs.Prelude.{◌≡◌, ◌⊎◌, ℕ, ◌<◌, List}
 use Rattle.dexspec.specs.Accepted.{IsRefused}
 use Rattle.dexspec.specs.Weight.{most_weight}
-use Rattle.dexpool.specs.declared.faults.ReadFault.{ReadFault}
-use Rattle.dexpool.specs.declared.faults.ReadFault.TheVariants.{Refused, Memory}
+use Rattle.dexids.specs.declared.faults.ReadFault.{ReadFault}
+use Rattle.dexids.specs.declared.faults.ReadFault.TheVariants.{Refused, Memory}
 
 -- a fault of the file, or 23 where the number is less than what a program may weigh
 abbrev pub IsFaultWithin : ℕ → List ℕ → ReadFault → Type 0

@@ -9,8 +9,8 @@ use Rattle.dexspec.specs.Conditions.{Condition}
 use Rattle.dexspec.specs.Accepted.{IsFrame, IsDefinedBefore, FailsFirst}
 use Rattle.dexspec.specs.Mentions.{Mentions}
 use Rattle.dexpool.specs.Pools.{ArePools}
-use Rattle.dexpool.specs.declared.faults.ReadFault.{ReadFault}
-use Rattle.dexpool.specs.declared.faults.ReadFault.TheVariants.{Refused, Memory}
+use Rattle.dexids.specs.declared.faults.ReadFault.{ReadFault}
+use Rattle.dexids.specs.declared.faults.ReadFault.TheVariants.{Refused, Memory}
 
 -- row i of the types is a class
 abbrev pub IsClassIndex : List ℕ → ℕ → Type 0

@@ -6,11 +6,11 @@ use Rattle.dexpool.specs.Cut.{kept, places}
 use Rattle.dexrows.specs.declared.fields.FieldRow.{FieldRow}
 use Rattle.dexrows.specs.declared.methods.MethodRow.{MethodRow}
 use Rattle.dexrows.specs.Numbers.{ProtoNumbers}
-use Rattle.dexpool.specs.declared.rows.ProtoEntry.{ProtoEntry}
+use Rattle.dexids.specs.declared.rows.ProtoEntry.{ProtoEntry}
 use Rattle.dexpool.specs.declared.numbering.Tables.{Tables}
 use Rattle.dexpool.specs.declared.marks.Marks.{Marks}
-use Rattle.dexpool.specs.Tables.{span_of}
-use Rattle.dexpool.specs.Reading.{HasSpan}
+use Rattle.dexids.specs.Tables.{span_of}
+use Rattle.dexids.specs.Reading.{HasSpan}
 use Rattle.dexpool.specs.Numberings.{Maps, AreMarksOf}
 use Rattle.dexpool.specs.internal.Renumbering.{numbers_of, moved_proto, moved_field, moved_method, IsMethodWithin}
 use Rattle.dexpool.specs.Stored.{symbols_in, AreTables}

@@ -14,11 +14,11 @@ use Rattle.dexrows.specs.Join.{IsJoin}
 use Rattle.dexrows.specs.declared.joining.Joined.{Joined}
 use Rattle.dexrows.specs.declared.fields.FieldRow.{FieldRow}
 use Rattle.dexrows.specs.declared.methods.MethodRow.{MethodRow}
-use Rattle.dexpool.specs.declared.rows.ProtoEntry.{ProtoEntry}
-use Rattle.dexpool.specs.declared.protos.Protos.{Protos}
+use Rattle.dexids.specs.declared.rows.ProtoEntry.{ProtoEntry}
+use Rattle.dexpool.specs.declared.renumbering.Protos.{Protos}
 use Rattle.dexpool.specs.declared.joined_tables.JoinedProtos.{JoinedProtos}
 use Rattle.dexpool.specs.declared.joined_tables.JoinedImages.{JoinedImages}
-use Rattle.dexpool.specs.Tables.{text_of, type_of, span_of, proto_of, field_of, method_of}
+use Rattle.dexids.specs.Tables.{text_of, type_of, span_of, proto_of, field_of, method_of}
 use Rattle.dexpool.specs.Numberings.{IsAt, Maps}
 use Rattle.dexpool.specs.internal.Renumbering.{IsEntryWithin, IsFieldWithin, IsMethodWithin, numbers_in}
 

@@ -5,10 +5,10 @@ use Rattle.dexrows.specs.Numbers.{Among, Lower, RiseAmong, ProtoNumbers}
 use Rattle.dexrows.specs.declared.types.TypeRow.{TypeRow}
 use Rattle.dexrows.specs.declared.fields.FieldRow.{FieldRow}
 use Rattle.dexrows.specs.declared.methods.MethodRow.{MethodRow}
-use Rattle.dexpool.specs.declared.rows.ProtoEntry.{ProtoEntry}
-use Rattle.dexpool.specs.declared.protos.Protos.{Protos}
-use Rattle.dexpool.specs.Tables.{span_of}
-use Rattle.dexpool.specs.Reading.{HasSpan}
+use Rattle.dexids.specs.declared.rows.ProtoEntry.{ProtoEntry}
+use Rattle.dexpool.specs.declared.renumbering.Protos.{Protos}
+use Rattle.dexids.specs.Tables.{span_of}
+use Rattle.dexids.specs.Reading.{HasSpan}
 
 -- ---- rows of any kind
 

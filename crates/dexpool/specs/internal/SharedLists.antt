@@ -3,11 +3,11 @@ use Rattle.std.specs.Prelude.{◌≡◌, ℕ, ◌+◌, ◌<◌, ◌≤◌, List,
 use Rattle.dexrows.specs.Join.{IsJoin}
 use Rattle.dexrows.specs.Numbers.{ProtoNumbers}
 use Rattle.dexrows.specs.declared.joining.Joined.{Joined}
-use Rattle.dexpool.specs.declared.protos.Protos.{Protos}
-use Rattle.dexpool.specs.declared.rows.ProtoEntry.{ProtoEntry}
-use Rattle.dexpool.specs.declared.rows.Span.{Span}
-use Rattle.dexpool.specs.Tables.{span_of}
-use Rattle.dexpool.specs.Reading.{HasSpan}
+use Rattle.dexpool.specs.declared.renumbering.Protos.{Protos}
+use Rattle.dexids.specs.declared.rows.ProtoEntry.{ProtoEntry}
+use Rattle.dexids.specs.declared.rows.Span.{Span}
+use Rattle.dexids.specs.Tables.{span_of}
+use Rattle.dexids.specs.Reading.{HasSpan}
 use Rattle.dexpool.specs.internal.Joining.{proto_key, lists_in}
 use Rattle.dexpool.specs.internal.Renumbering.{numbers_in}
 

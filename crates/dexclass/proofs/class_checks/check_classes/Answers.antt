@@ -1,5 +1,5 @@
 use Rattle.dexclass.proofs.Common.{sym, subst, arith, Condition, HasClass, below_more}
-use Rattle.dexpool.proofs.Refusing.{hold_next}
+use Rattle.dexids.proofs.Refusing.{hold_next}
 use Rattle.dexclass.specs.internal.Rows.{AreDefinedMarks}
 use Rattle.dexclass.proofs.CheckedParts.{part_later}
 use Rattle.dexclass.proofs.class_checks.check_classes.Goals as goal

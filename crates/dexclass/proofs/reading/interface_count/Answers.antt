@@ -1,6 +1,6 @@
 use Rattle.dexclass.proofs.Common.{◌≡◌, ◌≢◌, ◌∙◌, ℕ, List, length, Option, Some, None, unwrap_or, uint_at}
 use Rattle.std.specs.Prelude.{MatchOption}
-use Rattle.dexpool.specs.Reading.{HasRoom}
+use Rattle.dexids.specs.Reading.{HasRoom}
 use Rattle.dexclass.specs.internal.Rows.{HasInterfaceList, interface_indices}
 use Rattle.dexclass.proofs.Interfaces.{interfaces_count, listed_room}
 use Rattle.dexclass.proofs.reading.interface_count.Goals as goal

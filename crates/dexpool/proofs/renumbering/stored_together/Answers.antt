@@ -1,6 +1,6 @@
 use Rattle.dexpool.proofs.Common.{◌≡◌, ℕ, ◌<◌, ◌≤◌, ◌++◌, List, length, get_or, map, take, refl, sym, ap, ◌∙◌, subst, arith, All, All-more, All-weaker, All-map, All-contains, length-map, take_all, get_or_default, IsImage, ProtoEntry, Span, HasSpans, numbers_of, numbers_in, lists_in}
 use Rattle.std.specs.Global.{Vec}
-use Rattle.dexpool.specs.declared.protos.Protos.{Protos}
+use Rattle.dexpool.specs.declared.renumbering.Protos.{Protos}
 use Rattle.dexpool.specs.internal.Joining.{proto_key}
 use Rattle.dexpool.specs.internal.SharedLists.{HasParametersOf, AreImages, HaveParameters}
 use Rattle.dexpool.proofs.Pairs.{zip_seen, zip_length, within_other}

@@ -1,5 +1,5 @@
 use Rattle.dexmembers.proofs.Common.{refl, sym, ◌∙◌, arith, row_at, ClassDefs}
-use Rattle.dexpool.proofs.Bytes.{uint_at_row}
+use Rattle.dexids.proofs.Bytes.{uint_at_row}
 use Rattle.dexmembers.proofs.class_def.ClassDef.at.Goals as goal
 
 pub returns : goal.returns

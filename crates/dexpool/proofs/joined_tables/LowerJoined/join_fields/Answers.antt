@@ -1,6 +1,6 @@
 use Rattle.dexpool.proofs.Common.{length, map, ap, ◌∙◌, sym, subst, Mentions, AreSorted, text_of, field_of, field_key, moved_field, IsFieldWithin, Moves, Denote}
 use Rattle.dexpool.proofs.Pairs.{zip_more, zip_all, all_pushed}
-use Rattle.dexpool.proofs.TypeLists.{if_ok_map}
+use Rattle.dexids.proofs.TypeLists.{if_ok_map}
 use Rattle.dexpool.proofs.Moved.{types_count, fields_among, fields_at_ranks}
 use Rattle.dexpool.proofs.RowOrder.{fields_sorted}
 use Rattle.dexpool.proofs.JoinedLevels.{texts_rise, type_texts_rise, fields_joined}

@@ -1,6 +1,6 @@
 use Rattle.dexpool.proofs.Common.{length, map, ◌∙◌, sym, subst, Mentions, AreSorted, text_of, proto_of, method_of, method_key, moved_method, IsMethodWithin, Moves, Denote}
 use Rattle.dexpool.proofs.Pairs.{within_other, zip_more, zip_all, all_pushed}
-use Rattle.dexpool.proofs.TypeLists.{if_ok_map}
+use Rattle.dexids.proofs.TypeLists.{if_ok_map}
 use Rattle.dexpool.proofs.Moved.{types_count, protos_count, methods_among, methods_at_ranks}
 use Rattle.dexpool.proofs.RowOrder.{methods_sorted}
 use Rattle.dexpool.proofs.JoinedLevels.{texts_rise, type_texts_rise, proto_symbols_rise, methods_joined}

@@ -1,0 +1,12 @@
+pub mod Common
+pub mod Bytes
+pub mod FirstUnits
+pub mod Refusing
+pub mod Steps
+pub mod Spellings
+pub mod TypeLists
+pub mod ReadTables
+pub mod FileLists
+pub mod ListedPlaces
+pub mod SpelledLists
+pub mod Tested

@@ -1,6 +1,0 @@
-use Rattle.dexpool.proofs.Common.{file_numbers}
-use Rattle.dexpool.proofs.ReadTables.{method_decided}
-use Rattle.dexpool.proofs.members.MethodReaderTableReader.law.Goals as goal
-
-pub returns-clause-next : goal.returns-clause-next
-returns-clause-next c = let names = c.args.self.now.names.now in method_decided names.strings.now names.types.now (file_numbers names.frame.now) c.args.self.now.protos.now names.frame.now

@@ -1,5 +1,0 @@
-use Rattle.dexpool.proofs.Common.{◌≡◌, map, take, shorty_letter, text_of}
-use Rattle.dexpool.proofs.shorties.letters_of.Given as goal
-
-abbrev pub invariant-loop-i : goal.invariant-loop-i
-invariant-loop-i l = l.letters.items ≡ map (λ n. shorty_letter (text_of l.names.strings.now n)) (take l.i l.names.types.now)

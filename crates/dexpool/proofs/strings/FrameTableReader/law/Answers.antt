@@ -1,5 +1,0 @@
-use Rattle.dexpool.proofs.Steps.{string_decided}
-use Rattle.dexpool.proofs.strings.FrameTableReader.law.Goals as goal
-
-pub returns-clause-next : goal.returns-clause-next
-returns-clause-next c = string_decided c.args.self.now

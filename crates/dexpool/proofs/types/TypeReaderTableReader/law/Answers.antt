@@ -1,5 +1,0 @@
-use Rattle.dexpool.proofs.Steps.{type_decided}
-use Rattle.dexpool.proofs.types.TypeReaderTableReader.law.Goals as goal
-
-pub returns-clause-next : goal.returns-clause-next
-returns-clause-next c = type_decided c.args.self.now.strings.now c.args.self.now.frame.now

@@ -6,3 +6,4 @@ pub mod DepthLaws
 pub mod Parts
 pub mod PlaceLaws
 pub mod SearchLaws
+pub mod InOrder

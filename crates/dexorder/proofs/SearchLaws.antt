@@ -21,7 +21,7 @@ begun_nearer classes seen now path visits v i lt same fresh written grown rest =
 
 module _ (classes : List (List ℕ)) where
   -- a class is under n if its parents are
-  under_parents : (n i : ℕ) → is_under classes n i ≡ is_under_all classes n (parents_of classes i)
+  pub under_parents : (n i : ℕ) → is_under classes n i ≡ is_under_all classes n (parents_of classes i)
   under_parents zero i = refl
   under_parents (suc n) i = refl
 
@@ -31,7 +31,7 @@ module _ (classes : List (List ℕ)) where
   more_parents (suc n) ps qs e = list_all-append (is_under classes n) ps qs ∙ ap (λ b. b && list_all (is_under classes n) qs) e
 
   -- the depth with one more parent, of depth d
-  deeper_under : (m n d p : ℕ) (ps : List ℕ) → n ≤ m → suc d ≤ m → is_under_all classes (suc n) ps ≡ true → IsDepth classes p d → is_under_all classes (suc m) (ps ++ p ∷ []) ≡ true
+  pub deeper_under : (m n d p : ℕ) (ps : List ℕ) → n ≤ m → suc d ≤ m → is_under_all classes (suc n) ps ≡ true → IsDepth classes p d → is_under_all classes (suc m) (ps ++ p ∷ []) ≡ true
   deeper_under m n d p ps le lt h k =
       list_all-from_members (is_under classes m) (ps ++ p ∷ []) (λ x c. elim (Contains-append_cases ps (p ∷ []) x c) [
         | inl l ↦ is_under-later classes n m x le (list_all-member (is_under classes n) ps x h l)
@@ -41,7 +41,7 @@ module _ (classes : List (List ℕ)) where
         ]
       ])
 
-  deeper_not_under : (m n d p : ℕ) (ps : List ℕ) → m ≡ max n (suc d) → is_under_all classes n ps ≡ false → IsDepth classes p d → is_under_all classes m (ps ++ p ∷ []) ≡ false
+  pub deeper_not_under : (m n d p : ℕ) (ps : List ℕ) → m ≡ max n (suc d) → is_under_all classes n ps ≡ false → IsDepth classes p d → is_under_all classes m (ps ++ p ∷ []) ≡ false
   deeper_not_under m n d p ps e h k = elim (cases_lt n (suc d)) [
     | inl lt ↦ let z : suc d ≡ m = omega arith in subst (λ j. is_under_all classes j (ps ++ p ∷ []) ≡ false) z (list_all-fails (is_under classes d) (ps ++ p ∷ []) p (Contains-append_right ps (p ∷ []) p (Contains-first p [])) k.not_under)
     | inr ge ↦ let z : n ≡ m = omega arith in subst (λ j. is_under_all classes j (ps ++ p ∷ []) ≡ false) z (more_parents n ps (p ∷ []) h)

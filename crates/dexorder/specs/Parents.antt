@@ -2,6 +2,7 @@
 -- Source: "Dalvik Executable format", "class_def_item": class_idx, superclass_idx and interfaces_off.
 use Rattle.std.specs.Prelude.{◌≡◌, ℕ, ◌<◌, List, ◌++◌, length, map, All, Option, None, Some, IsSome, option_to_list, slice_index_or}
 use Rattle.dexspec.specs.Lists.{present}
+use Rattle.dexorder.specs.Depths.{AreDepths}
 
 -- for each type a class that has it as its name, or none
 pub record AreByType (names : List ℕ) (by_type : List (Option ℕ)) : Type 0 where
@@ -32,6 +33,13 @@ abbrev pub IsHierarchyOfClasses : {C : Type 0} → (C → ℕ) → (C → Option
     → Type 0
 IsHierarchyOfClasses name_of superclass_of interfaces_of cs =
     IsHierarchyOf (map name_of cs) (map (λ c. parent_types (superclass_of c) (interfaces_of c)) cs)
+
+-- the depths of these classes
+pub record AreDepthsOfClasses {C : Type 0} (name_of : C → ℕ) (superclass_of : C → Option ℕ) (interfaces_of : C → List ℕ)
+    (cs : List C) (depths : List (Option ℕ)) : Type 0 where
+  pub classes : List (List ℕ)
+  pub are : IsHierarchyOfClasses name_of superclass_of interfaces_of cs classes
+  pub found : AreDepths classes depths
 
 -- each class has a depth
 abbrev pub AllHaveDepths : List (Option ℕ) → Type 0

@@ -149,7 +149,6 @@ impl Debug<'_> {
 ///
 /// Error: the allocation failed; the vector is then as it was. It does not fail where the spare room is at least the
 /// length of the item ([`Debug::item_len`]), or its weight ([`Debug::weight`]).
-#[tactic(auto, using(crate::proofs::DebugMeanings::bytes_most, crate::proofs::StoredOperations::names_many, crate::proofs::StoredOperations::operations_many))]
 pub fn put_debug(
     debug: &Debug<'_>,
     numbering: &Numbering<'_>,
@@ -163,9 +162,8 @@ pub fn put_debug(
 {
     numbering.is_numbering();
     debug_bytes_law();
-    // It is measured only where there is no room for the longest program with as many names and operations.
-    let most = 11 + 5 * debug.names as usize + 21 * debug.count as usize;
-    if most > out.capacity() - out.len() {
+    // It is measured only where there is no room for its weight.
+    if debug.weight > (out.capacity() - out.len()) as u64 {
         out.reserve(debug.item_len())?;
     }
     debug.encode(out);

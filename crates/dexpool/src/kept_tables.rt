@@ -1,7 +1,7 @@
 //! Numberings cut down to their marked rows: each table is cut in place, and the rows that are left are renumbered by the
 //! places of the rows below them.
 
-ghost use Rattle.std.specs.Prelude.{◌≡◌, length, IfOk, ◌≢◌, IfSome, IfNone};
+ghost use Rattle.std.specs.Prelude.{◌≡◌, ◌+◌, ◌≤◌, [], length, vec_len, vec_capacity, IfOk, ◌≢◌, IfSome, IfNone};
 ghost use Rattle.dexpool.specs.declared.numbering.Tables.{Tables};
 ghost use Rattle.dexpool.specs.Cut.{kept};
 ghost use Rattle.dexpool.specs.Numberings.{AreMarksOf, marked, AllMapTo};
@@ -111,6 +111,14 @@ pub(crate) fn marked_copies<'a>(
     })
 }
 
+// An empty vector with room for a place for each mark.
+fn room_for(alloc: Global, marks: &[bool]) -> Result<Vec<u32>, AllocError>
+    ensures empty { IfOk result (λ room. room.items ≡ []) }
+    ensures room { IfOk result (λ room. vec_len room + length marks.now ≤ vec_capacity room) }
+{
+    Vec::with_capacity(alloc, marks.len())
+}
+
 /// The tables of the marked rows, by their new numbers; and where each number leads.
 ///
 /// Condition: these are the marked rows of some tables. Error: the memory for the map and the parameters was refused.
@@ -128,11 +136,11 @@ pub(crate) fn renumbered<'a>(
     sorted_law::<FieldRow>();
     sorted_law::<MethodRow>();
     let remap = Remap {
-        strings: Images::places(alloc, &marks.strings)?,
-        types: Images::places(alloc, &marks.types)?,
-        protos: Images::places(alloc, &marks.protos)?,
-        fields: Images::places(alloc, &marks.fields)?,
-        methods: Images::places(alloc, &marks.methods)?,
+        strings: Images::places(&marks.strings, room_for(alloc, &marks.strings)?)?,
+        types: Images::places(&marks.types, room_for(alloc, &marks.types)?)?,
+        protos: Images::places(&marks.protos, room_for(alloc, &marks.protos)?)?,
+        fields: Images::places(&marks.fields, room_for(alloc, &marks.fields)?)?,
+        methods: Images::places(&marks.methods, room_for(alloc, &marks.methods)?)?,
     };
     let lower = LowerPlaces {
         strings: remap.strings.numbers(),

@@ -62,16 +62,18 @@ impl Images {
         }
     }
 
-    /// For each mark its place among those that are set, or none where it is not set.
+    /// For each mark its place among those that are set, or none where it is not set, in the room of an empty vector.
     ///
-    /// Error: the memory for the places was refused, or there are more than 2^32 - 1 marks, and one of the places is
-    /// 2^32 - 1, for which there is no room.
-    pub(crate) fn places(alloc: Global, marks: &[bool]) -> Result<Images, AllocError>
-        ensures { IfOk result (λ images. images ≡ places 0 marks.now) }
+    /// Condition: the vector has room for a place for each mark. Error: there are more than 2^32 - 1 marks, and one of
+    /// the places is 2^32 - 1, for which there is no room.
+    pub(crate) fn places(marks: &[bool], mut stored: Vec<u32>) -> Result<Images, AllocError>
+        requires empty { stored.items ≡ [] }
+        requires room { vec_len stored + length marks.now ≤ vec_capacity stored }
+        ensures places { IfOk result (λ images. images ≡ places 0 marks.now) }
+        ensures room { OnErr result (2 ^ 32 ≤ length marks.now) }
     {
-        let mut places = Vec::with_capacity(alloc, marks.len())?;
-        put_places(marks, &mut places)?;
-        Ok(Images { numbers: places })
+        put_places(marks, &mut stored)?;
+        Ok(Images { numbers: stored })
     }
 
     /// These images, one for each number. They are not copied.

@@ -24,6 +24,7 @@ pub mod JoinedLists
 pub mod JoinedTables
 pub mod UnionLaws
 pub mod MappingAll
+pub mod Numbers
 pub mod MarksMade
 pub mod Parts
 pub mod Visits

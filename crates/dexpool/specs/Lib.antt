@@ -5,6 +5,7 @@ pub mod Owned
 pub mod Laws
 pub mod Orderly
 pub mod Uses
+pub mod NumberedSymbols
 pub mod Images
 pub mod Packed
 pub mod Cut

@@ -1,17 +1,16 @@
 -- The numbers in a code item have places where all numbers have images.
-use Rattle.dexcode.proofs.Common.{◌≡◌, ℕ, ◌+◌, ◌<◌, ◌^◌, List, [], ◌++◌, length, Option, Some, None, option_to_list, refl, subst, arith, All, flat_map, IsSome, IfSome, All-nil, All-cons, All-append, Mentions, piece_symbols, debug_symbols, SymbolKind, count_of, MapsAll, Maps, image_of, AllMapTo, Use, IsMappedUse, uses_of, KeepOrder, MapsDown, NumberedDebug, FitsIndex, IsFormedOperation, IsFormedDebug, HasPlace, number_uses, operation_uses, debug_uses, name_of, type_of, signature_of, maps_within, all_of, all_prefix, all_map, Try, NumberedHandler, NumberedTry, NumberedItem, ◌∙◌, DenotesCode, IsFormedHandler, AreStored, all_named, handlers_of, catch_use, handler_uses, tries_uses, item_uses, HasTypePlace, HasPlaces, HasImages, NumbersFit}
+use Rattle.dexcode.proofs.Common.{◌≡◌, ℕ, ◌+◌, ◌<◌, ◌^◌, List, [], ◌++◌, Option, Some, None, subst, arith, All, flat_map, IfSome, All-nil, All-cons, All-append, Mentions, SymbolKind, count_of, MapsAll, Maps, image_of, AllMapTo, Use, IsMappedUse, uses_of, KeepOrder, MapsDown, NumberedDebug, FitsIndex, IsFormedOperation, IsFormedDebug, HasPlace, number_uses, operation_uses, debug_uses, name_of, type_of, signature_of, maps_within, all_of, all_prefix, all_map, Try, NumberedHandler, NumberedTry, NumberedItem, ◌∙◌, DenotesCode, IsFormedHandler, AreStored, all_named, catch_use, handler_uses, tries_uses, item_uses, HasTypePlace, HasPlaces, HasImages, NumbersFit}
 use Rattle.dexspec.specs.Code as symbolic
 use Rattle.dexpool.specs.declared.symbols.SymbolKind.TheVariants as kinds
 use Rattle.dexinsn.specs.Numbered as pieces
 use Rattle.dexinsn.proofs.Fits as insn_proofs
-use Rattle.dexinsn.proofs.Meanings as pieces_proofs
 use Rattle.dexinsn.specs.Fitting.{ImagesFit, IsGreatest, MapsShort, short_strings}
 use Rattle.dexdebug.specs.declared.debug_operation.Operation.{Operation}
-use Rattle.dexcode.proofs.CodeMeanings.{handlers_in, debug_used}
+use Rattle.dexcode.proofs.CodeMeanings.{symbols_in, parts_used}
+use Rattle.dexpool.proofs.Numbers.{some_of}
 use Rattle.dexcode.proofs.CodeUses.{optional_debug_uses, all_flat, pieces_part, tries_part, debugs_part}
 use Rattle.dexpool.proofs.KeptTables.{all_both}
 use Rattle.dexpool.proofs.MappingAll.{uses_mapped}
-use Rattle.dexcode.proofs.TryRows.{IsInRange}
 
 -- the numbers of the code have images if its symbols have
 pub images_of_uses : (r : Maps) (c : NumberedItem) → All (IsMappedUse r) (item_uses c) → HasImages r c
@@ -21,32 +20,18 @@ images_of_uses r c all = record {
   debug_has = debugs_part (IsMappedUse r) c all;
 }
 
--- ---- all numbers have images
-
-module _ (m : Mentions) (r : Maps) (maps_to : MapsAll m r) where
-  handlers_mapped : (hs : List NumberedHandler) → All (IsInRange m) hs → All (IsMappedUse r) (flat_map handler_uses hs)
-  handlers_mapped hs all = all_flat (IsInRange m) (IsMappedUse r) handler_uses hs (λ h known. all_map (λ c. c.typ < length m.types) (IsMappedUse r) catch_use h.catches (λ c lt. maps_to kinds.Typ c.typ lt) known) all
-
+-- so they have where all numbers have images
 pub images_there : (m : Mentions) (r : Maps) (c : NumberedItem) (x : symbolic.Code) → MapsAll m r → DenotesCode m c x → HasImages r c
-images_there m r c x maps_to h = record {
-  pieces_have = insn_proofs.images_of_uses r c.body.pieces (uses_mapped m r maps_to (uses_of c.body.pieces) (flat_map piece_symbols x.pieces) (pieces_proofs.uses_encoded m c.body.pieces x.pieces h.pieces_are));
-  catches_have = handlers_mapped m r maps_to (handlers_of c.tries) (handlers_in m c.tries x.tries h.tries_are);
-  debug_has = uses_mapped m r maps_to (optional_debug_uses c.debug) (flat_map debug_symbols (option_to_list x.debug)) (debug_used m c.debug x.debug h.debug_is);
-}
+images_there m r c x maps_to h = images_of_uses r c (uses_mapped m r maps_to (item_uses c) (symbols_in m c) (parts_used m c h.known))
 
 -- ---- a number whose image is that of a symbol has a place
 
--- a number that has an image has one that is a number
-image_there : (r : Maps) (u : Use) (o : Option ℕ) → image_of r u.kind u.number ≡ o → IsSome o → (j : ℕ) × (image_of r u.kind u.number ≡ Some j)
-image_there r u None e some = absurd cc
-image_there r u (Some j) e some = (j, e)
-
 module _ (m n : Mentions) (r : Maps) (l : AllMapTo m n r) (few : (kind : SymbolKind) → count_of kind n < 2 ^ 32) where
   type_place : (u : Use) → IsMappedUse r u → HasTypePlace r u
-  type_place u some = let at = image_there r u (image_of r u.kind u.number) refl some in (at.0, at.1, omega (arith, maps_within m n r l u.kind u.number at.0 at.1, few u.kind))
+  type_place u some = let at = some_of (image_of r u.kind u.number) some in (at.0, at.1, omega (arith, maps_within m n r l u.kind u.number at.0 at.1, few u.kind))
 
   debug_place : (u : Use) → IsMappedUse r u → HasPlace r u
-  debug_place u some = let at = image_there r u (image_of r u.kind u.number) refl some in (at.0, at.1, omega (arith, maps_within m n r l u.kind u.number at.0 at.1, few u.kind))
+  debug_place u some = let at = some_of (image_of r u.kind u.number) some in (at.0, at.1, omega (arith, maps_within m n r l u.kind u.number at.0 at.1, few u.kind))
 
 pub places_there : (m n : Mentions) (r : Maps) (c : NumberedItem) → AllMapTo m n r → ((kind : SymbolKind) → count_of kind n < 2 ^ 32) → All (pieces.HasPlace r) c.body.pieces → HasImages r c → HasPlaces r c
 places_there m n r c l few fits images = record {
@@ -83,11 +68,11 @@ small_uses d formed =
 
 pub debug_cut : (r : Maps) (d : NumberedDebug) → MapsDown r → IsFormedDebug d → All (IsMappedUse r) (debug_uses d) → All (HasPlace r) (debug_uses d)
 debug_cut r d down formed images =
-    all_both IsSmall (IsMappedUse r) (HasPlace r) (debug_uses d) (small_uses d formed) images (λ u small some. let at = image_there r u (image_of r u.kind u.number) refl some in (at.0, at.1, omega (arith, small, down u.kind u.number at.0 at.1)))
+    all_both IsSmall (IsMappedUse r) (HasPlace r) (debug_uses d) (small_uses d formed) images (λ u small some. let at = some_of (image_of r u.kind u.number) some in (at.0, at.1, omega (arith, small, down u.kind u.number at.0 at.1)))
 
 types_cut : (r : Maps) (us : List Use) → MapsDown r → All (λ u. u.number < 2 ^ 32) us → All (IsMappedUse r) us → All (HasTypePlace r) us
 types_cut r us down fit images =
-    all_both (λ u. u.number < 2 ^ 32) (IsMappedUse r) (HasTypePlace r) us fit images (λ u small some. let at = image_there r u (image_of r u.kind u.number) refl some in (at.0, at.1, omega (arith, small, down u.kind u.number at.0 at.1)))
+    all_both (λ u. u.number < 2 ^ 32) (IsMappedUse r) (HasTypePlace r) us fit images (λ u small some. let at = some_of (image_of r u.kind u.number) some in (at.0, at.1, omega (arith, small, down u.kind u.number at.0 at.1)))
 
 optional_cut : (r : Maps) (o : Option NumberedDebug) → MapsDown r → IfSome o IsFormedDebug → All (IsMappedUse r) (optional_debug_uses o) → All (HasPlace r) (optional_debug_uses o)
 optional_cut r None down formed images = All-nil (HasPlace r)
@@ -110,7 +95,7 @@ image_small r kinds.Field i j fit e = omega (arith, fit.fields_fit i j e)
 image_small r kinds.Method i j fit e = omega (arith, fit.methods_fit i j e)
 
 pub uses_joined : (r : Maps) (us : List Use) → ImagesFit r → All (IsMappedUse r) us → All (HasPlace r) us
-uses_joined r us fit images = all_of (IsMappedUse r) (HasPlace r) us (λ u some. let at = image_there r u (image_of r u.kind u.number) refl some in (at.0, at.1, image_small r u.kind u.number at.0 fit at.1)) images
+uses_joined r us fit images = all_of (IsMappedUse r) (HasPlace r) us (λ u some. let at = some_of (image_of r u.kind u.number) some in (at.0, at.1, image_small r u.kind u.number at.0 fit at.1)) images
 
 pub code_joined : (r : Maps) (c : NumberedItem) (greatest : Option ℕ) → KeepOrder r → ImagesFit r → IsGreatest (short_strings c.body.pieces) greatest → MapsShort r greatest → All (IsMappedUse r) (item_uses c) → HasPlaces r c
 code_joined r c greatest order fit is short all = record {

@@ -1,18 +1,19 @@
 -- Code items of numbers: their bytes and their weight are those of the code that they denote.
-use Rattle.dexcode.proofs.Common.{◌≡◌, ℕ, ◌+◌, ◌%◌, ◌<◌, ◌==◌, if◌then◌else◌, List, [], ◌∷◌, ◌++◌, length, map, option_to_list, refl, ap, sym, ◌∙◌, arith, append_assoc, pos, ◌-ℤ◌, option_map_or, All, flat_map, All-head, All-tail, length-map, ushort, uint, uleb128, sleb128, text_cmp, Mentions, tries_weight, code_weight, Rises-from_rises, rank-get_or, text_total, AreRising, NumberedPiece, Denote, numbered_units, numbered_bytes, Catch, NumberedHandler, NumberedTry, NumberedItem, catch_meant, handler_meant, try_meant, same_handler, handlers_of, DenotesCode, numbered_catch_bytes, handler_count, numbered_handler_bytes, numbered_handler_off, numbered_try_bytes, numbered_list_bytes, numbered_table_bytes, numbered_tries_bytes, unit_count, numbered_item_bytes, numbered_code_bytes, numbered_tries_weight, numbered_code_weight}
+use Rattle.dexcode.proofs.Common.{◌≡◌, ℕ, ◌+◌, ◌%◌, ◌<◌, ◌==◌, if◌then◌else◌, List, [], ◌∷◌, ◌++◌, length, map, option_to_list, refl, ap, sym, ◌∙◌, arith, append_assoc, pos, ◌-ℤ◌, option_map_or, All, flat_map, All-head, All-tail, length-map, ushort, uint, uleb128, sleb128, Mentions, tries_weight, code_weight, AreRising, NumberedPiece, Denote, numbered_units, numbered_bytes, Catch, NumberedHandler, NumberedTry, NumberedItem, catch_meant, handler_meant, try_meant, same_handler, handlers_of, DenotesCode, code_in, piece_in, All-map, numbered_catch_bytes, handler_count, numbered_handler_bytes, numbered_handler_off, numbered_try_bytes, numbered_list_bytes, numbered_table_bytes, numbered_tries_bytes, unit_count, numbered_item_bytes, numbered_code_bytes, numbered_tries_weight, numbered_code_weight}
 use Rattle.dexspec.specs.Code as symbolic
 use Rattle.dexspec.specs.Pieces as pieces
 use Rattle.dexspec.specs.Spellings as spelled
 use Rattle.dexspec.proofs.size.SizeCode.{length-units}
 use Rattle.dexcode.proofs.TryRows.{IsInRange, same_meant, handlers_meant, weight_meant}
-use Rattle.dexcode.proofs.Images.{all_back_map, all_distinct, flat_mapped}
-use Rattle.dexcode.proofs.Meanings.{tries_mean, tries_in_range}
+use Rattle.dexcode.proofs.Images.{all_back_map, all_distinct}
+use Rattle.dexpool.proofs.Numbers.{number_ranked, flat_mapped}
+use Rattle.dexpool.specs.declared.symbols.SymbolKind.TheVariants as kinds
 
 -- ---- bytes
 
 module _ (m : Mentions) (rising : AreRising m) where
   catch_bytes_are : (c : Catch) → c.typ < length m.types → spelled.catch_bytes m (catch_meant m c) ≡ numbered_catch_bytes c
-  catch_bytes_are c lt = ap (λ (n : ℕ). uleb128 n ++ uleb128 c.addr) (rank-get_or text_cmp text_total m.types c.typ [] (Rises-from_rises text_cmp text_total m.types rising.types_rise) lt)
+  catch_bytes_are c lt = ap (λ (n : ℕ). uleb128 n ++ uleb128 c.addr) (number_ranked m rising kinds.Typ c.typ lt)
 
   catches_bytes_are : (cs : List Catch) → All (λ c. c.typ < length m.types) cs → flat_map (spelled.catch_bytes m) (map (catch_meant m) cs) ≡ flat_map numbered_catch_bytes cs
   catches_bytes_are = flat_mapped (λ c. c.typ < length m.types) (spelled.catch_bytes m) (catch_meant m) numbered_catch_bytes catch_bytes_are
@@ -72,14 +73,14 @@ UnitsLaw = (m : Mentions) (ps : List NumberedPiece) (qs : List pieces.Piece) →
 pub code_bytes_are : UnitsLaw → (m : Mentions) (debug_off : ℕ) (c : NumberedItem) (x : symbolic.Code) → AreRising m → DenotesCode m c x → numbered_code_bytes debug_off c ≡ spelled.code_bytes m debug_off x
 unfolding numbered_item_bytes numbered_bytes spelled.code_bytes
 code_bytes_are law m debug_off c x rising h =
-    let units = law m c.body.pieces x.pieces rising h.pieces_are in
-    let all = tries_in_range m c.tries x.tries h.tries_are in
-    let meant = sym (tries_mean m c.tries x.tries h.tries_are) in
-    let count : length c.tries ≡ length x.tries = sym (length-map c.tries (try_meant m)) ∙ ap length meant in
-    let tries : numbered_tries_bytes (unit_count c.body) c.tries ≡ spelled.tries_bytes m (length (flat_map (spelled.piece_units m) x.pieces)) x.tries =
-    sym (tries_bytes_are m rising (unit_count c.body) c.tries all) ∙ (λ i. spelled.tries_bytes m (length (units i)) (meant i)) in
+    let units = law m c.body.pieces (map (piece_in m) c.body.pieces) rising (record { known = h.known.pieces_known; mean = refl }) in
+    let all = All-map (IsInRange m) (λ (t : NumberedTry). t.handler) c.tries h.known.tries_known in
+    let count : length c.tries ≡ length (map (try_meant m) c.tries) = sym (length-map c.tries (try_meant m)) in
+    let tries : numbered_tries_bytes (unit_count c.body) c.tries ≡ spelled.tries_bytes m (length (flat_map (spelled.piece_units m) (map (piece_in m) c.body.pieces))) (map (try_meant m) c.tries) =
+    sym (tries_bytes_are m rising (unit_count c.body) c.tries all) ∙ (λ i. spelled.tries_bytes m (length (units i)) (map (try_meant m) c.tries)) in
     joined (ushort c.body.registers) (ushort c.body.ins) (ushort c.body.outs) (ushort (length c.tries)) (uint debug_off) (uint (unit_count c.body)) (flat_map ushort (flat_map numbered_units c.body.pieces) ++ numbered_tries_bytes (unit_count c.body) c.tries)
-    ∙ (λ i. ushort (h.registers_are i) ++ (ushort (h.ins_are i) ++ (ushort (h.outs_are i) ++ (ushort (count i) ++ (uint debug_off ++ (uint (length (units i)) ++ (flat_map ushort (units i) ++ tries i)))))))
+    ∙ (λ i. ushort c.body.registers ++ (ushort c.body.ins ++ (ushort c.body.outs ++ (ushort (count i) ++ (uint debug_off ++ (uint (length (units i)) ++ (flat_map ushort (units i) ++ tries i)))))))
+    ∙ ap (spelled.code_bytes m debug_off) h.means
   where
     joined : (a b c d e f g : List ℕ) → (a ++ (b ++ (c ++ (d ++ (e ++ f))))) ++ g ≡ a ++ (b ++ (c ++ (d ++ (e ++ (f ++ g)))))
     joined a b c d e f g =
@@ -87,5 +88,11 @@ code_bytes_are law m debug_off c x rising h =
         ∙ ap (λ (xs : List ℕ). a ++ (b ++ (c ++ xs))) (append_assoc d (e ++ f) g) ∙ ap (λ (xs : List ℕ). a ++ (b ++ (c ++ (d ++ xs)))) (append_assoc e f g)
 
 pub code_weighs : UnitsLaw → (m : Mentions) (c : NumberedItem) (x : symbolic.Code) → AreRising m → DenotesCode m c x → numbered_code_weight c ≡ code_weight x
-code_weighs law m c x rising h =
-    omega (arith, ap length (law m c.body.pieces x.pieces rising h.pieces_are) ∙ length-units m x.pieces, sym (tries_weigh m rising c.tries (tries_in_range m c.tries x.tries h.tries_are)) ∙ ap tries_weight (sym (tries_mean m c.tries x.tries h.tries_are)))
+code_weighs law m c x rising h = by ∙ ap code_weight h.means
+  where
+    by : numbered_code_weight c ≡ code_weight (code_in m c)
+    by = omega (
+      arith,
+      ap length (law m c.body.pieces (map (piece_in m) c.body.pieces) rising (record { known = h.known.pieces_known; mean = refl })) ∙ length-units m (map (piece_in m) c.body.pieces),
+      tries_weigh m rising c.tries (All-map (IsInRange m) (λ (t : NumberedTry). t.handler) c.tries h.known.tries_known),
+    )

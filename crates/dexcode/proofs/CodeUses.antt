@@ -1,5 +1,5 @@
 -- The symbols of a code item, part by part.
-use Rattle.dexcode.proofs.Common.{◌≡◌, List, [], ◌∷◌, ◌++◌, Option, Some, None, option_to_list, refl, sym, subst, All, FoldsTo, flat_map, append-nil, All-nil, All-append, All-head, All-tail, Use, uses_of, NumberedDebug, debug_uses, all_prefix, all_back, visited_both, NumberedItem, tries_uses, item_uses}
+use Rattle.dexcode.proofs.Common.{◌≡◌, List, [], ◌∷◌, ◌++◌, Option, Some, None, IfSome, option_to_list, refl, sym, subst, All, FoldsTo, flat_map, append-nil, All-nil, All-append, All-head, All-tail, Use, uses_of, NumberedDebug, debug_uses, all_prefix, all_back, visited_both, NumberedItem, tries_uses, item_uses}
 
 -- what holds of all that each member gives holds of all together
 pub all_flat : {X : Type 0} (P : X → Type 0) (Q : Use → Type 0) (f : X → List Use) (xs : List X) → ((x : X) → P x → All Q (f x)) → All P xs → All Q (flat_map f xs)
@@ -10,8 +10,12 @@ all_flat P Q f (x ∷ xs) step all = All-append Q (f x) (flat_map f xs) (step x 
 abbrev pub optional_debug_uses : Option NumberedDebug → List Use
 optional_debug_uses o = flat_map debug_uses (option_to_list o)
 
+pub if_debug : (P : Use → Type 0) (o : Option NumberedDebug) → All P (optional_debug_uses o) → IfSome o (λ d. All P (debug_uses d))
+if_debug P None all = tt
+if_debug P (Some d) all = all_prefix P (debug_uses d) [] all
+
 pub debug_part : (P : Use → Type 0) (o : Option NumberedDebug) (d : NumberedDebug) → All P (optional_debug_uses o) → o ≡ Some d → All P (debug_uses d)
-debug_part P o d all e = all_prefix P (debug_uses d) [] (subst (λ p. All P (optional_debug_uses p)) e all)
+debug_part P o d all e = subst (λ p. IfSome p (λ d. All P (debug_uses d))) e (if_debug P o all)
 
 module _ (P : Use → Type 0) (c : NumberedItem) (all : All P (item_uses c)) where
   pub pieces_part : All P (uses_of c.body.pieces)

@@ -1,8 +1,8 @@
 -- Code items read: what is at the offset, and which condition fails.
-use Rattle.dexcode.proofs.Common.{◌≡◌, ◌≢◌, ℕ, ◌+◌, ◌*◌, ◌%◌, Bool, false, List, [], length, map, get_or, Option, Some, None, refl, ap, sym, subst, ◌∙◌, inl, inr, arith, pos, All, All-nil, uint_at, ushort_at, Mentions, Cut, Piece, is_instruction_start, DebugAt, code_units, PiecesAt, RegistersAt, ItemFault, Refused, Memory, ArePools, AreRising, NumberedCode, ArePiecesAt, AreStartsAt, NumberedDebug, IsDebugAt, NumberedTry, try_meant, TryItemsAt, TriesAt, IsTriesFault, IsCodeAt, IsCodeFault, IsDebugOf, Result, Ok, Err, IfOk, IfErr, sum_by-cons, Code, code_weight, debug_weight, NumberedPiece, IsDebugFault, HasCodeOf, HasProgramOf, HaveTriesOf, IsProgramFault, numbered_code_weight, NumberedItem, DenotesCode}
+use Rattle.dexcode.proofs.Common.{◌≡◌, ◌≢◌, ℕ, ◌+◌, ◌*◌, ◌%◌, Bool, false, List, [], length, map, get_or, Option, Some, None, refl, ap, sym, subst, ◌∙◌, inl, inr, arith, pos, All, All-nil, uint_at, ushort_at, Mentions, Cut, Piece, is_instruction_start, DebugAt, code_units, PiecesAt, RegistersAt, ItemFault, Refused, Memory, ArePools, AreRising, NumberedCode, ArePiecesAt, AreStartsAt, NumberedDebug, IsDebugAt, NumberedTry, debug_in, option_map, Debug, try_meant, TryItemsAt, TriesAt, IsTriesFault, IsCodeAt, IsCodeFault, IsDebugOf, Result, Ok, Err, IfOk, IfErr, sum_by-cons, Code, code_weight, debug_weight, NumberedPiece, IsDebugFault, HasCodeOf, HasProgramOf, HaveTriesOf, IsProgramFault, numbered_code_weight, NumberedItem, DenotesCode}
 use Rattle.dexspec.specs.Code as whole
 use Rattle.dexspec.proofs.wellformed.FormedRows.{length-ushorts_at}
-use Rattle.dexcode.proofs.Meanings.{tries_encoded}
+use Rattle.dexcode.proofs.Images.{all_back_map}
 use Rattle.dexcode.proofs.TryRows.{IsInRange, items_found, items_back, items_in_range}
 use Rattle.dexinsn.specs.declared.shape.PiecesShape.{PiecesShape}
 use Rattle.dexinsn.specs.Checking.{HasPiecesOf}
@@ -63,19 +63,18 @@ module _ (b : List ℕ) (off : ℕ) (m : Mentions) (pools : ArePools b m) (risin
       (ts.0, inr (d, inr (g.0, g.1, subst (λ (n : ℕ). TryItemsAt starts (length m.types) n b (off + 18 + 2 * uint_at b (off + 12)) (ushort_at b (off + 6)) ts.0) units ts.1)))
 
 pub no_debug : (b : List ℕ) (off : ℕ) (m : Mentions) → uint_at b (off + 8) ≡ 0 → IsDebugOf b off m None
-no_debug b off m zero = record { program = None; at = inl (zero, refl); encodes = tt }
+no_debug b off m zero = record { known = tt; at = inl (zero, refl) }
 
 pub some_debug : (b : List ℕ) (off debug_off : ℕ) (m : Mentions) (d : NumberedDebug) → debug_off ≡ uint_at b (off + 8) → (debug_off ≡ 0 → ⊥) → IsDebugAt b debug_off m d → IsDebugOf b off m (Some d)
 some_debug b off debug_off m d is some h = record {
-  program = Some h.program;
-  at = inr ((λ e. some (is ∙ e)), subst (λ (o : ℕ). DebugAt b o h.program) is h.at);
-  encodes = h.encodes;
+  known = h.encodes.known;
+  at = inr ((λ e. some (is ∙ e)), subst (λ (x : Debug). DebugAt b (uint_at b (off + 8)) x) (sym h.encodes.means) (subst (λ (o : ℕ). DebugAt b o h.program) is h.at));
 }
 
 pub code_found : (b : List ℕ) (off : ℕ) (m : Mentions) → ArePools b m → AreRising m → (starts : List Bool) → AreStartsAt b off starts → (body : NumberedCode) → RegistersAt b off body.registers body.ins body.outs → ArePiecesAt b off m body.pieces
     → (ts : List NumberedTry) → TriesAt starts (length m.types) b off ts → (d : Option NumberedDebug) → IsDebugOf b off m d → IsCodeAt b off m (record { body = body; tries = ts; debug = d })
 code_found b off m pools rising starts starts_are body registers pieces ts tries d debug = record {
-  symbolic = record { registers = body.registers; ins = body.ins; outs = body.outs; pieces = pieces.symbolic; tries = map (try_meant m) ts; debug = debug.program };
+  symbolic = record { registers = body.registers; ins = body.ins; outs = body.outs; pieces = pieces.symbolic; tries = map (try_meant m) ts; debug = option_map (debug_in m) d };
   at = record {
     registers = registers;
     cuts = pieces.cuts;
@@ -84,12 +83,12 @@ code_found b off m pools rising starts starts_are body registers pieces ts tries
     debug = debug.at;
   };
   encodes = record {
-    registers_are = refl;
-    ins_are = refl;
-    outs_are = refl;
-    pieces_are = pieces.are_encoded;
-    tries_are = tries_encoded m ts (tries_range b off m pools rising starts starts_are pieces.cuts pieces.symbolic pieces.at ts tries);
-    debug_is = debug.encodes;
+    known = record {
+      pieces_known = pieces.are_encoded.known;
+      tries_known = all_back_map (IsInRange m) (λ (t : NumberedTry). t.handler) ts (tries_range b off m pools rising starts starts_are pieces.cuts pieces.symbolic pieces.at ts tries);
+      debug_known = debug.known;
+    };
+    means = λ i. record { registers = body.registers; ins = body.ins; outs = body.outs; pieces = pieces.are_encoded.mean i; tries = map (try_meant m) ts; debug = option_map (debug_in m) d };
   };
 }
 
@@ -115,13 +114,10 @@ pub code_weighed : WeightLaw → (b : List ℕ) (off : ℕ) (m : Mentions) → A
 code_weighed law b off m pools rising starts starts_are s pieces tries program ts d =
     let item : NumberedItem = record { body = record { registers = s.registers; ins = s.ins; outs = s.outs; pieces = pieces.pieces }; tries = ts.tries; debug = None } in
     let unindexed : Code = record { registers = s.registers; ins = s.ins; outs = s.outs; pieces = pieces.at.symbolic; tries = map (try_meant m) ts.tries; debug = None } in
+    let tries = tries_range b off m pools rising starts starts_are pieces.at.cuts pieces.at.symbolic pieces.at.at ts.tries ts.at in
     let encodes : DenotesCode m item unindexed = record {
-      registers_are = refl;
-      ins_are = refl;
-      outs_are = refl;
-      pieces_are = pieces.at.are_encoded;
-      tries_are = tries_encoded m ts.tries (tries_range b off m pools rising starts starts_are pieces.at.cuts pieces.at.symbolic pieces.at.at ts.tries ts.at);
-      debug_is = tt;
+      known = record { pieces_known = pieces.at.are_encoded.known; tries_known = all_back_map (IsInRange m) (λ (t : NumberedTry). t.handler) ts.tries tries; debug_known = tt };
+      means = λ i. record { registers = s.registers; ins = s.ins; outs = s.outs; pieces = pieces.at.are_encoded.mean i; tries = map (try_meant m) ts.tries; debug = None };
     } in
     record {
       code = record { registers = s.registers; ins = s.ins; outs = s.outs; pieces = pieces.at.symbolic; tries = map (try_meant m) ts.tries; debug = d.program };

@@ -14,11 +14,11 @@ pub use Rattle.std.specs.Option.{IfSome, IsSome, option_map, option_map_or, unwr
 pub use Rattle.std.specs.Prelude.{Err, IfErr, IfNone, IfOk, IsTrue, Ok, Result, nat_abs, pos, ℤ, ◌-ℤ◌, ◌↔◌}
 pub use Rattle.dexdebug.proofs.DebugRuns.{one_after}
 pub use Rattle.dexdebug.proofs.DebugSame.{same_at}
-pub use Rattle.dexdebug.specs.Debug.{DenotesDebug, FitsIndex, HasPlace, IsFormedDebug, IsFormedOperation, NumberedDebug, debug_uses, name_of, number_uses, operation_uses, renumbered_debug, signature_of, type_of}
+pub use Rattle.dexdebug.specs.Debug.{FitsIndex, HasPlace, IsFormedDebug, IsFormedOperation, NumberedDebug, debug_uses, name_of, number_uses, operation_uses, renumbered_debug, signature_of, type_of}
 pub use Rattle.dexdebug.specs.DebugReading.{IsDebugAt, IsDebugFault}
 pub use Rattle.dexdebug.specs.Meaning.{IsKnownDebug, debug_in}
 pub use Rattle.dexhead.proofs.Encoded.{given_all, given_more}
-pub use Rattle.dexinsn.specs.Numbered.{Denote, Denotes, Instruction, NumberedCode, NumberedPiece, Payload, kind_in, kind_of_pool, numbered_units, uses_of}
+pub use Rattle.dexinsn.specs.Numbered.{Denote, Instruction, IsKnownPiece, NumberedCode, NumberedPiece, Payload, kind_in, numbered_units, piece_in, uses_of}
 unfoldable pub use Rattle.dexinsn.specs.Numbered.{numbered_bytes}
 pub use Rattle.dexinsn.specs.Reading.{ArePiecesAt, AreStartsAt}
 pub use Rattle.dexpool.proofs.KeptNumbers.{are_marked, maps_within, marked_remapped}
@@ -52,7 +52,7 @@ pub use Rattle.dexspec.specs.Symbols.{FieldPool, FieldSymbol, MethodPool, Method
 pub use Rattle.dexspec.specs.Texts.{Text, text_cmp}
 pub use Rattle.dexspec.specs.Weight.{code_weight, debug_weight, tries_weight}
 pub use Rattle.indexmap.specs.IndexSet.{insert_key}
-pub use Rattle.dexcode.specs.{AreApart, AreApartFrom, AreNumbered, ArePlaces, AreStored, AreTypesApart, BeginsAt, CatchAllAt, CatchAt, CatchesRead, DenotesCatch, DenotesCode, DenotesTry, HandlerAt, HasCodeOf, HasImages, HasPlaces, HasProgramOf, HasShortTypes, HasTypePlace, HaveTriesOf, IsCodeAt, IsCodeFault, IsFormedHandler, IsHandler, IsKnownCode, IsKnownPiece, IsKnownTry, IsListAt, IsNumberPut, IsProgramFault, IsStart, IsTriesFault, IsWhole, ListedTryAt, NumberedHandler, NumberedItem, NumberedTry, NumbersFit, TriesAt, TriesRead, TryAt, TryItemsAt, all_named, catch_meant, catch_use, code_in, gap_bytes, handler_count, handler_decides, handler_equiv, handler_meant, handler_uses, handlers_of, handlers_weight, item_uses, named, no_handler, numbered_catch_bytes, numbered_code_bytes, numbered_code_weight, numbered_handler_bytes, numbered_handler_off, numbered_head_bytes, numbered_list_bytes, numbered_table_bytes, numbered_tries_bytes, numbered_tries_weight, numbered_try_bytes, piece_in, place_of, placed_try_bytes, remapped_try, remapped_type, renumbered_catch, renumbered_handler, renumbered_item, renumbered_try, same_handler, symbol_at, tries_uses, try_meant, unit_count}
+pub use Rattle.dexcode.specs.{AreApart, AreApartFrom, AreNumbered, ArePlaces, AreStored, AreTypesApart, BeginsAt, CatchAllAt, CatchAt, CatchesRead, DenotesCode, HandlerAt, HasCodeOf, HasImages, HasPlaces, HasProgramOf, HasShortTypes, HasTypePlace, HaveTriesOf, IsCodeAt, IsCodeFault, IsFormedHandler, IsHandler, IsKnownCode, IsKnownTry, IsListAt, IsNumberPut, IsProgramFault, IsStart, IsTriesFault, IsWhole, ListedTryAt, NumberedHandler, NumberedItem, NumberedTry, NumbersFit, TriesAt, TriesRead, TryAt, TryItemsAt, all_named, catch_meant, catch_use, code_in, gap_bytes, handler_count, handler_decides, handler_equiv, handler_meant, handler_uses, handlers_of, handlers_weight, item_uses, named, no_handler, numbered_catch_bytes, numbered_code_bytes, numbered_code_weight, numbered_handler_bytes, numbered_handler_off, numbered_head_bytes, numbered_list_bytes, numbered_table_bytes, numbered_tries_bytes, numbered_tries_weight, numbered_try_bytes, place_of, placed_try_bytes, remapped_try, remapped_type, renumbered_catch, renumbered_handler, renumbered_item, renumbered_try, same_handler, tries_uses, try_meant, unit_count}
 unfoldable pub use Rattle.dexcode.specs.{numbered_item_bytes}
 pub use Rattle.dexcode.specs.declared.handlers.Catch.{Catch}
 pub use Rattle.dexcode.specs.declared.tries.Try.{Try}

@@ -1,7 +1,8 @@
 -- Handlers of a list: what those before a place weigh, and where each begins.
 use Rattle.dexcode.proofs.Common.{◌≡◌, ℕ, zero, suc, ◌+◌, ◌*◌, ◌^◌, ◌<◌, ◌≤◌, Bool, List, [], ◌∷◌, ◌++◌, length, map, take, get_or, refl, ap, sym, subst, ◌∙◌, if◌then◌else◌, arith, length-append, All, All-cons, All-nil, flat_map, false_from_ne_true, sum_by-cons, sum_by_more, AreDistinct, ushort, uint, uleb128, Mentions, distinct_once, all_of, Try, handler_decides, NumberedHandler, NumberedTry, no_handler, same_handler, handlers_of, handlers_weight, named, all_named, AreStored, HasShortTypes, ArePlaces, numbered_handler_bytes, numbered_handler_off, numbered_try_bytes, place_of, placed_try_bytes}
 use Rattle.std.proofs.lemmas.List.Concat.{length-flat_map}
-use Rattle.dexcode.proofs.Images.{all_distinct, flat_mapped}
+use Rattle.dexpool.proofs.Numbers.{flat_mapped}
+use Rattle.dexcode.proofs.Images.{all_distinct}
 use Rattle.dexcode.proofs.TryRows.{IsInRange}
 
 abbrev one_weight : NumberedHandler → ℕ

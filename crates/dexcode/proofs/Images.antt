@@ -1,6 +1,6 @@
 -- Items that are images of others: their offsets are those of the others, and the distinct ones are images of the
 -- distinct others.
-use Rattle.dexcode.proofs.Common.{◌≡◌, ℕ, zero, suc, ◌+◌, ◌<◌, Bool, List, [], ◌∷◌, ◌++◌, length, map, take, drop, get_or, refl, ap, subst, arith, All, flat_map, length-map, get_or-map, All-nil, All-cons, All-head, All-tail, All-contains, Contains-get_or, Item, Sequence, distinct, distinct_mapped}
+use Rattle.dexcode.proofs.Common.{◌≡◌, ℕ, zero, suc, ◌+◌, ◌<◌, Bool, List, [], ◌∷◌, ◌++◌, length, map, take, drop, get_or, refl, ap, subst, arith, All, length-map, get_or-map, All-nil, All-cons, All-contains, Contains-get_or, Item, Sequence, distinct, distinct_mapped}
 use Rattle.dexspec.proofs.lists.Sources.{distinct_source}
 
 -- the images of items are at the offsets of the items
@@ -41,8 +41,3 @@ all_distinct P same xs all = λ k d lt. All-contains P xs (get_or (distinct same
 -- the distinct images are the images of the distinct members
 pub distinct_map : {X Y : Type 0} (same : X → X → Bool) (equivalent : Y → Y → Bool) (f : X → Y) (P : X → Type 0) → ((x y : X) → P x → P y → equivalent (f x) (f y) ≡ same x y) → (xs : List X) → All P xs → distinct equivalent (map f xs) ≡ map f (distinct same xs)
 distinct_map same equivalent f P agree xs all = distinct_mapped f same equivalent xs (λ x y here there. agree x y (All-contains P xs x all here) (All-contains P xs y all there))
-
--- what images give is what the members give
-pub flat_mapped : {X Y Z : Type 0} (P : X → Type 0) (f : Y → List Z) (g : X → Y) (h : X → List Z) → ((x : X) → P x → f (g x) ≡ h x) → (xs : List X) → All P xs → flat_map f (map g xs) ≡ flat_map h xs
-flat_mapped P f g h each [] all = refl
-flat_mapped P f g h each (x ∷ xs) all = λ i. each x (All-head P x xs all) i ++ flat_mapped P f g h each xs (All-tail P x xs all) i

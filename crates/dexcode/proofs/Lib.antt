@@ -16,5 +16,4 @@ pub mod KeptUses
 pub mod CodeSpellings
 pub mod HandlerPlaces
 pub mod CodeSizes
-pub mod Meanings
 pub mod MeaningRanked

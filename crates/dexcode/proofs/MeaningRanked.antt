@@ -1,29 +1,23 @@
 -- Numbers are the ranks of what they mean, so code of two numberings, mapped to a third, is the same there just where
 -- it means the same.
-use Rattle.dexcode.proofs.Common.{◌≡◌, ℕ, ◌<◌, [], length, map, Some, refl, ap, sym, ◌∙◌, ◌↔◌, option_map, rank, Symbol, TextSymbol, TypeSymbol, ProtoSymbol, FieldSymbol, MethodSymbol, proto_cmp, field_cmp, method_cmp, Mentions, Piece, SymbolKind, RanksAreNumbers, Maps, AllMapTo, count_of, NumberedPiece, Instruction, Payload, kind_in, debug_in, IsKnownDebug, Catch, symbol_at, piece_in, code_in, IsKnownPiece, IsKnownTry, IsKnownCode, NumberedTry, NumberedItem, catch_meant, try_meant, HasImages, renumbered_item}
+use Rattle.dexcode.proofs.Common.{◌≡◌, ℕ, ◌<◌, length, map, Some, refl, ap, sym, ◌∙◌, ◌↔◌, option_map, AreRising, Mentions, Piece, Maps, AllMapTo, NumberedPiece, Instruction, Payload, kind_in, debug_in, IsKnownDebug, Catch, IsKnownPiece, piece_in, code_in, IsKnownTry, IsKnownCode, NumberedTry, NumberedItem, catch_meant, try_meant, HasImages, renumbered_item}
 use Rattle.dexspec.specs.Pieces as pieces
 use Rattle.dexspec.specs.Code as symbolic
+use Rattle.dexspec.specs.Spellings.{symbol_index, type_index}
 use Rattle.dexpool.specs.declared.symbols.SymbolKind.TheVariants as kinds
-use Rattle.dexcode.proofs.CodeMeanings as codes_remapped
-use Rattle.dexcode.proofs.Meanings.{code_known, code_means, code_encoded}
-use Rattle.dexdebug.proofs.DebugRanked.{all_back, one_back, text_rank, type_rank, ranked_debug, debug_back}
+use Rattle.dexpool.proofs.Numbers.{number_ranked, all_back, one_back}
+use Rattle.dexdebug.proofs.DebugRanked.{ranked_debug, debug_back}
+use Rattle.dexcode.proofs.CodeMeanings.{code_kept}
 
 -- ---- ranks instead of symbols
 
 module _ (m : Mentions) where
-  abbrev symbol_rank : Symbol → ℕ
-  symbol_rank (TextSymbol s) = text_rank m s
-  symbol_rank (TypeSymbol t) = type_rank m t
-  symbol_rank (ProtoSymbol p) = rank proto_cmp p m.protos
-  symbol_rank (FieldSymbol f) = rank field_cmp f m.fields
-  symbol_rank (MethodSymbol x) = rank method_cmp x m.methods
-
   abbrev ranked_piece : Piece → NumberedPiece
-  ranked_piece (pieces.Instruction us s) = Instruction us (option_map symbol_rank s)
+  ranked_piece (pieces.Instruction us s) = Instruction us (option_map (symbol_index m) s)
   ranked_piece (pieces.Payload us) = Payload us
 
   abbrev ranked_catch : symbolic.Catch → Catch
-  ranked_catch c = record { typ = type_rank m c.type; addr = c.address }
+  ranked_catch c = record { typ = type_index m c.type; addr = c.address }
 
   abbrev ranked_try : symbolic.Try → NumberedTry
   ranked_try t = record { start_addr = t.start; insn_count = t.count; handler = record { catches = map ranked_catch t.handler.catches; catch_all_addr = t.handler.catch_all } }
@@ -37,28 +31,18 @@ module _ (m : Mentions) where
 
 -- ---- the ranks are the numbers
 
-module _ (m : Mentions) (ranks : RanksAreNumbers m) where
-  symbol_back : (kind : SymbolKind) (i : ℕ) → i < count_of kind m → symbol_rank m (symbol_at m kind i) ≡ i
-  symbol_back kinds.Text i lt = ranks.texts_are i [] lt
-  symbol_back kinds.Typ i lt = ranks.types_are i [] lt
-  symbol_back kinds.Proto i lt = ranks.protos_are i (record { return_type = []; parameters = [] }) lt
-  symbol_back kinds.Field i lt = ranks.fields_are i (record { class = []; name = []; type = [] }) lt
-  symbol_back kinds.Method i lt = ranks.methods_are i (record { class = []; name = []; proto = record { return_type = []; parameters = [] } }) lt
-
+module _ (m : Mentions) (rising : AreRising m) where
   piece_back : (p : NumberedPiece) → IsKnownPiece m p → ranked_piece m (piece_in m p) ≡ p
-  piece_back (Instruction us (Some n)) h = ap (λ (i : ℕ). Instruction us (Some i)) (symbol_back (kind_in us) n h.1)
+  piece_back (Instruction us (Some n)) h = ap (λ (i : ℕ). Instruction us (Some i)) (number_ranked m rising (kind_in us) n h.1)
   piece_back _ h = refl
 
   catch_back : (c : Catch) → c.typ < length m.types → ranked_catch m (catch_meant m c) ≡ c
-  catch_back c lt = let typ = ranks.types_are c.typ [] lt in λ i. record { typ = typ i; addr = c.addr }
+  catch_back c lt = let typ = number_ranked m rising kinds.Typ c.typ lt in λ i. record { typ = typ i; addr = c.addr }
 
   try_back : (t : NumberedTry) → IsKnownTry m t → ranked_try m (try_meant m t) ≡ t
   try_back t h =
-      λ i. record {
-        start_addr = t.start_addr;
-        insn_count = t.insn_count;
-        handler = record { catches = (all_back (catch_meant m) (ranked_catch m) (λ (c : Catch). c.typ < length m.types) catch_back t.handler.catches h) i; catch_all_addr = t.handler.catch_all_addr };
-      }
+      let catches = all_back (λ (c : Catch). c.typ < length m.types) (catch_meant m) (ranked_catch m) catch_back t.handler.catches h in
+      λ i. record { start_addr = t.start_addr; insn_count = t.insn_count; handler = record { catches = catches i; catch_all_addr = t.handler.catch_all_addr } }
 
   code_back : (c : NumberedItem) → IsKnownCode m c → ranked_code m (code_in m c) ≡ c
   code_back c h =
@@ -67,24 +51,19 @@ module _ (m : Mentions) (ranks : RanksAreNumbers m) where
           registers = c.body.registers;
           ins = c.body.ins;
           outs = c.body.outs;
-          pieces = (all_back (piece_in m) (ranked_piece m) (IsKnownPiece m) piece_back c.body.pieces h.pieces_known) i;
+          pieces = (all_back (IsKnownPiece m) (piece_in m) (ranked_piece m) piece_back c.body.pieces h.pieces_known) i;
         };
-        tries = (all_back (try_meant m) (ranked_try m) (IsKnownTry m) try_back c.tries h.tries_known) i;
-        debug = (one_back (debug_in m) (ranked_debug m) (IsKnownDebug m) (debug_back m ranks) c.debug h.debug_known) i;
+        tries = (all_back (IsKnownTry m) (try_meant m) (ranked_try m) try_back c.tries h.tries_known) i;
+        debug = (one_back (IsKnownDebug m) (debug_in m) (ranked_debug m) (debug_back m rising) c.debug h.debug_known) i;
       }
 
 -- ---- other numbers
 
-pub code_remapped : (m n : Mentions) (r : Maps) (c : NumberedItem) → AllMapTo m n r → HasImages r c → IsKnownCode m c → IsKnownCode n (renumbered_item r c) × (code_in n (renumbered_item r c) ≡ code_in m c)
-code_remapped m n r c maps_to images known =
-    let encodes = codes_remapped.renumbered_denotes m n r c (code_in m c) maps_to images (code_encoded m c known) in
-    (code_known n (renumbered_item r c) (code_in m c) encodes, sym (code_means n (renumbered_item r c) (code_in m c) encodes))
-
-module _ (m n whole : Mentions) (r s : Maps) (ranks : RanksAreNumbers whole) (from_first : AllMapTo m whole r) (from_second : AllMapTo n whole s) where
+module _ (m n whole : Mentions) (r s : Maps) (rising : AreRising whole) (from_first : AllMapTo m whole r) (from_second : AllMapTo n whole s) where
   pub same_code : (c d : NumberedItem) → HasImages r c → HasImages s d → IsKnownCode m c → IsKnownCode n d → (renumbered_item r c ≡ renumbered_item s d) ↔ (code_in m c ≡ code_in n d)
   same_code c d images images' known known' =
-      let mine = code_remapped m whole r c from_first images known in
-      let theirs = code_remapped n whole s d from_second images' known' in (
+      let mine = code_kept m whole r from_first c images known in
+      let theirs = code_kept n whole s from_second d images' known' in (
         λ same. sym mine.1 ∙ ap (code_in whole) same ∙ theirs.1,
-        λ same. sym (code_back whole ranks (renumbered_item r c) mine.0) ∙ ap (ranked_code whole) (mine.1 ∙ same ∙ sym theirs.1) ∙ code_back whole ranks (renumbered_item s d) theirs.0,
+        λ same. sym (code_back whole rising (renumbered_item r c) mine.0) ∙ ap (ranked_code whole) (mine.1 ∙ same ∙ sym theirs.1) ∙ code_back whole rising (renumbered_item s d) theirs.0,
       )

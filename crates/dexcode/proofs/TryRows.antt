@@ -1,6 +1,9 @@
 -- Tries and handlers with numbers are where those with types are whose rows have these numbers.
-use Rattle.dexcode.proofs.Common.{◌≡◌, ℕ, suc, ◌+◌, ◌*◌, ◌<◌, ◌≤◌, Bool, false, List, [], ◌∷◌, ◌++◌, length, map, take, drop, get_or, Option, Some, None, refl, ap, sym, subst, ◌∙◌, arith, ℤ, pos, one_answer, All, All-map, All-head, All-tail, length-map, length-append, map-append, get_or-map, get_or_default, map-map, Sequence, distinct, rank, Uleb128At, Text, text_cmp, Cut, is_instruction_start, Mentions, Rises-from_rises, rank-get_or, text_total, one_sequence, sum_by-mapped, ArePools, AreRising, Catch, handler_decides, NumberedHandler, NumberedTry, no_handler, catch_meant, handler_meant, try_meant, same_handler, handlers_of, handlers_weight, CatchAt, CatchAllAt, HandlerAt, IsHandler, TryAt, AreApart, TryItemsAt}
+use Rattle.dexcode.proofs.Common.{◌≡◌, ℕ, suc, ◌+◌, ◌*◌, ◌<◌, ◌≤◌, Bool, false, List, [], ◌∷◌, ◌++◌, length, map, take, drop, get_or, Option, Some, None, refl, ap, sym, subst, ◌∙◌, arith, ℤ, pos, one_answer, All, All-map, All-head, All-tail, length-map, length-append, map-append, get_or-map, get_or_default, map-map, Sequence, distinct, Uleb128At, Cut, is_instruction_start, Mentions, one_sequence, sum_by-mapped, ArePools, AreRising, Catch, handler_decides, NumberedHandler, NumberedTry, no_handler, catch_meant, handler_meant, try_meant, same_handler, handlers_of, handlers_weight, CatchAt, CatchAllAt, HandlerAt, IsHandler, TryAt, AreApart, TryItemsAt}
 use Rattle.dexspec.specs.Code as symbolic
+use Rattle.dexspec.specs.Spellings.{type_index}
+use Rattle.dexpool.specs.declared.symbols.SymbolKind.TheVariants as kinds
+use Rattle.dexpool.proofs.Numbers.{number_ranked}
 use Rattle.dexspec.proofs.determined.OneRow.{one_type}
 use Rattle.dexspec.proofs.determined.OneCode as one
 use Rattle.dexspec.proofs.written.HandlerPlaces.{handler_decides as symbolic_decides}
@@ -21,9 +24,7 @@ IsInRange m h = All (λ c. c.typ < length m.types) h.catches
 
 module _ (m : Mentions) (rising : AreRising m) where
   one_number : (i j : ℕ) → i < length m.types → j < length m.types → get_or m.types i [] ≡ get_or m.types j [] → i ≡ j
-  one_number i j li lj e =
-      let rises = Rises-from_rises text_cmp text_total m.types rising.types_rise in
-      sym (rank-get_or text_cmp text_total m.types i [] rises li) ∙ ap (λ (t : Text). rank text_cmp t m.types) e ∙ rank-get_or text_cmp text_total m.types j [] rises lj
+  one_number i j li lj e = sym (number_ranked m rising kinds.Typ i li) ∙ ap (type_index m) e ∙ number_ranked m rising kinds.Typ j lj
 
   one_list : (cs ds : List Catch) → All (λ c. c.typ < length m.types) cs → All (λ c. c.typ < length m.types) ds → map (catch_meant m) cs ≡ map (catch_meant m) ds → cs ≡ ds
   one_list [] [] h g e = refl

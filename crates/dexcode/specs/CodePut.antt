@@ -14,7 +14,8 @@ use Rattle.dexspec.specs.internal.Writing.{Puts}
 use Rattle.dexinsn.specs.Numbered.{NumberedCode, numbered_units, numbered_bytes}
 use Rattle.dexcode.specs.declared.handlers.Catch.{Catch}
 use Rattle.dexcode.specs.declared.tries.Try.{Try}
-use Rattle.dexcode.specs.Numbered.{NumberedHandler, NumberedTry, NumberedItem, same_handler, handlers_of, handlers_weight, DenotesCode}
+use Rattle.dexcode.specs.Numbered.{NumberedHandler, NumberedTry, NumberedItem, same_handler, handlers_of, handlers_weight}
+use Rattle.dexcode.specs.Meaning.{DenotesCode}
 use Rattle.dexpool.specs.Numberings.{AreRising}
 
 -- an encoded_type_addr_pair

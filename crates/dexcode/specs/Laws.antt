@@ -16,8 +16,8 @@ use Rattle.dexinsn.specs.Fitting.{ImagesFit, IsGreatest, MapsShort, short_string
 use Rattle.dexinsn.specs.Numbered as pieces
 use Rattle.dexcode.specs.CodePut.{HasShortTypes, numbered_code_bytes, numbered_code_weight}
 use Rattle.dexdebug.specs.Debug.{NumberedDebug, IsFormedDebug, HasPlace, debug_uses}
-use Rattle.dexcode.specs.Meaning.{code_in, IsKnownCode}
-use Rattle.dexcode.specs.Numbered.{NumberedItem, DenotesCode, handlers_of}
+use Rattle.dexcode.specs.Meaning.{code_in, IsKnownCode, DenotesCode}
+use Rattle.dexcode.specs.Numbered.{NumberedItem, handlers_of}
 use Rattle.dexcode.specs.Renumbering.{item_uses, HasPlaces, HasImages, NumbersFit, renumbered_item}
 
 -- ---- the bytes of code

@@ -2,13 +2,12 @@
 use Rattle.std.specs.Prelude.{◌≡◌, ℕ, ◌+◌, ◌*◌, ◌^◌, ◌<◌, ◌≤◌, Bool, ◌&&◌, ◌==◌, List, [], length, map, sum_by, All, slice_index_or, Option, None}
 use Rattle.std.specs.Option.{option_eq}
 use Rattle.std.specs.Cmp.Lexicographic.{pointwise}
-use Rattle.std.specs.List.{AllZip}
-use Rattle.dexspec.specs.Lists.{distinct, BothOrNone}
+use Rattle.dexspec.specs.Lists.{distinct}
 use Rattle.dexspec.specs.Mentions.{Mentions}
 use Rattle.dexspec.specs.Code as symbolic
-use Rattle.dexpool.specs.Numberings.{IsAt, AreRising}
-use Rattle.dexinsn.specs.Numbered.{NumberedCode, Denote}
-use Rattle.dexdebug.specs.Debug.{NumberedDebug, DenotesDebug}
+use Rattle.dexpool.specs.NumberedSymbols.{type_at}
+use Rattle.dexinsn.specs.Numbered.{NumberedCode}
+use Rattle.dexdebug.specs.Debug.{NumberedDebug}
 use Rattle.dexcode.specs.declared.handlers.Catch.{Catch}
 use Rattle.dexcode.specs.declared.tries.Try.{Try}
 
@@ -74,25 +73,9 @@ pub record AreStored (hs : List NumberedHandler) (ts : List Try) : Type 0 where
 
 -- ---- what numbers denote
 
--- the catch is the symbolic one, where types are numbered so
-pub record DenotesCatch (m : Mentions) (c : Catch) (x : symbolic.Catch) : Type 0 where
-  pub type_is : IsAt m.types c.typ x.type
-  pub address_is : c.addr ≡ x.address
-
--- the handler is
-pub record DenotesHandler (m : Mentions) (h : NumberedHandler) (x : symbolic.Handler) : Type 0 where
-  pub catches_are : AllZip (DenotesCatch m) h.catches x.catches
-  pub catch_all_is : h.catch_all_addr ≡ x.catch_all
-
--- the try is
-pub record DenotesTry (m : Mentions) (t : NumberedTry) (x : symbolic.Try) : Type 0 where
-  pub start_is : t.start_addr ≡ x.start
-  pub count_is : t.insn_count ≡ x.count
-  pub handler_is : DenotesHandler m t.handler x.handler
-
 -- the catch with the type of its number
 abbrev pub catch_meant : Mentions → Catch → symbolic.Catch
-catch_meant m c = record { type = slice_index_or m.types c.typ []; address = c.addr }
+catch_meant m c = record { type = type_at m c.typ; address = c.addr }
 
 -- the handler with its types
 abbrev pub handler_meant : Mentions → NumberedHandler → symbolic.Handler
@@ -109,16 +92,3 @@ pub record NumberedItem : Type 0 where
   pub body : NumberedCode
   pub tries : List NumberedTry
   pub debug : Option NumberedDebug
-
--- the code is the symbolic one, where symbols are numbered so
-pub record DenotesCode (m : Mentions) (c : NumberedItem) (x : symbolic.Code) : Type 0 where
-  pub registers_are : c.body.registers ≡ x.registers
-  pub ins_are : c.body.ins ≡ x.ins
-  pub outs_are : c.body.outs ≡ x.outs
-  pub pieces_are : Denote m c.body.pieces x.pieces
-  pub tries_are : AllZip (DenotesTry m) c.tries x.tries
-  pub debug_is : BothOrNone (DenotesDebug m) c.debug x.debug
-
--- it holds of each code that the numbers denote under a numbering whose symbols rise
-abbrev pub ForDenoted : NumberedItem → (Mentions → symbolic.Code → Type 0) → Type 0
-ForDenoted c P = (m : Mentions) (x : symbolic.Code) → AreRising m → DenotesCode m c x → P m x

@@ -12,7 +12,8 @@ use Rattle.dexpool.specs.declared.faults.ItemFault.{ItemFault}
 use Rattle.dexpool.specs.declared.faults.ItemFault.TheVariants.{Refused, Memory}
 use Rattle.dexcode.specs.declared.handlers.Catch.{Catch}
 use Rattle.dexcode.specs.declared.tries.Try.{Try}
-use Rattle.dexcode.specs.Numbered.{NumberedHandler, NumberedTry, NumberedItem, DenotesCode, handlers_of, handlers_weight}
+use Rattle.dexcode.specs.Numbered.{NumberedHandler, NumberedTry, NumberedItem, handlers_of, handlers_weight}
+use Rattle.dexcode.specs.Meaning.{DenotesCode}
 
 -- an instruction begins at the address
 abbrev pub IsStart : List Bool → ℕ → Type 0

@@ -7,13 +7,12 @@ ghost use Rattle.dexspec.specs.Mentions.{Mentions};
 ghost use Rattle.dexpool.specs.Numberings.{Maps};
 ghost use Rattle.dexpool.specs.declared.marks.Marks.{Marks};
 ghost use Rattle.dexpool.specs.Uses.{Use, AreMarkedToo, IsMappedUse, IsMarkedUse};
-ghost use Rattle.dexcode.specs.Meaning.{code_in, IsKnownCode};
-ghost use Rattle.dexcode.specs.Numbered.{NumberedItem, DenotesCode};
+ghost use Rattle.dexcode.specs.Meaning.{code_in, IsKnownCode, DenotesCode};
+ghost use Rattle.dexcode.specs.Numbered.{NumberedItem};
 ghost use Rattle.dexcode.specs.Renumbering.{item_uses, HasPlaces, HasImages};
 ghost use Rattle.dexcode.specs.Laws.{CodeBytesAreDenoted, CodeBytesAreFewer, CodeWeightIsDenoted, CaughtTypesAreShort, RenumberedCodeDenotes, MappedCodeHasImages, CodeHasPlaces, MarkedUsesHaveImages, CodeFitsMappedDown, CodeFitsWhereGreatestDoes, CodeUsesAreDenoted, CodeUsesHaveMarks, DebugFitsMappedDown, DebugFitsWhereImagesDo, RemappedCodeIsMeant, EqualRemappedCode};
 
 use dexinsn::units_law;
-use dexpool::number_law;
 
 /// Where the symbols rise, the bytes of a numbered code item are those of the code that it denotes, each index the rank
 /// of its symbol. Where caught types have numbers below 2^16, they are at least 3 fewer than it weighs.
@@ -107,6 +106,4 @@ pub fn code_meaning_law()
 pub fn code_remapped_law()
     ensures keeps { RemappedCodeIsMeant }
     ensures same { EqualRemappedCode }
-{
-    number_law();
-}
+{}

@@ -2,7 +2,7 @@
 
 ghost use Rattle.std.specs.Prelude.{◌≡◌, ◌+◌, ◌*◌, ◌^◌, ◌<◌, ℕ, length};
 ghost use Rattle.dexcode.specs.CodePut.{handler_count, numbered_code_bytes, unit_count, IsCodeLen, numbered_code_weight, numbered_tries_weight};
-ghost use Rattle.dexcode.specs.Numbered.{ForDenoted};
+ghost use Rattle.dexcode.specs.Meaning.{ForDenoted};
 ghost use Rattle.dexspec.specs.Weight.{code_weight};
 
 use crate::code::Code;

@@ -13,6 +13,8 @@ pub use Rattle.std.specs.Prelude.{Err, IfOk, IfSome, MatchOption, Ok, Result, if
 pub use Rattle.dexhead.proofs.Encoded.{Completes, completes_all, completes_more}
 pub use Rattle.dexpool.proofs.Parts.{all_back, all_map, all_parts, all_prefix}
 pub use Rattle.dexpool.specs.Numberings.{AllMapTo, AreMarksOf, AreRising, IsAt, Maps, MapsTo, image_of}
+pub use Rattle.dexpool.specs.NumberedSymbols.{name_at, symbol_of, text_at, type_at}
+pub use Rattle.dexpool.specs.Pools.{count_of}
 pub use Rattle.dexpool.specs.Uses.{HasMark, IsMappedUse, IsUseOf, Use}
 pub use Rattle.dexspec.proofs.size.SizeSums.{sum_by-at_most, sum_by-map}
 pub use Rattle.dexspec.proofs.written.PlacedBytes.{is_at, is_at_within, same_first}
@@ -22,9 +24,9 @@ pub use Rattle.dexspec.specs.Mentions.{Mentions, debug_symbols, operation_symbol
 pub use Rattle.dexspec.specs.Numbers.{IsChain, Uleb128At, Uleb128p1At, plus_one, signed_sum, sleb128, sum_of_groups, uleb128, uleb128p1}
 pub use Rattle.dexspec.specs.Texts.{Text, text_cmp}
 pub use Rattle.dexspec.specs.Weight.{debug_weight, operands}
-pub use Rattle.dexdebug.specs.{AreStored, AreTallied, AreTheNames, AreTheOperations, DenotesDebug, DenotesOperation, DenotesText, DenotesType, EndNames, ExtendedAt, FitsIndex, HasDebugAt, HasDebugOf, HasNoDebug, HasPlace, HaveNames, IndexAt, IsDebugAt, IsFormedDebug, IsFormedOperation, IsShape, IsShapeAt, IsSpecial, IsStored, IsStoredAt, KeepsNames, KeepsSymbols, LocalAt, NamesAt, NumberedAt, NumberedDebug, NumberedDebugAt, OperandsAt, ProgramAt, after_numbers, after_operation, both, chain_at, chain_of, counts_of, debug_uses, every, image_or_none, indices_of, name_of, number_in, number_uses, numbered_operation_bytes, numbers_in, operation_of, operation_uses, operation_weight, operations_in, option_decides, renumbered_debug, renumbered_index, renumbered_operation, same_debug, signature_of, stored_debug, text_index, type_of, unindexed, unindexed_of, unindexed_operation, with_numbers}
+pub use Rattle.dexdebug.specs.{AreStored, AreTallied, AreTheNames, AreTheOperations, EndNames, ExtendedAt, FitsIndex, HasDebugAt, HasDebugOf, HasNoDebug, HasPlace, HaveNames, IndexAt, IsDebugAt, IsFormedDebug, IsFormedOperation, IsShape, IsShapeAt, IsSpecial, IsStored, IsStoredAt, KeepsNames, KeepsSymbols, LocalAt, NamesAt, NumberedAt, NumberedDebug, NumberedDebugAt, OperandsAt, ProgramAt, after_numbers, after_operation, both, chain_at, chain_of, counts_of, debug_uses, every, image_or_none, indices_of, name_of, number_in, number_uses, numbered_operation_bytes, numbers_in, operation_of, operation_uses, operation_weight, operations_in, option_decides, renumbered_debug, renumbered_index, renumbered_operation, same_debug, signature_of, stored_debug, text_index, type_of, unindexed, unindexed_of, unindexed_operation, with_numbers}
 unfoldable pub use Rattle.dexdebug.specs.{numbered_debug_bytes, operation_in}
-pub use Rattle.dexdebug.specs.Meaning.{IsKnownDebug, IsKnownOperation, IsKnownText, IsKnownType, debug_in, text_at, type_at}
+pub use Rattle.dexdebug.specs.Meaning.{DenotesDebug, IsKnownDebug, IsKnownOperation, IsKnownText, IsKnownType, debug_in}
 pub use Rattle.dexdebug.specs.contracts.debug_operation.OperationHash.TheImpl.{hash_input-value}
 pub use Rattle.dexdebug.specs.declared.debug_operation.Operation.{Operation}
 pub use Rattle.dexdebug.specs.declared.debug_operation.Operation.TheVariants.{AdvanceLine, AdvancePc, EndLocal, RestartLocal, SetEpilogueBegin, SetFile, SetPrologueEnd, Special, StartLocal, StartLocalExtended}

@@ -1,23 +1,20 @@
 -- Debug programs by the rows of their symbols and by the numbers of these.
-use Rattle.dexdebug.proofs.Common.{◌≡◌, ℕ, ◌+◌, ◌<◌, ◌≤◌, List, [], ◌∷◌, length, take, drop, get_or, length-take, length-drop, Option, Some, None, refl, sym, subst, arith, AllZip, get_or_default, ◌-◌, ◌^◌, Result, Ok, Err, IfOk, MatchOption, Sequence, BothOrNone, BytesAt, Uleb128At, Uleb128p1At, IsChain, Text, Mentions, IsAt, Operation, AdvancePc, AdvanceLine, StartLocal, StartLocalExtended, EndLocal, RestartLocal, SetPrologueEnd, SetEpilogueBegin, SetFile, Special, DebugShape, NumberedDebug, DenotesText, DenotesType, DenotesOperation, IsDebugAt, IndexAt, OperandsAt, NumberedAt, NamesAt, ProgramAt, NumberedDebugAt, IsShape, IsShapeAt, HasDebugOf, HasNoDebug, counts_of}
+use Rattle.dexdebug.proofs.Common.{◌≡◌, ℕ, ◌+◌, ◌<◌, ◌≤◌, List, [], ◌∷◌, length, take, drop, map, length-take, length-drop, Option, Some, None, refl, sym, subst, arith, All, All-nil, All-cons, length-map, option_map, ◌-◌, ◌^◌, Result, Ok, Err, IfOk, MatchOption, Sequence, BothOrNone, BytesAt, Uleb128At, Uleb128p1At, IsChain, Text, Mentions, Operation, AdvancePc, AdvanceLine, StartLocal, StartLocalExtended, EndLocal, RestartLocal, SetPrologueEnd, SetEpilogueBegin, SetFile, Special, DebugShape, NumberedDebug, IsKnownText, IsKnownOperation, debug_in, text_at, type_at, IsDebugAt, IndexAt, OperandsAt, NumberedAt, NamesAt, ProgramAt, NumberedDebugAt, IsShape, IsShapeAt, HasDebugOf, HasNoDebug, counts_of}
 use Rattle.dexspec.specs.Header.{data_off}
 use Rattle.dexspec.specs.Rows.{StringRow, TypeRow}
 use Rattle.dexspec.specs.Debug as symbolic
 use Rattle.dexpool.specs.Pools.{ArePools}
+use Rattle.dexdebug.specs.Meaning.{operation_in}
 use Rattle.dexdebug.proofs.DebugMeanings.{weight_is}
 
--- the number of each symbol is its row
-member_at : {X : Type 0} (xs : List X) (i : ℕ) (d : X) → i < length xs → IsAt xs i (get_or xs i d)
-member_at xs i d lt = record { within = lt; is = λ e. get_or_default xs i e d lt }
-
 module _ (b : List ℕ) (m : Mentions) (pools : ArePools b m) where
-  text_named : (o : ℕ) (i : Option ℕ) (n : ℕ) → IndexAt (length m.texts) b o i n → (s : Option Text) × symbolic.OptionalTextAt b o s n × DenotesText m i s
-  text_named o None n h = (None, (None, h.0, tt), tt)
-  text_named o (Some k) n h = (Some (get_or m.texts k []), (Some k, h.0, pools.texts_are.each k [] (omega (arith, h.1, pools.texts_are.count))), member_at m.texts k [] h.1)
+  text_named : (o : ℕ) (i : Option ℕ) (n : ℕ) → IndexAt (length m.texts) b o i n → symbolic.OptionalTextAt b o (option_map (text_at m) i) n
+  text_named o None n h = (None, h.0, tt)
+  text_named o (Some k) n h = (Some k, h.0, pools.texts_are.each k [] (omega (arith, h.1, pools.texts_are.count)))
 
-  type_named : (o : ℕ) (i : Option ℕ) (n : ℕ) → IndexAt (length m.types) b o i n → (t : Option Text) × symbolic.OptionalTypeAt b o t n × DenotesType m i t
-  type_named o None n h = (None, (None, h.0, tt), tt)
-  type_named o (Some k) n h = (Some (get_or m.types k []), (Some k, h.0, pools.types_are.each k [] (omega (arith, h.1, pools.types_are.count))), member_at m.types k [] h.1)
+  type_named : (o : ℕ) (i : Option ℕ) (n : ℕ) → IndexAt (length m.types) b o i n → symbolic.OptionalTypeAt b o (option_map (type_at m) i) n
+  type_named o None n h = (None, h.0, tt)
+  type_named o (Some k) n h = (Some k, h.0, pools.types_are.each k [] (omega (arith, h.1, pools.types_are.count)))
 
   text_index_by : (o n : ℕ) (i : Option ℕ) (s : Option Text) → Uleb128p1At b o i n → BothOrNone (StringRow b) i s → IndexAt (length m.texts) b o i n
   text_index_by o n None s p h = (p, tt)
@@ -40,28 +37,27 @@ module _ (b : List ℕ) (m : Mentions) (pools : ArePools b m) where
   coded : (o c k : ℕ) → c ≡ k → BytesAt b o (c ∷ []) → BytesAt b o (k ∷ [])
   coded o c k e h = subst (λ (j : ℕ). BytesAt b o (j ∷ [])) e h
 
-  operation_named : (o c : ℕ) (op : Operation) (n : ℕ) → BytesAt b o (c ∷ []) → c ≤ 0xff → OperandsAt (counts_of m) c b (o + 1) op n → (x : symbolic.Operation) × symbolic.OperationAt b o x (1 + n) × DenotesOperation m op x
-  operation_named o c (AdvancePc addresses) n here byte h = (symbolic.AdvancePc addresses, (coded o c 0x01 h.0 here, n, h.1, refl), refl)
-  operation_named o c (AdvanceLine lines) n here byte h = (symbolic.AdvanceLine lines, (coded o c 0x02 h.0 here, n, h.1, refl), refl)
+  operation_named : (o c : ℕ) (op : Operation) (n : ℕ) → BytesAt b o (c ∷ []) → c ≤ 0xff → OperandsAt (counts_of m) c b (o + 1) op n → symbolic.OperationAt b o (operation_in m op) (1 + n) × IsKnownOperation m op
+  operation_named o c (AdvancePc addresses) n here byte h = ((coded o c 0x01 h.0 here, n, h.1, refl), record { name_known = tt; type_known = tt; signature_known = tt })
+  operation_named o c (AdvanceLine lines) n here byte h = ((coded o c 0x02 h.0 here, n, h.1, refl), record { name_known = tt; type_known = tt; signature_known = tt })
   operation_named o c (StartLocal register i j) n here byte h =
       let s = text_named (o + 1 + h.1.register_size) i h.1.name_size h.1.at_name in
       let t = type_named (o + 1 + h.1.register_size + h.1.name_size) j h.1.type_size h.1.at_type in
-      (symbolic.StartLocal register s.0 t.0, (coded o c 0x03 h.0 here, h.1.register_size, h.1.name_size, h.1.type_size, h.1.at_register, s.1, t.1, omega (arith, h.1.size)), (refl, s.2, t.2))
+      ((coded o c 0x03 h.0 here, h.1.register_size, h.1.name_size, h.1.type_size, h.1.at_register, s, t, omega (arith, h.1.size)), record { name_known = h.1.at_name.1; type_known = h.1.at_type.1; signature_known = tt })
   operation_named o c (StartLocalExtended register i j k) n here byte h =
       let s = text_named (o + 1 + h.1.at_local.register_size) i h.1.at_local.name_size h.1.at_local.at_name in
       let t = type_named (o + 1 + h.1.at_local.register_size + h.1.at_local.name_size) j h.1.at_local.type_size h.1.at_local.at_type in
       let place : o + 1 + h.1.local_size ≡ o + 1 + h.1.at_local.register_size + h.1.at_local.name_size + h.1.at_local.type_size = omega (arith, h.1.at_local.size) in
       let u = text_named (o + 1 + h.1.at_local.register_size + h.1.at_local.name_size + h.1.at_local.type_size) k h.1.signature_size (subst (λ (p : ℕ). IndexAt (length m.texts) b p k h.1.signature_size) place h.1.at_signature) in (
-        symbolic.StartLocalExtended register s.0 t.0 u.0,
-        (coded o c 0x04 h.0 here, h.1.at_local.register_size, h.1.at_local.name_size, h.1.at_local.type_size, h.1.signature_size, h.1.at_local.at_register, s.1, t.1, u.1, omega (arith, h.1.at_local.size, h.1.size)),
-        (refl, s.2, t.2, u.2),
+        (coded o c 0x04 h.0 here, h.1.at_local.register_size, h.1.at_local.name_size, h.1.at_local.type_size, h.1.signature_size, h.1.at_local.at_register, s, t, u, omega (arith, h.1.at_local.size, h.1.size)),
+        record { name_known = h.1.at_local.at_name.1; type_known = h.1.at_local.at_type.1; signature_known = h.1.at_signature.1 },
       )
-  operation_named o c (EndLocal register) n here byte h = (symbolic.EndLocal register, (coded o c 0x05 h.0 here, n, h.1, refl), refl)
-  operation_named o c (RestartLocal register) n here byte h = (symbolic.RestartLocal register, (coded o c 0x06 h.0 here, n, h.1, refl), refl)
-  operation_named o c SetPrologueEnd n here byte h = (symbolic.SetPrologueEnd, (coded o c 0x07 h.0 here, omega (arith, h.1)), tt)
-  operation_named o c SetEpilogueBegin n here byte h = (symbolic.SetEpilogueBegin, (coded o c 0x08 h.0 here, omega (arith, h.1)), tt)
-  operation_named o c (SetFile i) n here byte h = let s = text_named (o + 1) i n h.1 in (symbolic.SetFile s.0, (coded o c 0x09 h.0 here, n, s.1, refl), s.2)
-  operation_named o c (Special opcode) n here byte h = (symbolic.Special opcode, (coded o c opcode h.0 here, h.1, omega (arith, h.0, byte), omega (arith, h.2)), refl)
+  operation_named o c (EndLocal register) n here byte h = ((coded o c 0x05 h.0 here, n, h.1, refl), record { name_known = tt; type_known = tt; signature_known = tt })
+  operation_named o c (RestartLocal register) n here byte h = ((coded o c 0x06 h.0 here, n, h.1, refl), record { name_known = tt; type_known = tt; signature_known = tt })
+  operation_named o c SetPrologueEnd n here byte h = ((coded o c 0x07 h.0 here, omega (arith, h.1)), record { name_known = tt; type_known = tt; signature_known = tt })
+  operation_named o c SetEpilogueBegin n here byte h = ((coded o c 0x08 h.0 here, omega (arith, h.1)), record { name_known = tt; type_known = tt; signature_known = tt })
+  operation_named o c (SetFile i) n here byte h = ((coded o c 0x09 h.0 here, n, text_named (o + 1) i n h.1, refl), record { name_known = h.1.1; type_known = tt; signature_known = tt })
+  operation_named o c (Special opcode) n here byte h = ((coded o c opcode h.0 here, h.1, omega (arith, h.0, byte), omega (arith, h.2)), record { name_known = tt; type_known = tt; signature_known = tt })
 
   operation_numbered : (o : ℕ) (x : symbolic.Operation) (n : ℕ) → symbolic.OperationAt b o x n → (op : Operation) × NumberedAt (counts_of m) b o op n
   operation_numbered o (symbolic.AdvancePc addresses) n h = (AdvancePc addresses, record { opcode = 0x01; operands_size = h.1; at_opcode = h.0; byte = omega arith; operands = (refl, h.2); size = h.3 })
@@ -112,19 +108,19 @@ module _ (b : List ℕ) (m : Mentions) (pools : ArePools b m) where
 
   -- ---- one after the other
 
-  operations_named : (o : ℕ) (ops : List Operation) (n : ℕ) → Sequence (NumberedAt (counts_of m)) b o ops n → (xs : List symbolic.Operation) × Sequence symbolic.OperationAt b o xs n × AllZip (DenotesOperation m) ops xs
-  operations_named o [] n h = ([], h, tt)
+  operations_named : (o : ℕ) (ops : List Operation) (n : ℕ) → Sequence (NumberedAt (counts_of m)) b o ops n → Sequence symbolic.OperationAt b o (map (operation_in m) ops) n × All (IsKnownOperation m) ops
+  operations_named o [] n h = (h, All-nil (IsKnownOperation m))
   operations_named o (op ∷ ops) n h =
       let x = operation_named o h.2.opcode op h.2.operands_size h.2.at_opcode h.2.byte h.2.operands in
-      let rest = operations_named (o + h.0) ops h.1 h.3 in (x.0 ∷ rest.0, (h.0, h.1, subst (λ (k : ℕ). symbolic.OperationAt b o x.0 k) (sym h.2.size) x.1, rest.1, h.4), (x.2, rest.2))
+      let rest = operations_named (o + h.0) ops h.1 h.3 in ((h.0, h.1, subst (symbolic.OperationAt b o (operation_in m op)) (sym h.2.size) x.0, rest.0, h.4), All-cons (IsKnownOperation m) op ops x.1 rest.1)
 
   operations_numbered : (o : ℕ) (xs : List symbolic.Operation) (n : ℕ) → Sequence symbolic.OperationAt b o xs n → (ops : List Operation) × Sequence (NumberedAt (counts_of m)) b o ops n
   operations_numbered o [] n h = ([], h)
   operations_numbered o (x ∷ xs) n h = let op = operation_numbered o x h.0 h.2 in let rest = operations_numbered (o + h.0) xs h.1 h.3 in (op.0 ∷ rest.0, (h.0, h.1, op.1, rest.1, h.4))
 
-  names_named : (o : ℕ) (is : List (Option ℕ)) (n : ℕ) → Sequence (IndexAt (length m.texts)) b o is n → (ss : List (Option Text)) × Sequence symbolic.OptionalTextAt b o ss n × AllZip (DenotesText m) is ss × (length ss ≡ length is)
-  names_named o [] n h = ([], h, tt, refl)
-  names_named o (i ∷ is) n h = let s = text_named o i h.0 h.2 in let rest = names_named (o + h.0) is h.1 h.3 in (s.0 ∷ rest.0, (h.0, h.1, s.1, rest.1, h.4), (s.2, rest.2), omega (arith, rest.3))
+  names_named : (o : ℕ) (is : List (Option ℕ)) (n : ℕ) → Sequence (IndexAt (length m.texts)) b o is n → Sequence symbolic.OptionalTextAt b o (map (option_map (text_at m)) is) n × All (IsKnownText m) is
+  names_named o [] n h = (h, All-nil (IsKnownText m))
+  names_named o (i ∷ is) n h = let rest = names_named (o + h.0) is h.1 h.3 in ((h.0, h.1, text_named o i h.0 h.2, rest.0, h.4), All-cons (IsKnownText m) i is h.2.1 rest.1)
 
   names_numbered : (o : ℕ) (ss : List (Option Text)) (n : ℕ) → Sequence symbolic.OptionalTextAt b o ss n → (is : List (Option ℕ)) × Sequence (IndexAt (length m.texts)) b o is n × (length is ≡ length ss)
   names_numbered o [] n h = ([], h, refl)
@@ -137,9 +133,8 @@ module _ (b : List ℕ) (m : Mentions) (pools : ArePools b m) where
   debug_named off d in_data h =
       let names = names_named (off + h.start_size + h.count_size) d.parameter_names h.names_size h.at_names.each in
       let operations = operations_named (off + h.start_size + h.count_size + h.names_size) d.operations h.program.size h.program.operations in
-      let x : symbolic.Debug = record { line_start = d.line_start; parameter_names = names.0; operations = operations.0 } in
       record {
-        program = x;
+        program = debug_in m d;
         at = record {
           in_data = in_data;
           start_size = h.start_size;
@@ -147,12 +142,12 @@ module _ (b : List ℕ) (m : Mentions) (pools : ArePools b m) where
           names_size = h.names_size;
           operations_size = h.program.size;
           line_start = h.at_start;
-          count = subst (λ (k : ℕ). Uleb128At b (off + h.start_size) k h.count_size) (sym names.3) h.at_count;
-          names = names.1;
-          operations = operations.1;
+          count = subst (λ (k : ℕ). Uleb128At b (off + h.start_size) k h.count_size) (sym (length-map d.parameter_names (option_map (text_at m)))) h.at_count;
+          names = names.0;
+          operations = operations.0;
           end = h.program.end;
         };
-        encodes = record { start_is = refl; names_are = names.2; operations_are = operations.2 };
+        encodes = record { known = record { names_known = names.1; operations_known = operations.1 }; means = refl };
       }
 
   -- and the other way round

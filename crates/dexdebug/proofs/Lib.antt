@@ -9,7 +9,6 @@ pub mod DebugRuns
 pub mod DebugSame
 pub mod DebugUses
 pub mod Encoded
-pub mod MeaningDebug
 pub mod DebugRanked
 pub mod DebugsChecked
 pub mod StoredOperations

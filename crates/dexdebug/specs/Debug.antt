@@ -1,19 +1,12 @@
--- Debug programs whose symbols are numbers: what they denote under a numbering, and what becomes of them when the
--- numbers change.
-use Rattle.std.specs.Prelude.{◌≡◌, ℕ, ◌+◌, ◌*◌, ◌^◌, ◌<◌, ◌≤◌, List, [], ◌∷◌, ◌++◌, length, map, All, Option, Some, None, option_to_list, Result}
-use Rattle.std.specs.List.{AllZip, flat_map}
-use Rattle.std.specs.Global.{Vec}
-use Rattle.dexspec.specs.Lists.{BothOrNone}
+-- Debug programs whose symbols are numbers, and what becomes of them when the numbers change.
+use Rattle.std.specs.Prelude.{◌≡◌, ℕ, ◌+◌, ◌*◌, ◌^◌, ◌<◌, ◌≤◌, List, [], ◌∷◌, ◌++◌, length, map, All, Option, Some, None, option_to_list}
+use Rattle.std.specs.List.{flat_map}
 use Rattle.dexspec.specs.Numbers.{plus_one, uleb128, sleb128, uleb128p1}
-use Rattle.dexspec.specs.Texts.{Text}
-use Rattle.dexspec.specs.Mentions.{Mentions}
 use Rattle.dexspec.specs.Debug as symbolic
 use Rattle.dexspec.specs.Weight.{operands}
-use Rattle.dexspec.specs.Spellings.{debug_bytes}
-use Rattle.dexspec.specs.internal.Writing.{Puts}
 use Rattle.dexpool.specs.declared.symbols.SymbolKind.{SymbolKind}
 use Rattle.dexpool.specs.declared.symbols.SymbolKind.TheVariants as kinds
-use Rattle.dexpool.specs.Numberings.{IsAt, Maps, image_of, AreRising}
+use Rattle.dexpool.specs.Numberings.{Maps, image_of}
 use Rattle.dexpool.specs.Uses.{Use}
 use Rattle.dexdebug.specs.declared.debug_operation.Operation.{Operation}
 use Rattle.dexdebug.specs.declared.debug_operation.Operation.TheVariants.{AdvancePc, AdvanceLine, StartLocal, StartLocalExtended, EndLocal, RestartLocal, SetPrologueEnd, SetEpilogueBegin, SetFile, Special}
@@ -24,46 +17,6 @@ pub record NumberedDebug : Type 0 where
   pub line_start : ℕ
   pub parameter_names : List (Option ℕ)
   pub operations : List Operation
-
--- ---- what numbers denote
-
--- the number, if there is one, is that of the text
-abbrev pub DenotesText : Mentions → Option ℕ → Option Text → Type 0
-DenotesText m i s = BothOrNone (IsAt m.texts) i s
-
--- the number, if there is one, is that of the type
-abbrev pub DenotesType : Mentions → Option ℕ → Option Text → Type 0
-DenotesType m i t = BothOrNone (IsAt m.types) i t
-
--- the operation is the symbolic one, where symbols are numbered so
-abbrev pub DenotesOperation : Mentions → Operation → symbolic.Operation → Type 0
-DenotesOperation m (AdvancePc addresses) (symbolic.AdvancePc others) = addresses ≡ others
-DenotesOperation m (AdvanceLine lines) (symbolic.AdvanceLine others) = lines ≡ others
-DenotesOperation m (StartLocal register name typ) (symbolic.StartLocal other s t) =
-    (register ≡ other) × DenotesText m name s × DenotesType m typ t
-DenotesOperation m (StartLocalExtended register name typ signature) (symbolic.StartLocalExtended other s t u) =
-    (register ≡ other) × DenotesText m name s × DenotesType m typ t × DenotesText m signature u
-DenotesOperation m (EndLocal register) (symbolic.EndLocal other) = register ≡ other
-DenotesOperation m (RestartLocal register) (symbolic.RestartLocal other) = register ≡ other
-DenotesOperation m SetPrologueEnd symbolic.SetPrologueEnd = Unit {0}
-DenotesOperation m SetEpilogueBegin symbolic.SetEpilogueBegin = Unit {0}
-DenotesOperation m (SetFile name) (symbolic.SetFile s) = DenotesText m name s
-DenotesOperation m (Special opcode) (symbolic.Special other) = opcode ≡ other
-DenotesOperation m _ _ = ⊥
-
--- the debug program is the symbolic one, where symbols are numbered so
-pub record DenotesDebug (m : Mentions) (d : NumberedDebug) (x : symbolic.Debug) : Type 0 where
-  pub start_is : d.line_start ≡ x.line_start
-  pub names_are : AllZip (DenotesText m) d.parameter_names x.parameter_names
-  pub operations_are : AllZip (DenotesOperation m) d.operations x.operations
-
--- it holds of each debug program that the numbers denote under a numbering whose symbols rise
-abbrev pub ForDenotedDebug : NumberedDebug → (Mentions → symbolic.Debug → Type 0) → Type 0
-ForDenotedDebug d P = (m : Mentions) (x : symbolic.Debug) → AreRising m → DenotesDebug m d x → P m x
-
--- what is put is the debug_info_item of the debug program that the numbers denote
-abbrev pub PutsDenotedDebug : {T E : Type 0} → Mentions → NumberedDebug → Vec ℕ → Vec ℕ → Result T E → Type 0
-PutsDenotedDebug m d old new r = (x : symbolic.Debug) → DenotesDebug m d x → Puts (debug_bytes m x) old new r
 
 -- ---- the numbers in an operation
 

@@ -17,7 +17,8 @@ use Rattle.dexdebug.specs.declared.debug_reading.Counts.{Counts}
 use Rattle.dexdebug.specs.declared.debug_reading.Tally.{Tally}
 use Rattle.dexdebug.specs.declared.debug_reading.DebugShape.{DebugShape}
 use Rattle.dexdebug.specs.declared.indices.Index.{Index}
-use Rattle.dexdebug.specs.Debug.{NumberedDebug, DenotesDebug, unindexed, FitsIndex, IsFormedOperation, operation_weight}
+use Rattle.dexdebug.specs.Debug.{NumberedDebug, unindexed, FitsIndex, IsFormedOperation, operation_weight}
+use Rattle.dexdebug.specs.Meaning.{DenotesDebug}
 
 -- the debug program is that at an offset, where symbols are numbered by their rows
 pub record IsDebugAt (b : List ℕ) (off : ℕ) (m : Mentions) (d : NumberedDebug) : Type 0 where

@@ -8,8 +8,8 @@ use Rattle.dexspec.specs.Weight.{debug_weight}
 use Rattle.dexpool.specs.Numberings.{AreRising, AreMarksOf, Maps, AllMapTo}
 use Rattle.dexpool.specs.declared.marks.Marks.{Marks}
 use Rattle.dexpool.specs.Uses.{HasMark, IsUseOf, IsMappedUse}
-use Rattle.dexdebug.specs.Debug.{NumberedDebug, DenotesDebug, HasPlace, unindexed, numbered_debug_bytes, debug_uses, renumbered_debug}
-use Rattle.dexdebug.specs.Meaning.{debug_in, IsKnownDebug}
+use Rattle.dexdebug.specs.Debug.{NumberedDebug, HasPlace, unindexed, numbered_debug_bytes, debug_uses, renumbered_debug}
+use Rattle.dexdebug.specs.Meaning.{debug_in, IsKnownDebug, DenotesDebug}
 use Rattle.dexdebug.specs.Positions as recorded
 
 -- where symbols rise, the bytes of a numbered debug program are those of the program that it denotes

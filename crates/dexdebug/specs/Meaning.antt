@@ -1,20 +1,16 @@
--- What numbered debug programs mean, as a function of the numbering.
-use Rattle.std.specs.Prelude.{ℕ, ◌<◌, [], length, map, All, slice_index_or, Option, IfSome}
+-- What numbered debug programs denote under a numbering.
+use Rattle.std.specs.Prelude.{◌≡◌, ℕ, ◌<◌, length, map, All, Option, IfSome, Result}
+use Rattle.std.specs.Global.{Vec}
 use Rattle.std.specs.Option.{option_map}
-use Rattle.dexspec.specs.Texts.{Text}
 use Rattle.dexspec.specs.Mentions.{Mentions}
 use Rattle.dexspec.specs.Debug as symbolic
+use Rattle.dexspec.specs.Spellings.{debug_bytes}
+use Rattle.dexspec.specs.internal.Writing.{Puts}
+use Rattle.dexpool.specs.Numberings.{AreRising}
+use Rattle.dexpool.specs.NumberedSymbols.{text_at, type_at}
 use Rattle.dexdebug.specs.declared.debug_operation.Operation.{Operation}
 use Rattle.dexdebug.specs.declared.debug_operation.Operation.TheVariants.{AdvancePc, AdvanceLine, StartLocal, StartLocalExtended, EndLocal, RestartLocal, SetPrologueEnd, SetEpilogueBegin, SetFile, Special}
 use Rattle.dexdebug.specs.Debug.{NumberedDebug, name_of, type_of, signature_of}
-
--- the text of a number; a number of none has the empty one
-abbrev pub text_at : Mentions → ℕ → Text
-text_at m i = slice_index_or m.texts i []
-
--- the type of a number, likewise
-abbrev pub type_at : Mentions → ℕ → Text
-type_at m i = slice_index_or m.types i []
 
 -- the operation with the texts and types of its numbers
 abbrev pub operation_in : Mentions → Operation → symbolic.Operation
@@ -58,3 +54,16 @@ pub record IsKnownOperation (m : Mentions) (op : Operation) : Type 0 where
 pub record IsKnownDebug (m : Mentions) (d : NumberedDebug) : Type 0 where
   pub names_known : All (IsKnownText m) d.parameter_names
   pub operations_known : All (IsKnownOperation m) d.operations
+
+-- the numbers are those of texts and types, and denote the debug program
+pub record DenotesDebug (m : Mentions) (d : NumberedDebug) (x : symbolic.Debug) : Type 0 where
+  pub known : IsKnownDebug m d
+  pub means : debug_in m d ≡ x
+
+-- it holds of each debug program that the numbers denote under a numbering whose symbols rise
+abbrev pub ForDenotedDebug : NumberedDebug → (Mentions → symbolic.Debug → Type 0) → Type 0
+ForDenotedDebug d P = (m : Mentions) (x : symbolic.Debug) → AreRising m → DenotesDebug m d x → P m x
+
+-- what is put is the debug_info_item of the debug program that the numbers denote
+abbrev pub PutsDenotedDebug : {T E : Type 0} → Mentions → NumberedDebug → Vec ℕ → Vec ℕ → Result T E → Type 0
+PutsDenotedDebug m d old new r = (x : symbolic.Debug) → DenotesDebug m d x → Puts (debug_bytes m x) old new r

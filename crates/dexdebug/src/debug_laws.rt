@@ -3,13 +3,12 @@
 ghost use Rattle.std.specs.Prelude.{◌≡◌, ◌↔◌, ◌≤◌, IsTrue, length};
 ghost use Rattle.dexspec.specs.Mentions.{Mentions};
 ghost use Rattle.dexspec.specs.Weight.{debug_weight};
-ghost use Rattle.dexdebug.specs.Debug.{NumberedDebug, DenotesDebug, unindexed, numbered_debug_bytes};
-ghost use Rattle.dexdebug.specs.Meaning.{debug_in, IsKnownDebug};
+ghost use Rattle.dexdebug.specs.Debug.{NumberedDebug, unindexed, numbered_debug_bytes};
+ghost use Rattle.dexdebug.specs.Meaning.{debug_in, IsKnownDebug, DenotesDebug};
 ghost use Rattle.dexdebug.specs.Laws.{DebugBytesAreDenoted, DebugWeightIsDenoted, DebugPositionsAreDenoted, RenumberedDebugDenotes, DebugPlacesAreImages, DebugUsesAreDenoted, DebugUsesHaveMarks, DenotingDebugIsKnown, DenotedDebugIsMeant, RemappedDebugIsMeant, EqualRemappedDebugs};
 
 use crate::debug::Debug;
 use crate::debug_operation::Operation;
-use dexpool::number_law;
 
 /// Where the symbols rise, the bytes of a numbered debug program are those of the program that it denotes, each index
 /// the rank of its symbol. They are no more than it weighs.
@@ -20,7 +19,6 @@ pub fn debug_bytes_law()
 {}
 
 /// A numbered debug program weighs as much as the program that it denotes, and has the same positions.
-#[tactic(auto, using(crate::proofs::DebugMeanings::weights_are, crate::proofs::DebugMeanings::positions_are))]
 pub fn debug_unindexed_law()
     ensures weight { DebugWeightIsDenoted }
     ensures positions { DebugPositionsAreDenoted }
@@ -34,7 +32,6 @@ pub fn debug_renumber_law()
 
 /// The symbols that occur are those of the debug program that it denotes, one for one and in their order. Where there
 /// is a mark for each symbol, there is one for each that occurs.
-#[tactic(auto, using(crate::proofs::DebugMeanings::uses_encoded, crate::proofs::DebugMeanings::marks_there))]
 pub fn debug_uses_law()
     ensures uses { DebugUsesAreDenoted }
     ensures marks { DebugUsesHaveMarks }
@@ -67,6 +64,4 @@ pub fn debug_meaning_law()
 pub fn debug_remapped_law()
     ensures keeps { RemappedDebugIsMeant }
     ensures same { EqualRemappedDebugs }
-{
-    number_law();
-}
+{}

@@ -6,7 +6,8 @@ ghost use Rattle.dexspec.specs.Numbers.{uleb128, sleb128, uleb128p1};
 ghost use Rattle.dexspec.specs.Spellings.{debug_bytes};
 ghost use Rattle.dexspec.specs.Weight.{debug_weight};
 ghost use Rattle.dexspec.specs.internal.Writing.{Puts};
-ghost use Rattle.dexdebug.specs.Debug.{FitsIndex, IsFormedOperation, unindexed, numbered_operation_bytes, numbered_debug_bytes, ForDenotedDebug, PutsDenotedDebug};
+ghost use Rattle.dexdebug.specs.Debug.{FitsIndex, IsFormedOperation, unindexed, numbered_operation_bytes, numbered_debug_bytes};
+ghost use Rattle.dexdebug.specs.Meaning.{ForDenotedDebug, PutsDenotedDebug};
 
 use crate::debug::Debug;
 use crate::debug_laws::debug_bytes_law;

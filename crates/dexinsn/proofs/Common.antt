@@ -42,7 +42,7 @@ unfoldable pub use Rattle.dexspec.specs.Pieces.{has_right_targets, piece_size}
 pub use Rattle.dexspec.specs.Sections.{IsInData}
 pub use Rattle.dexspec.specs.Symbols.{Field, FieldPool, FieldSymbol, Method, MethodPool, MethodSymbol, Pool, Proto, ProtoPool, ProtoSymbol, StringPool, Symbol, TextSymbol, TypePool, TypeSymbol, field_cmp, method_cmp, pool_of, proto_cmp}
 pub use Rattle.dexspec.specs.Texts.{Text, text_cmp}
-pub use Rattle.dexinsn.specs.{AreAllRight, AreBitsOf, AreCodeIndices, AreCodeStarts, AreCutWith, AreNoted, ArePassed, ArePiecesAt, AreStartsAt, AreStored, AreTheIndices, AreUnitsAt, BreaksAt, Denote, Denotes, FitPlaces, FitsAt, FitsPlace, Follow, HasBadTargetAt, HasCodeRoom, HasConstString, HasImage, HasNoBit, HasNoCode, HasNoStep, HasPiecesOf, HasPlaceAt, HasTargetsAt, HaveIndices, ImagesFit, IndexCount, Instruction, IsChecked, IsCodeFault, IsCountBefore, IsFault, IsGreatest, IsInRange, IsIndexed, IsListing, IsNextBit, IsNotTooLarge, IsOutside, IsPieceAt, IsPiecesFault, IsPlainRow, IsResult, IsReturned, IsRowOf, IsShapeAt, IsStep, ListsFirst, MapsShort, NumberedPiece, Rise, after_index, are_right_targets, begins_instruction, bits_from, blank_units, branches, branches_right, count_of_index, covers, cut_of, cuts_from, cuts_of, first_bad_target, first_bad_target_of, first_number, format_of, greatest_at, greatest_first, has_bit, has_targets, ident_of, index_places, index_room, index_units, indices_at, is_noted, is_short_string, is_text, kind_from, kind_in, kind_of_index, kind_of_pool, left_by, limit_of, listed, numbered_units, parts_in, payload_shown, piece_uses, piece_with, pieces_with, renumbered, renumbered_index, renumbered_piece, short_at, short_number, short_string, short_strings, spelled_from, starts_with, symbol_by, targets_payload, unit_count, units_of, units_of_all, use_at, uses_of, with_index_at, with_place}
+pub use Rattle.dexinsn.specs.{AreAllRight, AreBitsOf, AreCodeIndices, AreCodeStarts, AreCutWith, AreNoted, ArePassed, ArePiecesAt, AreStartsAt, AreStored, AreTheIndices, AreUnitsAt, BreaksAt, Denote, FitPlaces, FitsAt, FitsPlace, Follow, HasBadTargetAt, HasCodeRoom, HasConstString, HasImage, HasNoBit, HasNoCode, HasNoStep, HasPiecesOf, HasPlaceAt, HasTargetsAt, HaveIndices, ImagesFit, IndexCount, Instruction, IsChecked, IsCodeFault, IsCountBefore, IsFault, IsGreatest, IsInRange, IsIndexed, IsListing, IsNextBit, IsNotTooLarge, IsOutside, IsPieceAt, IsPiecesFault, IsPlainRow, IsResult, IsReturned, IsRowOf, IsShapeAt, IsStep, ListsFirst, MapsShort, NumberedPiece, Rise, after_index, are_right_targets, begins_instruction, bits_from, blank_units, branches, branches_right, count_of_index, covers, cut_of, cuts_from, cuts_of, first_bad_target, first_bad_target_of, first_number, format_of, greatest_at, greatest_first, has_bit, has_targets, ident_of, index_places, index_room, index_units, indices_at, is_noted, is_short_string, is_text, kind_from, kind_in, kind_of_index, kind_of_pool, left_by, limit_of, listed, numbered_units, parts_in, payload_shown, piece_uses, piece_with, pieces_with, renumbered, renumbered_index, renumbered_piece, short_at, short_number, short_string, short_strings, spelled_from, starts_with, symbol_by, targets_payload, unit_count, units_of, units_of_all, use_at, uses_of, with_index_at, with_place, IsKnownPiece, piece_in}
 unfoldable pub use Rattle.dexinsn.specs.{bits_in, cuts_in, listing, numbered_bytes}
 pub use Rattle.dexinsn.specs.Numbered.{Payload}
 pub use Rattle.dexinsn.specs.declared.code.SplitFault.TheVariants.{Empty, Target}

@@ -1,8 +1,16 @@
 -- Remapped numbers fit their places.
-use Rattle.dexinsn.proofs.Common.{if◌then◌else◌, ◌≡◌, ℕ, ◌+◌, ◌^◌, ◌<◌, ◌≤◌, max, nat_lt, ◌==◌, Bool, true, false, not, ◌&&◌, ◌||◌, cond, replicate, List, [], ◌∷◌, ◌++◌, length, take, drop, map, get_or, slice_index, Option, Some, None, inl, inr, refl, ap, sym, ◌∙◌, subst, arith, zero-add, All, Contains, flat_map, range_with_len, IsSome, option_and_then, option_map_or, ltb-true, ltb-false, eqb-true, and_parts, take_more, append-nil, get_or-replicate, get_or-map-range_with_len, flat_map-append, All-nil, All-cons, All-head, All-tail, All-push, All-weaker, All-get_or, Contains-append_left, Contains-append_right, Contains-append_cases, Pool, StringPool, TypePool, ProtoPool, FieldPool, MethodPool, Symbol, TextSymbol, TypeSymbol, ProtoSymbol, FieldSymbol, MethodSymbol, Mentions, Opcode, opcode_of, opcode_runs, Piece, index_pool, is_wide_index, is_payload_ident, low_byte, with_index, Text, SymbolKind, IsAt, Maps, image, image_of, AllMapTo, Use, IsMappedUse, Contains-nil, Contains-cons_cases, Contains-first, Contains-later, Index, is_text, is_short_string, short_number, short_string, short_strings, HasConstString, IsGreatest, short_at, ImagesFit, IsNotTooLarge, MapsShort, NumberedPiece, Instruction, Denotes, Denote, kind_in, kind_of_pool, uses_of, index_room, FitsPlace, FitPlaces, HasImage, parts_in, piece_with, left_by, pieces_with, AreStored, FitsAt, Payload}
+use Rattle.dexinsn.proofs.Common.{if◌then◌else◌, ◌≡◌, ℕ, ◌+◌, ◌^◌, ◌<◌, ◌≤◌, max, nat_lt, ◌==◌, Bool, true, false, not, ◌&&◌, ◌||◌, cond, replicate, List, [], ◌∷◌, ◌++◌, length, take, drop, map, get_or, slice_index, Option, Some, None, inl, inr, refl, ap, sym, ◌∙◌, subst, arith, zero-add, All, Contains, flat_map, range_with_len, IsSome, option_and_then, option_map_or, ltb-true, ltb-false, eqb-true, and_parts, take_more, append-nil, get_or-replicate, get_or-map-range_with_len, flat_map-append, All-nil, All-cons, All-head, All-tail, All-push, All-weaker, All-get_or, Contains-append_left, Contains-append_right, Contains-append_cases, Pool, StringPool, TypePool, ProtoPool, FieldPool, MethodPool, TextSymbol, Mentions, Opcode, opcode_of, opcode_runs, Piece, index_pool, is_wide_index, is_payload_ident, low_byte, with_index, Text, SymbolKind, IsAt, Maps, image, image_of, AllMapTo, Use, IsMappedUse, Contains-nil, Contains-cons_cases, Contains-first, Index, is_text, is_short_string, short_number, short_string, short_strings, HasConstString, IsGreatest, short_at, ImagesFit, IsNotTooLarge, MapsShort, NumberedPiece, Instruction, Denote, IsKnownPiece, piece_in, kind_in, kind_of_pool, uses_of, index_room, FitsPlace, FitPlaces, HasImage, parts_in, piece_with, left_by, pieces_with, AreStored, FitsAt, Payload}
 use Rattle.dexspec.specs.Pieces as symbolic
+use Rattle.dexspec.specs.Mentions.{piece_symbols}
 use Rattle.dexpool.specs.declared.symbols.SymbolKind.TheVariants as kinds
+use Rattle.std.proofs.lemmas.List.Elements.{All-contains}
+use Rattle.dexspec.proofs.lists.Mapped.{Contains-map_source}
+use Rattle.dexspec.proofs.lists.Members.{Contains-flat_map, Contains-flat_map_source}
+use Rattle.dexspec.proofs.merge.Depths.{Contains-map}
+use Rattle.dexpool.specs.NumberedSymbols.{text_at, symbol_at}
 use Rattle.dexpool.specs.Orderly.{KeepOrder, MapsDown}
+use Rattle.dexpool.specs.Pools.{count_of}
+use Rattle.dexpool.proofs.Numbers.{member_at}
 use Rattle.dexinsn.specs.{HasPlace}
 use Rattle.dexinsn.proofs.Lined.{Heads, Lined, LinedBy, stored_lined, head_kind, head_room, head_wide}
 
@@ -266,64 +274,66 @@ short_const us pool op = ap (λ k. is_text k && not (is_wide_index us)) (text_co
 
 -- ---- what short strings denote
 
--- a piece that denotes a const-string of the text
-named_piece : (m : Mentions) (p : NumberedPiece) (us : List ℕ) (s : Text) → Denotes m p (symbolic.Instruction us (Some (TextSymbol s))) → low_byte (slice_index us 0) ≡ 0x1a → (n : ℕ) × Contains (short_string p) n × IsAt m.texts n s
-named_piece m (Instruction xs None) us s h op = absurd h
-named_piece m (Instruction xs (Some n)) us s h op =
-    (n, subst (λ b. Contains (if b then n ∷ [] else []) n) (sym (short_const xs h.1 (ap (λ (ys : List ℕ). low_byte (slice_index ys 0)) h.0 ∙ op))) (Contains-first n []), h.2)
-named_piece m (Payload xs) us s h op = absurd h
+-- a number whose symbol is a text is that of the text
+text_named : (m : Mentions) (o : Option Pool) (n : ℕ) (s : Text) → IsSome o → n < count_of (option_map_or kind_of_pool o kinds.Text) m → symbol_at m (option_map_or kind_of_pool o kinds.Text) n ≡ TextSymbol s → (o ≡ Some StringPool) × IsAt m.texts n s
+text_named m None n s some lt e = absurd cc
+text_named m (Some StringPool) n s some lt e = let same : get_or m.texts n [] ≡ s = cc in (refl, subst (IsAt m.texts n) same (member_at m.texts n [] lt))
+text_named m (Some TypePool) n s some lt e = absurd cc
+text_named m (Some ProtoPool) n s some lt e = absurd cc
+text_named m (Some FieldPool) n s some lt e = absurd cc
+text_named m (Some MethodPool) n s some lt e = absurd cc
 
-named_in : (m : Mentions) (ps : List NumberedPiece) (qs : List Piece) (s : Text) (us : List ℕ) → Denote m ps qs → Contains qs (symbolic.Instruction us (Some (TextSymbol s))) → low_byte (slice_index us 0) ≡ 0x1a → (n : ℕ) × Contains (short_strings ps) n × IsAt m.texts n s
-named_in m ps [] s us h c op = absurd (Contains-nil (symbolic.Instruction us (Some (TextSymbol s))) c)
-named_in m [] (q ∷ qs) s us h c op = absurd h
-named_in m (p ∷ ps) (q ∷ qs) s us h c op = elim (Contains-cons_cases q (symbolic.Instruction us (Some (TextSymbol s))) qs c) [
-  | inl e ↦ let f = named_piece m p us s (subst (Denotes m p) e h.0) op in (f.0, Contains-append_left (short_string p) (short_strings ps) f.0 f.1, f.2)
-  | inr l ↦ let f = named_in m ps qs s us h.1 l op in (f.0, Contains-append_right (short_string p) (short_strings ps) f.0 f.1, f.2)
-]
+-- a piece that denotes a const-string of the text
+named_piece : (m : Mentions) (p : NumberedPiece) (us : List ℕ) (s : Text) → IsKnownPiece m p → piece_in m p ≡ symbolic.Instruction us (Some (TextSymbol s)) → low_byte (slice_index us 0) ≡ 0x1a → (n : ℕ) × Contains (short_string p) n × IsAt m.texts n s
+named_piece m (Instruction xs None) us s h e op = absurd cc
+named_piece m (Instruction xs (Some n)) us s h e op =
+    let units : xs ≡ us = ap symbolic.units_of e in
+    let symbol : symbol_at m (kind_in xs) n ≡ TextSymbol s = ap (λ q. get_or (piece_symbols q) 0 (TextSymbol s)) e in
+    let named = text_named m (index_pool xs) n s h.0 h.1 symbol in
+    (n, subst (λ b. Contains (if b then n ∷ [] else []) n) (sym (short_const xs named.0 (ap (λ (ys : List ℕ). low_byte (slice_index ys 0)) units ∙ op))) (Contains-first n []), named.1)
+named_piece m (Payload xs) us s h e op = absurd cc
 
 pub short_named : (m : Mentions) (ps : List NumberedPiece) (qs : List Piece) (s : Text) → Denote m ps qs → HasConstString qs s → (n : ℕ) × Contains (short_strings ps) n × IsAt m.texts n s
-short_named m ps qs s h has = named_in m ps qs s has.units h has.piece has.short
+short_named m ps qs s h has =
+    let piece = Contains-map_source (piece_in m) ps (symbolic.Instruction has.units (Some (TextSymbol s))) (subst (λ ys. Contains ys (symbolic.Instruction has.units (Some (TextSymbol s)))) (sym h.mean) has.piece) in
+    let named = named_piece m piece.0 has.units s (All-contains (IsKnownPiece m) ps piece.0 h.known piece.1) piece.2 has.short in
+    (named.0, Contains-flat_map short_string ps piece.0 named.0 piece.1 named.1, named.2)
 
--- the symbol of a kind that is not of texts
-no_text : (us : List ℕ) (pool : Pool) → index_pool us ≡ Some pool → is_short_string us ≡ true → is_text (kind_of_pool pool) ≡ true
-no_text us pool e short = ap is_text (sym (ap (λ (o : Option Pool). option_map_or kind_of_pool o kinds.Text) e)) ∙ (and_parts (is_text (kind_in us)) (not (is_wide_index us)) short).0
+-- the pool of a short string's index
+text_pool : (o : Option Pool) → IsSome o → is_text (option_map_or kind_of_pool o kinds.Text) ≡ true → o ≡ Some StringPool
+text_pool None some e = absurd cc
+text_pool (Some StringPool) some e = refl
+text_pool (Some TypePool) some e = absurd cc
+text_pool (Some ProtoPool) some e = absurd cc
+text_pool (Some FieldPool) some e = absurd cc
+text_pool (Some MethodPool) some e = absurd cc
 
 not_back : (b : Bool) → not b ≡ true → b ≡ false
 not_back true e = absurd cc
 not_back false e = refl
 
 abbrev Meant : Mentions → ℕ → Piece → Type 0
-Meant m n q = (s : Text) × IsAt m.texts n s × (us : List ℕ) × (q ≡ symbolic.Instruction us (Some (TextSymbol s))) × (low_byte (slice_index us 0) ≡ 0x1a)
+Meant m n q = IsAt m.texts n (text_at m n) × (us : List ℕ) × (q ≡ symbolic.Instruction us (Some (TextSymbol (text_at m n)))) × (low_byte (slice_index us 0) ≡ 0x1a)
 
-meant_by : (m : Mentions) (us xs : List ℕ) (n : ℕ) (t : Symbol) → Denotes m (Instruction us (Some n)) (symbolic.Instruction xs (Some t)) → is_short_string us ≡ true → Meant m n (symbolic.Instruction xs (Some t))
-meant_by m us xs n (TextSymbol s) h short =
-    (s, h.2, xs, refl, ap (λ (ys : List ℕ). low_byte (slice_index ys 0)) (sym h.0) ∙ const_string us h.1 (not_back (is_wide_index us) (and_parts (is_text (kind_in us)) (not (is_wide_index us)) short).1))
-meant_by m us xs n (TypeSymbol s) h short = let bad : false ≡ true = no_text us TypePool h.1 short in absurd cc
-meant_by m us xs n (ProtoSymbol s) h short = let bad : false ≡ true = no_text us ProtoPool h.1 short in absurd cc
-meant_by m us xs n (FieldSymbol s) h short = let bad : false ≡ true = no_text us FieldPool h.1 short in absurd cc
-meant_by m us xs n (MethodSymbol s) h short = let bad : false ≡ true = no_text us MethodPool h.1 short in absurd cc
-
-meant_piece : (m : Mentions) (p : NumberedPiece) (q : Piece) (n : ℕ) → Denotes m p q → Contains (short_string p) n → Meant m n q
-meant_piece m (Instruction us (Some k)) (symbolic.Instruction xs (Some t)) n h c = let s = short_is (is_short_string us) k n c in subst (λ i. Meant m i (symbolic.Instruction xs (Some t))) s.1 (meant_by m us xs k t h s.0)
-meant_piece m (Instruction us (Some k)) (symbolic.Instruction xs None) n h c = absurd h
-meant_piece m (Instruction us (Some k)) (symbolic.Payload xs) n h c = absurd h
-meant_piece m _ q n h c = absurd (Contains-nil n c)
+meant_piece : (m : Mentions) (p : NumberedPiece) (n : ℕ) → IsKnownPiece m p → Contains (short_string p) n → Meant m n (piece_in m p)
+meant_piece m (Instruction us (Some k)) n h c =
+    let short = short_is (is_short_string us) k n c in
+    let parts = and_parts (is_text (kind_in us)) (not (is_wide_index us)) short.0 in
+    let pool = text_pool (index_pool us) h.0 parts.0 in
+    let kind = text_const us pool in
+    let piece : piece_in m (Instruction us (Some k)) ≡ symbolic.Instruction us (Some (TextSymbol (text_at m k))) = ap (λ x. symbolic.Instruction us (Some (symbol_at m x k))) kind in
+    subst (λ i. Meant m i (piece_in m (Instruction us (Some k)))) short.1 (member_at m.texts k [] (subst (λ x. k < count_of x m) kind h.1), us, piece, const_string us pool (not_back (is_wide_index us) parts.1))
+meant_piece m _ n h c = absurd (Contains-nil n c)
 
 pub short_denoted : (m : Mentions) (ps : List NumberedPiece) (qs : List Piece) (n : ℕ) → Denote m ps qs → Contains (short_strings ps) n → (s : Text) × IsAt m.texts n s × HasConstString qs s
-short_denoted m [] qs n h c = absurd (Contains-nil n c)
-short_denoted m (p ∷ ps) [] n h c = absurd h
-short_denoted m (p ∷ ps) (q ∷ qs) n h c = elim (Contains-append_cases (short_string p) (short_strings ps) n c) [
-  | inl l ↦
-      let f = meant_piece m p q n h.0 l in (f.0, f.1, record { units = f.2; piece = subst (λ x. Contains (q ∷ qs) x) f.3 (Contains-first q qs); short = f.4 })
-  | inr l ↦
-      let f = short_denoted m ps qs n h.1 l in
-      let has : HasConstString qs f.0 = f.2 in (
-        f.0,
-        f.1,
-        record {
-          units = has.units;
-          piece = Contains-later q (symbolic.Instruction has.units (Some (TextSymbol f.0))) qs has.piece;
-          short = has.short;
-        },
-      )
-]
+short_denoted m ps qs n h c =
+    let source = Contains-flat_map_source short_string ps n c in
+    let meant = meant_piece m source.0 n (All-contains (IsKnownPiece m) ps source.0 h.known source.1) source.2 in (
+      text_at m n,
+      meant.0,
+      record {
+        units = meant.1;
+        piece = subst (λ ys. Contains ys (symbolic.Instruction meant.1 (Some (TextSymbol (text_at m n))))) h.mean (subst (Contains (map (piece_in m) ps)) meant.2 (Contains-map (piece_in m) ps source.0 source.1));
+        short = meant.3;
+      },
+    )

@@ -1,6 +1,8 @@
 -- What is read is stored so that it denotes the pieces of the code_item.
-use Rattle.dexinsn.proofs.Common.{◌≡◌, ℕ, zero, suc, ◌+◌, ◌*◌, ◌/◌, ◌%◌, ◌^◌, ◌<◌, ◌≤◌, ◌==◌, Bool, true, false, cond, List, [], ◌∷◌, length, drop, map, get_or, slice_index, slice_set, Option, Some, None, refl, ap, sym, ◌∙◌, subst, arith, length-drop, get_or-set_other, All, AllZip, option_map_or, option_and_then, MatchOption, drop-drop, get_or-take, length-take-le, All-nil, All-cons, All-head, All-tail, uint_at, opcode_of, Pool, StringPool, TypePool, ProtoPool, FieldPool, MethodPool, Proto, Symbol, TextSymbol, TypeSymbol, ProtoSymbol, FieldSymbol, MethodSymbol, pool_of, Mentions, Cut, AreCut, IsCode, Piece, DenotesPiece, piece_size, cut_units, index_pool, index_in, is_wide_index, is_payload_ident, with_index, low_byte, two_units, PiecesAt, length-ushorts_at, ArePools, count_of, IsNumbered, Index, IsPieceAt, Instruction, kind_of_pool, Denotes, Denote, cuts_from, cuts_in, parts_in, piece_with, left_by, pieces_with, with_place, index_places, AreStored, ArePiecesAt, AreUnitsAt, with_index_at, indices_at, IsInRange, AreCodeIndices, Payload, IsPiecesFault, IsCodeFault, false_from_ne_true, pos, inl, inr, eqb-true, eq-eqb, zero-add, ◌↔◌, bit_at, cases_lt, get_or_past, is_instruction_start, bits_from, bits_in, has_bit, AreStartsAt, AreCodeStarts, HasBit}
+use Rattle.dexinsn.proofs.Common.{◌≡◌, ℕ, zero, suc, ◌+◌, ◌*◌, ◌/◌, ◌%◌, ◌^◌, ◌<◌, ◌≤◌, ◌==◌, Bool, true, false, cond, List, [], ◌∷◌, length, drop, map, get_or, slice_index, slice_set, Option, Some, None, refl, ap, sym, ◌∙◌, subst, arith, length-drop, get_or-set_other, All, AllZip, option_map_or, option_and_then, MatchOption, drop-drop, get_or-take, length-take-le, All-nil, All-cons, All-head, All-tail, uint_at, opcode_of, Pool, StringPool, TypePool, ProtoPool, FieldPool, MethodPool, Proto, Symbol, TextSymbol, TypeSymbol, ProtoSymbol, FieldSymbol, MethodSymbol, pool_of, Mentions, Cut, AreCut, IsCode, Piece, DenotesPiece, piece_size, cut_units, index_pool, index_in, is_wide_index, is_payload_ident, with_index, low_byte, two_units, PiecesAt, length-ushorts_at, ArePools, count_of, Index, IsPieceAt, Instruction, kind_of_pool, Denote, IsKnownPiece, piece_in, NumberedPiece, IsSome, cuts_from, cuts_in, parts_in, piece_with, left_by, pieces_with, with_place, index_places, AreStored, ArePiecesAt, AreUnitsAt, with_index_at, indices_at, IsInRange, AreCodeIndices, Payload, IsPiecesFault, IsCodeFault, false_from_ne_true, pos, inl, inr, eqb-true, eq-eqb, zero-add, ◌↔◌, bit_at, cases_lt, get_or_past, is_instruction_start, bits_from, bits_in, has_bit, AreStartsAt, AreCodeStarts, HasBit}
 use Rattle.dexspec.specs.Rows.{SymbolRow}
+use Rattle.dexpool.specs.NumberedSymbols.{no_name, symbol_at}
+use Rattle.dexpool.specs.declared.symbols.SymbolKind.TheVariants as kinds
 use Rattle.dexspec.specs.Pieces as symbolic
 use Rattle.dexinsn.specs.{units_in}
 use Rattle.dexinsn.proofs.Once.{nothing, same_cut, whole_once}
@@ -97,42 +99,21 @@ read_stored us m is few r =
 
 -- ---- symbols
 
-no_proto : Proto
-no_proto = record { return_type = []; parameters = [] }
-
--- the symbol of a number, and one of nothing where there is none
-symbol_at : Mentions → Pool → ℕ → Symbol
-symbol_at m StringPool n = TextSymbol (get_or m.texts n [])
-symbol_at m TypePool n = TypeSymbol (get_or m.types n [])
-symbol_at m ProtoPool n = ProtoSymbol (get_or m.protos n no_proto)
-symbol_at m FieldPool n = FieldSymbol (get_or m.fields n (record { class = []; name = []; type = [] }))
-symbol_at m MethodPool n = MethodSymbol (get_or m.methods n (record { class = []; name = []; proto = no_proto }))
-
-symbol_pool : (m : Mentions) (pool : Pool) (n : ℕ) → pool_of (symbol_at m pool n) ≡ pool
-unfolding symbol_at
+symbol_pool : (m : Mentions) (pool : Pool) (n : ℕ) → pool_of (symbol_at m (kind_of_pool pool) n) ≡ pool
 symbol_pool m StringPool n = refl
 symbol_pool m _ n = refl
 
-symbol_row : (b : List ℕ) (m : Mentions) (pool : Pool) (n : ℕ) → ArePools b m → n < count_of (kind_of_pool pool) m → SymbolRow b n (symbol_at m pool n)
-unfolding symbol_at
-symbol_row b m StringPool n h lt = h.texts_are.each n [] (omega (arith, lt, h.texts_are.count))
-symbol_row b m TypePool n h lt = h.types_are.each n [] (omega (arith, lt, h.types_are.count))
-symbol_row b m ProtoPool n h lt = h.protos_are.each n no_proto (omega (arith, lt, h.protos_are.count))
-symbol_row b m FieldPool n h lt = h.fields_are.each n (record { class = []; name = []; type = [] }) (omega (arith, lt, h.fields_are.count))
-symbol_row b m MethodPool n h lt = h.methods_are.each n (record { class = []; name = []; proto = no_proto }) (omega (arith, lt, h.methods_are.count))
+symbol_row : (b : List ℕ) (m : Mentions) (pool : Pool) (n : ℕ) → ArePools b m → n < count_of (kind_of_pool pool) m → SymbolRow b n (symbol_at m (kind_of_pool pool) n)
+symbol_row b m StringPool n h lt = h.texts_are.each n (no_name kinds.Text) (omega (arith, lt, h.texts_are.count))
+symbol_row b m TypePool n h lt = h.types_are.each n (no_name kinds.Typ) (omega (arith, lt, h.types_are.count))
+symbol_row b m ProtoPool n h lt = h.protos_are.each n (no_name kinds.Proto) (omega (arith, lt, h.protos_are.count))
+symbol_row b m FieldPool n h lt = h.fields_are.each n (no_name kinds.Field) (omega (arith, lt, h.fields_are.count))
+symbol_row b m MethodPool n h lt = h.methods_are.each n (no_name kinds.Method) (omega (arith, lt, h.methods_are.count))
 
 pub any_default : {X : Type 0} (xs : List X) (n : ℕ) (d e : X) → n < length xs → get_or xs n d ≡ get_or xs n e
 any_default [] n d e lt = absurd (omega arith)
 any_default (x ∷ xs) zero d e lt = refl
 any_default (x ∷ xs) (suc n) d e lt = any_default xs n d e (omega arith)
-
-symbol_numbered : (m : Mentions) (pool : Pool) (n : ℕ) → n < count_of (kind_of_pool pool) m → IsNumbered m n (symbol_at m pool n)
-unfolding symbol_at
-symbol_numbered m StringPool n lt = record { within = lt; is = λ d. any_default m.texts n d [] lt }
-symbol_numbered m TypePool n lt = record { within = lt; is = λ d. any_default m.types n d [] lt }
-symbol_numbered m ProtoPool n lt = record { within = lt; is = λ d. any_default m.protos n d no_proto lt }
-symbol_numbered m FieldPool n lt = record { within = lt; is = λ d. any_default m.fields n d (record { class = []; name = []; type = [] }) lt }
-symbol_numbered m MethodPool n lt = record { within = lt; is = λ d. any_default m.methods n d (record { class = []; name = []; proto = no_proto }) lt }
 
 -- a row is one of those that are counted
 row_counted : (b : List ℕ) (m : Mentions) (n : ℕ) (s : Symbol) → ArePools b m → SymbolRow b n s → n < count_of (kind_of_pool (pool_of s)) m
@@ -147,7 +128,7 @@ row_counted b m n (MethodSymbol s) h r = omega (arith, r.row, h.methods_are.coun
 -- the symbolic piece of these units
 named_by : Option Pool → Mentions → List ℕ → ℕ → Piece
 named_by None m xs n = cond (is_payload_ident (slice_index xs 0)) (symbolic.Payload xs) (symbolic.Instruction xs None)
-named_by (Some pool) m xs n = symbolic.Instruction (with_index 0 xs) (Some (symbol_at m pool n))
+named_by (Some pool) m xs n = symbolic.Instruction (with_index 0 xs) (Some (symbol_at m (kind_of_pool pool) n))
 
 abbrev named : Mentions → List ℕ → Cut → Piece
 named m us c = named_by (index_pool (drop c.unit us)) m (cut_units us c) (index_in (drop c.unit us))
@@ -162,7 +143,7 @@ piece_encoded b m us c None pools is e range = plain_encoded (is_payload_ident (
 piece_encoded b m us c (Some pool) pools is e range =
     let small : index_in (drop c.unit us) < count_of (kind_of_pool pool) m = subst (λ (o : Option Pool). MatchOption o (Unit {0}) (λ p. index_in (drop c.unit us) < count_of (kind_of_pool p) m)) e range in (
       cut_pool us c is ∙ e ∙ ap Some (sym (symbol_pool m pool (index_in (drop c.unit us)))),
-      subst (λ (k : ℕ). SymbolRow b k (symbol_at m pool (index_in (drop c.unit us)))) (sym (cut_index us c pool is e)) (symbol_row b m pool (index_in (drop c.unit us)) pools small),
+      subst (λ (k : ℕ). SymbolRow b k (symbol_at m (kind_of_pool pool) (index_in (drop c.unit us)))) (sym (cut_index us c pool is e)) (symbol_row b m pool (index_in (drop c.unit us)) pools small),
       refl,
     )
 
@@ -181,18 +162,23 @@ first_by false xs i j k = get_or-set_other xs 1 0 k 0 (λ e. omega arith)
 pub first_kept : (i : ℕ) (xs : List ℕ) → slice_index (with_index i xs) 0 ≡ slice_index xs 0
 first_kept i xs = first_by (is_wide_index xs) xs (i % 65536) (i / 65536) i
 
-plain_for : (t : Bool) (m : Mentions) (xs : List ℕ) → Denotes m (cond t (Payload xs) (Instruction xs None)) (cond t (symbolic.Payload xs) (symbolic.Instruction xs None))
-plain_for true m xs = refl
-plain_for false m xs = refl
+-- the number is that of a symbol, and the piece has this symbol
+abbrev Reads : Mentions → NumberedPiece → Piece → Type 0
+Reads m p q = IsKnownPiece m p × (piece_in m p ≡ q)
 
-piece_for : (m : Mentions) (us : List ℕ) (c : Cut) (o : Option Pool) (is : List Index) → IsPieceAt us c → index_pool (drop c.unit us) ≡ o → IsInRange us m c → Denotes m (piece_with o (cut_units us c) (with_index_at o us c is)) (named_by o m (cut_units us c) (index_in (drop c.unit us)))
+plain_for : (t : Bool) (m : Mentions) (xs : List ℕ) → Reads m (cond t (Payload xs) (Instruction xs None)) (cond t (symbolic.Payload xs) (symbolic.Instruction xs None))
+plain_for true m xs = (tt, refl)
+plain_for false m xs = (tt, refl)
+
+piece_for : (m : Mentions) (us : List ℕ) (c : Cut) (o : Option Pool) (is : List Index) → IsPieceAt us c → index_pool (drop c.unit us) ≡ o → IsInRange us m c → Reads m (piece_with o (cut_units us c) (with_index_at o us c is)) (named_by o m (cut_units us c) (index_in (drop c.unit us)))
 unfolding named_by
 piece_for m us c None is piece e range = plain_for (is_payload_ident (slice_index (cut_units us c) 0)) m (cut_units us c)
 piece_for m us c (Some pool) is piece e range =
-    let small : index_in (drop c.unit us) < count_of (kind_of_pool pool) m = subst (λ (o : Option Pool). MatchOption o (Unit {0}) (λ p. index_in (drop c.unit us) < count_of (kind_of_pool p) m)) e range in (
-      refl,
-      same_pool (with_index 0 (cut_units us c)) (cut_units us c) (first_kept 0 (cut_units us c)) ∙ cut_pool us c piece ∙ e ∙ ap Some (sym (symbol_pool m pool (index_in (drop c.unit us)))),
-      symbol_numbered m pool (index_in (drop c.unit us)) small,
+    let small : index_in (drop c.unit us) < count_of (kind_of_pool pool) m = subst (λ (o : Option Pool). MatchOption o (Unit {0}) (λ p. index_in (drop c.unit us) < count_of (kind_of_pool p) m)) e range in
+    let xs = with_index 0 (cut_units us c) in
+    let at : index_pool xs ≡ Some pool = same_pool xs (cut_units us c) (first_kept 0 (cut_units us c)) ∙ cut_pool us c piece ∙ e in (
+      (subst IsSome (sym at) refl, subst (λ o. index_in (drop c.unit us) < count_of (option_map_or kind_of_pool o kinds.Text) m) (sym at) small),
+      ap (λ o. symbolic.Instruction xs (Some (symbol_at m (option_map_or kind_of_pool o kinds.Text) (index_in (drop c.unit us))))) at,
     )
 
 left_is : (o : Option Pool) (us : List ℕ) (c : Cut) (is : List Index) → left_by o (with_index_at o us c is) ≡ is
@@ -200,17 +186,17 @@ left_is None us c is = refl
 left_is (Some pool) us c is = refl
 
 pieces_for : (m : Mentions) (us : List ℕ) (cs : List Cut) → All (IsPieceAt us) cs → All (IsInRange us m) cs → Denote m (pieces_with (map (cut_units us) cs) (indices_at us cs)) (map (named m us) cs)
-pieces_for m us [] pieces range = tt
+pieces_for m us [] pieces range = record { known = All-nil (IsKnownPiece m); mean = refl }
 pieces_for m us (c ∷ cs) pieces range =
     let piece : IsPieceAt us c = All-head (IsPieceAt us) c cs pieces in
     let same : index_pool (cut_units us c) ≡ index_pool (drop c.unit us) = cut_pool us c piece in
-    let is : List Index = with_index_at (index_pool (drop c.unit us)) us c (indices_at us cs) in (
-      subst (λ (p : Option Pool). Denotes m (piece_with p (cut_units us c) (with_index_at (index_pool (drop c.unit us)) us c (indices_at us cs))) (named m us c)) (sym same)
-          (piece_for m us c (index_pool (drop c.unit us)) (indices_at us cs) piece refl (All-head (IsInRange us m) c cs range)),
-      subst (λ (js : List Index). Denote m (pieces_with (map (cut_units us) cs) js) (map (named m us) cs))
-          (sym (ap (λ (p : Option Pool). left_by p (with_index_at (index_pool (drop c.unit us)) us c (indices_at us cs))) same ∙ left_is (index_pool (drop c.unit us)) us c (indices_at us cs)))
-          (pieces_for m us cs (All-tail (IsPieceAt us) c cs pieces) (All-tail (IsInRange us m) c cs range)),
-    )
+    let is : List Index = with_index_at (index_pool (drop c.unit us)) us c (indices_at us cs) in
+    let p : NumberedPiece = piece_with (index_pool (cut_units us c)) (cut_units us c) is in
+    let ps : List NumberedPiece = pieces_with (map (cut_units us) cs) (left_by (index_pool (cut_units us c)) is) in
+    let first : Reads m p (named m us c) = subst (λ (o : Option Pool). Reads m (piece_with o (cut_units us c) is) (named m us c)) (sym same) (piece_for m us c (index_pool (drop c.unit us)) (indices_at us cs) piece refl (All-head (IsInRange us m) c cs range)) in
+    let rest : Denote m ps (map (named m us) cs) = subst (λ (js : List Index). Denote m (pieces_with (map (cut_units us) cs) js) (map (named m us) cs)) (sym (ap (λ (o : Option Pool). left_by o is) same ∙ left_is (index_pool (drop c.unit us)) us c (indices_at us cs)))
+    (pieces_for m us cs (All-tail (IsPieceAt us) c cs pieces) (All-tail (IsInRange us m) c cs range)) in
+    record { known = All-cons (IsKnownPiece m) p ps first.0 rest.known; mean = λ i. first.1 i ∷ rest.mean i }
 
 -- what is read are the pieces of the code_item
 pub read_pieces : (b : List ℕ) (off : ℕ) (m : Mentions) (bytes : List ℕ) (is : List Index) → ArePools b m → AreUnitsAt b off bytes → AreCodeIndices (units_in bytes) m is → ArePiecesAt b off m (pieces_with (parts_in (units_in bytes)) is)

@@ -1,16 +1,18 @@
 -- Pieces whose symbols are numbers: what they denote under a numbering, and what becomes of them when the numbers
 -- change.
 use Rattle.std.specs.Prelude.{◌≡◌, ℕ, ◌^◌, ◌<◌, if◌then◌else◌, List, [], ◌∷◌, map, All, Option, Some, None, slice_index_or, length}
-use Rattle.std.specs.List.{AllZip, flat_map}
+use Rattle.std.specs.List.{flat_map}
 use Rattle.std.specs.Option.{IsSome, option_map_or}
 use Rattle.dexspec.specs.Bytes.{ushort}
-use Rattle.dexspec.specs.Symbols.{Pool, StringPool, TypePool, ProtoPool, FieldPool, MethodPool, pool_of}
+use Rattle.dexspec.specs.Symbols.{Pool, StringPool, TypePool, ProtoPool, FieldPool, MethodPool}
 use Rattle.dexspec.specs.Mentions.{Mentions}
 use Rattle.dexspec.specs.Pieces.{Piece, index_pool, is_wide_index, with_index}
 use Rattle.dexspec.specs.Pieces as symbolic
 use Rattle.dexpool.specs.declared.symbols.SymbolKind.{SymbolKind}
 use Rattle.dexpool.specs.declared.symbols.SymbolKind.TheVariants as kinds
-use Rattle.dexpool.specs.Numberings.{IsNumbered, Maps, image_of}
+use Rattle.dexpool.specs.Numberings.{Maps, image_of}
+use Rattle.dexpool.specs.NumberedSymbols.{symbol_at}
+use Rattle.dexpool.specs.Pools.{count_of}
 use Rattle.dexpool.specs.Uses.{Use}
 
 -- A piece of code: an instruction's units with those of its index put to zero, beside the number of the symbol that
@@ -25,20 +27,6 @@ pub record NumberedCode : Type 0 where
   pub ins : ℕ
   pub outs : ℕ
   pub pieces : List NumberedPiece
-
--- ---- what numbers denote
-
--- the piece is the symbolic one, where symbols are numbered so
-abbrev pub Denotes : Mentions → NumberedPiece → Piece → Type 0
-Denotes m (Instruction us None) (symbolic.Instruction xs None) = us ≡ xs
-Denotes m (Instruction us (Some n)) (symbolic.Instruction xs (Some s)) =
-    (us ≡ xs) × (index_pool us ≡ Some (pool_of s)) × IsNumbered m n s
-Denotes m (Payload us) (symbolic.Payload xs) = us ≡ xs
-Denotes m _ _ = ⊥
-
--- the pieces are the symbolic ones, where symbols are numbered so
-abbrev pub Denote : Mentions → List NumberedPiece → List Piece → Type 0
-Denote m ps qs = AllZip (Denotes m) ps qs
 
 -- ---- the symbols that occur
 
@@ -66,6 +54,24 @@ uses_of ps = flat_map piece_uses ps
 -- the symbol at a place among them has this kind and this number
 abbrev pub IsUseAt : List Use → ℕ → SymbolKind × ℕ → Type 0
 IsUseAt us i symbol = (d : Use) → slice_index_or us i d ≡ record { kind = symbol.0; number = symbol.1 }
+
+-- ---- what numbers denote
+
+-- the piece with the symbol of its number, of the kind that its units name; of a text where they name none
+abbrev pub piece_in : Mentions → NumberedPiece → Piece
+piece_in m (Instruction us None) = symbolic.Instruction us None
+piece_in m (Instruction us (Some n)) = symbolic.Instruction us (Some (symbol_at m (kind_in us) n))
+piece_in m (Payload us) = symbolic.Payload us
+
+-- an instruction with a number has an index in its units, and the number is that of a symbol of the index's kind
+abbrev pub IsKnownPiece : Mentions → NumberedPiece → Type 0
+IsKnownPiece m (Instruction us (Some n)) = IsSome (index_pool us) × (n < count_of (kind_in us) m)
+IsKnownPiece m _ = Unit {0}
+
+-- the numbers are those of symbols, and denote the pieces
+pub record Denote (m : Mentions) (ps : List NumberedPiece) (qs : List Piece) : Type 0 where
+  pub known : All (IsKnownPiece m) ps
+  pub mean : map (piece_in m) ps ≡ qs
 
 -- ---- places of numbers
 

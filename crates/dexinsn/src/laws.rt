@@ -22,7 +22,6 @@ pub fn renumber_law()
 {}
 
 /// The symbols that occur are those of the pieces that they denote, one for one and in their order.
-#[tactic(auto, using(crate::proofs::Meanings::uses_encoded))]
 pub fn uses_law()
     ensures { UsesAreDenoted }
 {}

@@ -2,7 +2,6 @@
 use Rattle.dexlayout.proofs.Common.{◌≡◌, ℕ, ◌+◌, ◌<◌, ◌≤◌, List, [], ◌∷◌, ◌++◌, length, get_or, map, drop, Option, None, Some, refl, sym, ap, subst, ◌∙◌, arith, IfSome, All, flat_map, option_map, option_map_or, drop_more, length-drop, length-map, map-append, All-nil, All-head, All-tail, All-append, zip_with, MethodDef, declared_methods, Mentions, CodeItems, code_bytes, all_methods, code_uses, uses_offsets, debug_section, code_section, length-debug_offsets, length-code_offsets, AreRising, all_of, NumberedItem, handlers_of, code_in, IsKnownCode, numbered_code_bytes, HasShortTypes, NumberedMembers, NumberedMethod, method_in, AreKnownMembers, IsKnownMethod, methods_of, NumberedClass, definition_of, IsKnownClass, AreCodes, AreLaidIn, AreWritable, ordered_of, EncodedItems, ItemPlaces, code_item, code_items, HasShortCode, encode_use, encode_uses, no_items_from}
 use Rattle.dexspec.specs.Code as symbolic
 use Rattle.dexcode.specs.Laws.{CodeBytesAreDenoted, CaughtTypesAreShort}
-use Rattle.dexcode.proofs.Meanings.{code_encoded}
 use Rattle.dexlayout.proofs.EncodedUses.{own_in, use_encoded, use_fits, drop_next}
 
 -- ---- the methods of classes
@@ -52,7 +51,7 @@ module _ (m : Mentions) (rising : AreRising m) (bytes : CodeBytesAreDenoted) whe
 
   code_same : (code : Option NumberedItem) (o : ℕ) → IfSome code (IsKnownCode m) → option_map (numbered_code_bytes o) code ≡ option_map item_of (option_map_or (λ c. Some (c, o)) (option_map (code_in m) code) None)
   code_same None o known = refl
-  code_same (Some c) o known = ap Some (bytes m o c (code_in m c) rising (code_encoded m c known))
+  code_same (Some c) o known = ap Some (bytes m o c (code_in m c) rising (record { known = known; means = refl }))
 
   codes_same : (xs : List NumberedMethod) (offs : List ℕ) → All (IsKnownMethod m) xs → code_items xs offs ≡ map (option_map item_of) (zip_with use_of (map (method_in m) xs) offs)
   codes_same (x ∷ xs) (o ∷ offs) known = λ i. code_same x.code o (All-head (IsKnownMethod m) x xs known).code_known i ∷ codes_same xs offs (All-tail (IsKnownMethod m) x xs known) i
@@ -81,7 +80,7 @@ pub record CodesLeft (items : EncodedItems) (xs : List NumberedMethod) (offs : L
 module _ (m : Mentions) (cs : List NumberedClass) (w : AreWritable m cs) (types : CaughtTypesAreShort) (debugs : ItemPlaces) (laid : AreLaidIn (debug_section (ordered_of m cs)) debugs) where
   code_short : (code : Option NumberedItem) → IfSome code (IsKnownCode m) → IfSome code (λ c. All HasShortTypes (handlers_of c.tries))
   code_short None known = tt
-  code_short (Some c) known = types m c (code_in m c) (code_encoded m c known) (omega (arith, w.types_few))
+  code_short (Some c) known = types m c (code_in m c) (record { known = known; means = refl }) (omega (arith, w.types_few))
 
   pub codes_left : (items : EncodedItems) (offs : List ℕ) → items ≡ no_items_from debugs.end → offs ≡ debugs.offsets → CodesLeft items (methods_in_all cs) offs (encode_uses 4 (no_items_from debugs.end) (code_items (methods_in_all cs) debugs.offsets))
   codes_left items offs none are = record {

@@ -7,7 +7,6 @@ use Rattle.std.proofs.lemmas.Bool.Decides.{same_from_decides}
 use Rattle.dexdebug.specs.Debug.{NumberedDebug, numbered_debug_bytes}
 use Rattle.dexdebug.specs.Meaning.{debug_in, IsKnownDebug}
 use Rattle.dexdebug.proofs.DebugMeanings.{bytes_are}
-use Rattle.dexdebug.proofs.MeaningDebug.{debug_encoded}
 use Rattle.dexval.specs.declared.set.AnnotationSet.{AnnotationSet as CodeSet}
 use Rattle.dexval.specs.Equality.{equal_sets, set_decides as equal_decides}
 use Rattle.dexval.proofs.Ranked as sets
@@ -176,7 +175,7 @@ module _ (m : Mentions) (rising : AreRising m) where
     where
       by : (debug : Option NumberedDebug) → IfSome debug (IsKnownDebug m) → option_map (debug_bytes m) (option_map (debug_in m) debug) ≡ option_map numbered_debug_bytes debug
       by None known = refl
-      by (Some d) known = ap Some (sym (bytes_are m d (debug_in m d) rising (debug_encoded m d known)))
+      by (Some d) known = ap Some (sym (bytes_are m d (debug_in m d) rising (record { known = known; means = refl })))
 
   debugs_encoded_in : (xs : List NumberedMethod) → All (IsKnownMethod m) xs → map (option_map (debug_bytes m)) (map method_debug (map (method_in m) xs)) ≡ debug_encodings xs
   debugs_encoded_in [] known = refl

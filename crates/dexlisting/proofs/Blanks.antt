@@ -12,11 +12,10 @@ use Rattle.dexinsn.specs.declared.listing.Piece.{Piece}
 use Rattle.dexinsn.specs.declared.listing.PieceKind.{PieceKind}
 use Rattle.dexinsn.specs.declared.listing.PieceKind.TheVariants as kinds
 use Rattle.dexinsn.specs.Listing.{units_of, kind_of, listed}
-use Rattle.dexcode.specs.Meaning.{piece_in}
 use Rattle.dexout.specs.Printed.{place_text, count_text}
 use Rattle.dexlisting.specs.FullListing.{signed_text, literal_text, offsets_text, keys_text, units_text, instruction_text, entries_text, full_piece_text, full_piece_line, full_piece_lines}
 use Rattle.dexlisting.specs.internal.FullPieces.{packed_entries, sparse_entries, full_kind_text, full_listed_line}
-use Rattle.dexinsn.specs.Numbered.{NumberedPiece, Instruction, Payload, numbered_units, unit_count}
+use Rattle.dexinsn.specs.Numbered.{NumberedPiece, Instruction, Payload, numbered_units, unit_count, piece_in}
 use Rattle.dexinsn.specs.Blank.{blank_units}
 use Rattle.dexlisting.proofs.Shown.{indexed}
 

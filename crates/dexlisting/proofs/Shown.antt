@@ -9,14 +9,14 @@ use Rattle.dexspec.proofs.numbers.ByteNumbers.{length-ushort}
 use Rattle.dexspec.specs.Mentions.{Mentions}
 use Rattle.dexspec.specs.Pieces.{packed_switch_ident, sparse_switch_ident, element_width, element_count, is_wide_index, with_index}
 use Rattle.dexspec.specs.Pieces as pieces
-use Rattle.dexinsn.specs.Numbered.{NumberedPiece, Instruction, Payload, numbered_units, numbered_bytes, unit_count}
+use Rattle.dexinsn.specs.Numbered.{NumberedPiece, Instruction, Payload, numbered_units, numbered_bytes, unit_count, IsKnownPiece, piece_in}
 use Rattle.dexinsn.specs.declared.listing.Piece.{Piece}
 use Rattle.dexinsn.specs.declared.listing.PieceKind.{PieceKind}
 use Rattle.dexinsn.specs.declared.listing.PieceKind.TheVariants as kinds
 use Rattle.dexinsn.specs.Listing.{units_of, kind_of, payload_shown, listed}
 use Rattle.dexcode.specs.Numbered.{NumberedItem, NumberedTry, NumberedHandler, all_named, handlers_of}
 use Rattle.dexcode.specs.declared.tries.Try.{Try}
-use Rattle.dexcode.specs.Meaning.{IsKnownPiece, piece_in, code_in}
+use Rattle.dexcode.specs.Meaning.{code_in}
 use Rattle.dexlisting.specs.Listing.{mnemonic_text, counts_line, code_lines, piece_lines, piece_text, payload_text}
 use Rattle.dexout.specs.Printed.{place_text, count_text}
 use Rattle.dexlisting.specs.internal.Known.{IsKnownKind, kind_text, listed_line}

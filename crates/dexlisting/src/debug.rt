@@ -4,7 +4,8 @@ ghost use Rattle.std.specs.Prelude.{◌≡◌, ◌<◌, ◌≤◌, ◌+◌, ◌^
 ghost use Rattle.std.specs.List.{flat_map};
 ghost use Rattle.std.specs.Option.{option_map};
 ghost use Rattle.dexspec.specs.Mentions.{Mentions};
-ghost use Rattle.dexdebug.specs.Meaning.{text_at, type_at, operation_in, debug_in, IsKnownText, IsKnownType, IsKnownOperation, IsKnownDebug};
+ghost use Rattle.dexdebug.specs.Meaning.{operation_in, debug_in, IsKnownText, IsKnownType, IsKnownOperation, IsKnownDebug};
+ghost use Rattle.dexpool.specs.NumberedSymbols.{text_at, type_at};
 ghost use Rattle.dexdebug.specs.Positions as recorded;
 ghost use Rattle.dexout.specs.Printed.{quoted, shown, count_text, place_text};
 ghost use Rattle.dexlisting.specs.FullListing.{text_or_dash, signed_text, local_text, operation_text, operation_line, operation_lines, parameter_name_line, debug_lines};

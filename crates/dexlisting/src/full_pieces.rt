@@ -6,7 +6,7 @@ ghost use Rattle.dexspec.specs.Pieces.{ints_in};
 ghost use Rattle.dexspec.specs.Symbols.{MethodSymbol};
 ghost use Rattle.dexpool.specs.Pools.{count_of};
 ghost use Rattle.dexinsn.specs.Blank.{blank_units};
-ghost use Rattle.dexcode.specs.Meaning.{IsKnownPiece, piece_in};
+ghost use Rattle.dexinsn.specs.Numbered.{IsKnownPiece, piece_in};
 ghost use Rattle.dexval.specs.Numbered.{method_at};
 ghost use Rattle.dexlisting.specs.Listing.{symbol_text};
 ghost use Rattle.dexlisting.specs.FullListing.{plain, offsets_text, keys_text, units_text, full_piece_lines};

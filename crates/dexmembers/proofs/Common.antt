@@ -15,8 +15,8 @@ pub use Rattle.std.specs.Option.{IsSome, option_flatten, option_map}
 pub use Rattle.std.specs.Ordering.{is_eq, is_lt, nat_cmp, ordering_index, ordering_reverse}
 pub use Rattle.std.specs.Prelude.{IfErr, IfOk, IfSome, IsTrue, MatchOption, if◌then◌else◌, not, slice_index, slice_index_or, ◌==◌, ◌↔◌}
 pub use Rattle.std.specs.Vec.Iter.{into_iter_items, into_iter_len}
-pub use Rattle.dexcode.specs.Meaning.{IsKnownCode, code_in}
-pub use Rattle.dexcode.specs.Numbered.{DenotesCode, NumberedItem}
+pub use Rattle.dexcode.specs.Meaning.{IsKnownCode, code_in, DenotesCode}
+pub use Rattle.dexcode.specs.Numbered.{NumberedItem}
 pub use Rattle.dexcode.specs.Reading.{IsCodeAt, IsCodeFault}
 pub use Rattle.dexcode.specs.Renumbering.{HasImages, HasPlaces, item_uses, renumbered_item}
 pub use Rattle.dexdebug.proofs.Compared.{decides_by_eq}

@@ -4,7 +4,7 @@ use Rattle.dexpool.specs.declared.symbols.SymbolKind.TheVariants as kinds
 use Rattle.dexpool.specs.declared.marks.Marks.{Marks}
 use Rattle.dexval.proofs.Meanings.{set_encoded, values_encoded, set_marks, values_marks}
 use Rattle.dexmembers.specs.{NumberedField, NumberedMethod, NumberedMembers, field_in, method_in, members_in, fields_of, methods_of, IsKnownField, IsKnownMethod, AreKnownMembers, AreOfClass, field_uses, method_uses, members_uses, members_symbols}
-pub use Rattle.dexdebug.proofs.DebugMeanings.{zip-append}
+pub use Rattle.dexpool.proofs.Numbers.{zip-append}
 
 -- ---- parts
 

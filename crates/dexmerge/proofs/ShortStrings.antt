@@ -8,7 +8,6 @@ use Rattle.dexpool.specs.declared.symbols.SymbolKind.{SymbolKind}
 use Rattle.dexpool.specs.declared.symbols.SymbolKind.TheVariants as kinds
 use Rattle.dexinsn.specs.Numbered.{NumberedPiece, Instruction, kind_in, renumbered_piece}
 use Rattle.dexcode.specs.Meaning.{code_in, IsKnownCode}
-use Rattle.dexcode.proofs.Meanings.{code_encoded}
 use Rattle.dexmerge.specs.internal.Amounts.{short_numbers}
 
 -- ---- in symbols
@@ -49,7 +48,7 @@ module _ (m : Mentions) (cs : List NumberedClass) (known : All (IsKnownClass m) 
       let code = some_code m y.code h.code (ap (λ (x : MethodDef). x.code) method.2 ∙ h.has_code) in
       let k : NumberedItem = code.0 in
       let named : HasConstString (code_in m k).pieces s = record { units = h.units; piece = subst (λ (x : Code). Contains x.pieces (symbolic.Instruction h.units (Some (TextSymbol s)))) (sym code.2) h.piece; short = h.short } in
-      let f = short_named m k.body.pieces (code_in m k).pieces s (code_encoded m k (known_code m y k (All-contains (IsKnownMethod m) (methods_of c.members) y (known_methods m c.members (All-contains (IsKnownClass m) cs c known class.1).members_known) method.1) code.1)).pieces_are named in
+      let f = short_named m k.body.pieces (code_in m k).pieces s (record { known = (known_code m y k (All-contains (IsKnownMethod m) (methods_of c.members) y (known_methods m c.members (All-contains (IsKnownClass m) cs c known class.1).members_known) method.1) code.1).pieces_known; mean = refl }) named in
       let in_method : Contains (method_short_strings y) f.0 = subst (λ (o : Option NumberedItem). Contains (flat_map code_short_strings (option_to_list o)) f.0) (sym code.1) (Contains-flat_map code_short_strings (k ∷ []) k f.0 (Contains-first k []) f.1) in
       (f.0, Contains-flat_map (λ (x : NumberedClass). members_short_strings x.members) cs c f.0 class.1 (Contains-flat_map method_short_strings (methods_of c.members) y f.0 method.1 in_method), f.2)
 
@@ -63,7 +62,7 @@ module _ (m : Mentions) (cs : List NumberedClass) (known : All (IsKnownClass m) 
       let code = Contains-flat_map_source code_short_strings (option_to_list y.code) n method.2 in
       let k : NumberedItem = code.0 in
       let is : y.code ≡ Some k = option_source y.code k code.1 in
-      let f = short_denoted m k.body.pieces (code_in m k).pieces n (code_encoded m k (known_code m y k (All-contains (IsKnownMethod m) (methods_of c.members) y (known_methods m c.members (All-contains (IsKnownClass m) cs c known class.1).members_known) method.1) is)).pieces_are code.2 in
+      let f = short_denoted m k.body.pieces (code_in m k).pieces n (record { known = (known_code m y k (All-contains (IsKnownMethod m) (methods_of c.members) y (known_methods m c.members (All-contains (IsKnownClass m) cs c known class.1).members_known) method.1) is).pieces_known; mean = refl }) code.2 in
       let named : HasConstString (code_in m k).pieces f.0 = f.2 in (
         f.0,
         f.1,

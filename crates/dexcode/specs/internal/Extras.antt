@@ -1,11 +1,12 @@
 -- What code has besides its pieces.
-use Rattle.std.specs.Prelude.{ℕ, ◌+◌, List, [], Option, Some, None as nothing}
+use Rattle.std.specs.Prelude.{ℕ, ◌+◌, List, [], Option, Some, None as nothing, IfSome}
 use Rattle.std.specs.Option.{option_map}
 use Rattle.dexspec.specs.Bytes.{uint_at}
 use Rattle.dexspec.specs.Debug as symbolic
-use Rattle.dexspec.specs.Lists.{OrNone, SomeAt, BothOrNone}
+use Rattle.dexspec.specs.Lists.{OrNone, SomeAt}
 use Rattle.dexspec.specs.Mentions.{Mentions}
-use Rattle.dexdebug.specs.Debug.{NumberedDebug, DenotesDebug}
+use Rattle.dexdebug.specs.Debug.{NumberedDebug}
+use Rattle.dexdebug.specs.Meaning.{debug_in, IsKnownDebug}
 use Rattle.dexcode.specs.declared.extras.Extras.{Extras}
 use Rattle.dexcode.specs.declared.extras.Extras.TheVariants.{None, Debug, Tries}
 use Rattle.dexcode.specs.Numbered.{NumberedTry}
@@ -22,8 +23,7 @@ debug_of None = nothing
 debug_of (Debug debug) = Some debug.value
 debug_of (Tries both) = option_map (λ debug. debug.value) both.value.debug
 
--- the debug program, if there is one, is that of the code_item at an offset
+-- the debug program, if there is one, is that of the code_item at an offset, where symbols are numbered by their rows
 pub record IsDebugOf (b : List ℕ) (off : ℕ) (m : Mentions) (d : Option NumberedDebug) : Type 0 where
-  pub program : Option symbolic.Debug
-  pub at : OrNone (SomeAt symbolic.DebugAt) nothing b (uint_at b (off + 8)) program
-  pub encodes : BothOrNone (DenotesDebug m) d program
+  pub known : IfSome d (IsKnownDebug m)
+  pub at : OrNone (SomeAt symbolic.DebugAt) nothing b (uint_at b (off + 8)) (option_map (debug_in m) d)

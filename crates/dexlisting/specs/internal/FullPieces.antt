@@ -9,7 +9,7 @@ use Rattle.dexinsn.specs.declared.listing.Piece.{Piece}
 use Rattle.dexinsn.specs.declared.listing.PieceKind.{PieceKind}
 use Rattle.dexinsn.specs.declared.listing.PieceKind.TheVariants as kinds
 use Rattle.dexinsn.specs.Opcode.{mnemonic_of}
-use Rattle.dexcode.specs.Meaning.{symbol_at}
+use Rattle.dexpool.specs.NumberedSymbols.{symbol_at}
 use Rattle.dexout.specs.Printed.{count_text, place_text}
 use Rattle.dexlisting.specs.Listing.{symbol_text}
 use Rattle.dexlisting.specs.FullListing.{plain, operands_text, literal_text, offsets_text, keys_text, units_text}

@@ -16,7 +16,7 @@ use Rattle.dexinsn.specs.declared.listing.Piece.{Piece}
 use Rattle.dexinsn.specs.declared.listing.PieceKind.{PieceKind}
 use Rattle.dexinsn.specs.declared.listing.PieceKind.TheVariants as kinds
 use Rattle.dexinsn.specs.Opcode.{mnemonic_of}
-use Rattle.dexcode.specs.Meaning.{symbol_at}
+use Rattle.dexpool.specs.NumberedSymbols.{symbol_at}
 use Rattle.dexlisting.specs.Listing.{symbol_text}
 use Rattle.dexlisting.specs.FullListing.{plain, full_field_lines}
 use Rattle.dexlisting.specs.declared.names.Names.{Names}

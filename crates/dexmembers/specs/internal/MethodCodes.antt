@@ -8,7 +8,8 @@ use Rattle.dexpool.specs.declared.faults.ItemFault.{ItemFault}
 use Rattle.dexpool.specs.declared.faults.ItemFault.TheVariants.{Refused, Memory}
 use Rattle.dexpool.specs.Numberings.{AreRising}
 use Rattle.dexcode.specs.Checking.{one_code_weight}
-use Rattle.dexcode.specs.Numbered.{NumberedItem, DenotesCode}
+use Rattle.dexcode.specs.Numbered.{NumberedItem}
+use Rattle.dexcode.specs.Meaning.{DenotesCode}
 use Rattle.dexcode.specs.Reading.{IsCodeFault}
 use Rattle.dexmembers.specs.Held.{HeldMethod}
 use Rattle.dexmembers.specs.internal.Attaching.{held_codes}

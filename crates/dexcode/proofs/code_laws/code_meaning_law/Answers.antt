@@ -1,5 +1,5 @@
-use Rattle.dexcode.proofs.Meanings.{code_known, code_means, code_encoded}
+use Rattle.dexcode.proofs.Common.{refl, sym}
 use Rattle.dexcode.proofs.code_laws.code_meaning_law.Goals as goal
 
 pub returns : goal.returns
-returns c = record { known = code_known; meant = code_means; encodes = code_encoded }
+returns c = record { known = λ m d x h. h.known; meant = λ m d x h. sym h.means; encodes = λ m d h. record { known = h; means = refl } }

@@ -1,5 +1,5 @@
-use Rattle.dexdebug.proofs.MeaningDebug.{debug_known, debug_means, debug_encoded}
+use Rattle.dexdebug.proofs.Common.{refl, sym}
 use Rattle.dexdebug.proofs.debug_laws.debug_meaning_law.Goals as goal
 
 pub returns : goal.returns
-returns c = record { known = debug_known; meant = debug_means; encodes = debug_encoded }
+returns c = record { known = λ m d x h. h.known; meant = λ m d x h. sym h.means; encodes = λ m d h. record { known = h; means = refl } }

@@ -4,7 +4,8 @@ use Rattle.std.proofs.Common.{ap, ◌∙◌, pos, map}
 use Rattle.std.specs.Prelude.{codes}
 use Rattle.std.specs.List.{flat_map}
 use Rattle.std.specs.Option.{option_map}
-use Rattle.dexdebug.specs.Meaning.{text_at, operation_in}
+use Rattle.dexdebug.specs.Meaning.{operation_in}
+use Rattle.dexpool.specs.NumberedSymbols.{text_at}
 use Rattle.dexout.specs.Printed.{count_text}
 use Rattle.dexlisting.specs.FullListing.{parameter_name_line, operation_lines, debug_lines}
 use Rattle.dexlisting.proofs.debug.encode_debug.Goals as goal

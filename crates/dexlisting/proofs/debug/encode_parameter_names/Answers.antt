@@ -4,7 +4,8 @@ use Rattle.std.specs.List.{flat_map}
 use Rattle.std.specs.Option.{option_map}
 use Rattle.std.proofs.lemmas.List.Elements.{All-tail}
 use Rattle.dexhead.proofs.Encoded.{then_given, completes_more}
-use Rattle.dexdebug.specs.Meaning.{text_at, IsKnownText}
+use Rattle.dexdebug.specs.Meaning.{IsKnownText}
+use Rattle.dexpool.specs.NumberedSymbols.{text_at}
 use Rattle.dexlisting.specs.FullListing.{parameter_name_line}
 use Rattle.dexlisting.proofs.debug.encode_parameter_names.Goals as goal
 

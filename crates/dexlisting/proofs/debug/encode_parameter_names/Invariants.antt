@@ -3,7 +3,8 @@ use Rattle.std.specs.Prelude.{All}
 use Rattle.std.specs.List.{flat_map}
 use Rattle.std.specs.Option.{option_map}
 use Rattle.dexhead.proofs.Encoded.{Completes}
-use Rattle.dexdebug.specs.Meaning.{text_at, IsKnownText}
+use Rattle.dexdebug.specs.Meaning.{IsKnownText}
+use Rattle.dexpool.specs.NumberedSymbols.{text_at}
 use Rattle.dexlisting.specs.FullListing.{parameter_name_line}
 use Rattle.dexlisting.proofs.debug.encode_parameter_names.Given as goal
 

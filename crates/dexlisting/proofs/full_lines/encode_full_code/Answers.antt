@@ -3,9 +3,8 @@ use Rattle.std.specs.List.{flat_map}
 use Rattle.dexhead.proofs.Encoded.{then_given}
 use Rattle.dexout.proofs.Given.{next_part, last_part}
 use Rattle.dexspec.specs.Symbols.{MethodSymbol}
-use Rattle.dexinsn.specs.Numbered.{NumberedCode}
+use Rattle.dexinsn.specs.Numbered.{NumberedCode, piece_in}
 use Rattle.dexcode.specs.Numbered.{NumberedTry, try_meant}
-use Rattle.dexcode.specs.Meaning.{piece_in}
 use Rattle.dexval.specs.Numbered.{method_at}
 use Rattle.dexlisting.specs.Listing.{symbol_text}
 use Rattle.dexlisting.specs.FullListing.{plain, full_piece_lines, try_lines, full_code_lines}

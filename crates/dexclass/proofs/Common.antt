@@ -74,5 +74,5 @@ pub use Rattle.dexspec.specs.Weight.{body_weight, field_weight, mentions_weight,
 unfoldable pub use Rattle.dexspec.specs.Weight.{weight}
 pub use Rattle.dexspec.specs.WellFormed.{AreWellFormed}
 pub use Rattle.dexspec.proofs.sharing.Sharing.{present_has, present_source}
-pub use Rattle.dexval.proofs.Images.{some_of}
+pub use Rattle.dexpool.proofs.Numbers.{some_of}
 pub use Rattle.dexspec.proofs.wellformed.FormedRows.{length-ushorts_at}

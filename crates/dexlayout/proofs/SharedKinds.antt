@@ -79,7 +79,7 @@ module _ (m : Mentions) (rising : AreRising m) where
   -- ---- sets
 
   pub sets_agree : (same : Bool) (x y : NumberedSet) → Decides same (x ≡ y) → IsKnownSet m x → IsKnownSet m y → same_set (set_in m x) (set_in m y) ≡ same
-  sets_agree same x y is hx hy = agree (set_in m) same same_set set_decides x y is (λ e. sets.one_set m (ranks_are_numbers m rising) x y (set_in m x) (record { known = hx; means = refl }) (record { known = hy; means = sym e }))
+  sets_agree same x y is hx hy = agree (set_in m) same same_set set_decides x y is (λ e. sets.one_set m rising x y (set_in m x) (record { known = hx; means = refl }) (record { known = hy; means = sym e }))
 
 -- ---- type lists
 

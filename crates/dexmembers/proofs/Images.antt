@@ -1,5 +1,5 @@
 -- The images of the numbers of what a class declares, part by part.
-use Rattle.dexmembers.proofs.Common.{◌≡◌, ℕ, List, [], ◌++◌, Option, Some, None, refl, IsSome, IfSome, option_to_list, All, flat_map, All-head, All-tail, Maps, Use, IsMappedUse, NumberedItem, item_uses, HasImages, NumberedSet, NumberedValues, set_uses, values_uses, all_prefix, all_back, all_parts, all_of}
+use Rattle.dexmembers.proofs.Common.{ℕ, List, [], ◌++◌, Option, Some, None, IfSome, option_to_list, All, flat_map, All-head, All-tail, Maps, Use, IsMappedUse, NumberedItem, item_uses, HasImages, NumberedSet, NumberedValues, set_uses, values_uses, all_prefix, all_back, all_parts, all_of}
 use Rattle.dexpool.specs.declared.symbols.SymbolKind.TheVariants as kinds
 use Rattle.dexmembers.specs.{NumberedField, NumberedMethod, NumberedMembers, fields_of, methods_of, field_uses, method_uses, members_uses}
 
@@ -39,10 +39,6 @@ pub record MembersHaveImages (r : Maps) (x : NumberedMembers) : Type 0 where
   pub direct_methods_mapped : All (MethodHasImages r) x.direct_methods
   pub virtual_methods_mapped : All (MethodHasImages r) x.virtual_methods
   pub values_mapped : HaveImages r x.static_values
-
-pub some_of : (o : Option ℕ) → IsSome o → (j : ℕ) × (o ≡ Some j)
-some_of None h = absurd cc
-some_of (Some j) h = (j, refl)
 
 -- what holds of the uses of one or none
 one : {X : Type 0} (P : Use → Type 0) (u : X → List Use) (Q : X → Type 0) → ((x : X) → All P (u x) → Q x) → (o : Option X) → All P (flat_map u (option_to_list o)) → IfSome o Q

@@ -10,7 +10,8 @@ use Rattle.dexpool.specs.Images.{IsMapped}
 use Rattle.dexmembers.specs.{NumberedField, NumberedMethod, NumberedMembers, methods_of, FieldHasPlaces, MethodHasPlaces, MembersHavePlaces, MethodFits, NumbersFit, code_short_strings, method_short_strings, members_short_strings}
 use Rattle.dexpool.proofs.KeptTables.{all_both}
 use Rattle.dexmembers.proofs.RenumberingLists.{options_both}
-use Rattle.dexmembers.proofs.Images.{SetHasImages, HaveImages, FieldHasImages, MethodHasImages, MembersHaveImages, some_of}
+use Rattle.dexmembers.proofs.Images.{SetHasImages, HaveImages, FieldHasImages, MethodHasImages, MembersHaveImages}
+use Rattle.dexpool.proofs.Numbers.{some_of}
 
 -- the code of the method, if it has some, has places
 abbrev pub CodePlaced : Maps → NumberedMethod → Type 0

@@ -1,8 +1,9 @@
 -- What members denote stays the same once they are renumbered, and so do their order and their class.
-use Rattle.dexmembers.proofs.Common.{◌≡◌, ℕ, ◌<◌, List, [], length, map, get_or, Option, Some, refl, sym, ap, ◌∙◌, subst, unwrap_or, All, All-append, All-map, map-append, Text, Field, Method, ShareNone, Mentions, Maps, image, MapsTo, AllMapTo, IsMappedUse, NumberedItem, code_in, IsKnownCode, renumbered_item, HasImages, NumberedSet, NumberedValues, field_at, method_at, set_in, values_in, IsKnownSet, AreKnown, remapped, renumbered_set, renumbered_values}
+use Rattle.dexmembers.proofs.Common.{◌≡◌, ℕ, ◌<◌, List, [], length, map, get_or, refl, ap, ◌∙◌, subst, All, All-append, All-map, map-append, Text, Field, Method, ShareNone, Mentions, Maps, image, AllMapTo, IsMappedUse, NumberedItem, code_in, IsKnownCode, renumbered_item, HasImages, NumberedSet, NumberedValues, field_at, method_at, set_in, values_in, IsKnownSet, AreKnown, remapped, renumbered_set, renumbered_values}
 use Rattle.dexpool.specs.declared.symbols.SymbolKind.TheVariants as kinds
 use Rattle.dexmembers.specs.{NumberedField, NumberedMethod, NumberedMembers, fields_of, methods_of, field_in, method_in, members_in, IsKnownField, IsKnownMethod, AreKnownMembers, AreOrdered, AreOfClass, NumbersRise, renumbered_field, renumbered_method, renumbered_members}
-use Rattle.dexmembers.proofs.Images.{field_use, method_use, SetHasImages, HaveImages, FieldHasImages, MethodHasImages, MembersHaveImages, some_of}
+use Rattle.dexmembers.proofs.Images.{field_use, method_use, SetHasImages, HaveImages, FieldHasImages, MethodHasImages, MembersHaveImages}
+use Rattle.dexpool.proofs.Numbers.{some_of, number_remapped}
 use Rattle.dexmembers.proofs.RenumberingLists.{both_ways, all_mapped, maps_keep, options_keep}
 use Rattle.dexmembers.proofs.RenumberingOrder.{Goes, end, rise_kept, apart_kept}
 
@@ -14,19 +15,12 @@ no_method = record { class = []; name = []; proto = record { return_type = []; p
 
 -- ---- numbers
 
-remapped_to : {X : Type 0} (from to : List X) (images : List (Option ℕ)) (i j : ℕ) (d : X) → MapsTo from to images → image images i ≡ Some j
-    → (unwrap_or (image images i) i < length to) × (get_or to (unwrap_or (image images i) i) d ≡ get_or from i d)
-remapped_to from to images i j d l e =
-    let at = l.same i j d e in
-    let is : unwrap_or (image images i) i ≡ j = ap (λ (o : Option ℕ). unwrap_or o i) e in
-    (subst (λ (k : ℕ). k < length to) (sym is) at.within, ap (λ (k : ℕ). get_or to k d) is ∙ at.is d)
-
 module _ (m n : Mentions) (r : Maps) (maps_to : AllMapTo m n r) where
   pub field_remapped : (i : ℕ) → IsMappedUse r (field_use i) → (remapped r kinds.Field i < length n.fields) × (field_at n (remapped r kinds.Field i) ≡ field_at m i)
-  field_remapped i h = let at = some_of (image r.fields i) h in remapped_to m.fields n.fields r.fields i at.0 no_field maps_to.fields_mapped at.1
+  field_remapped i h = number_remapped m n r maps_to kinds.Field i h
 
   pub method_remapped : (i : ℕ) → IsMappedUse r (method_use i) → (remapped r kinds.Method i < length n.methods) × (method_at n (remapped r kinds.Method i) ≡ method_at m i)
-  method_remapped i h = let at = some_of (image r.methods i) h in remapped_to m.methods n.methods r.methods i at.0 no_method maps_to.methods_mapped at.1
+  method_remapped i h = number_remapped m n r maps_to kinds.Method i h
 
 -- ---- meaning
 

@@ -1,7 +1,9 @@
 -- A value determines its numbers: each number is the rank of its symbol.
-use Rattle.dexval.proofs.Common.{◌≡◌, ℕ, [], ◌∷◌, map, refl, ap, sym, ◌∙◌, subst, ◌↔◌, All, All-head, All-tail, rank, text_cmp, field_cmp, method_cmp, ByteValue, ShortValue, CharValue, IntValue, LongValue, FloatValue, DoubleValue, StringValue, TypeValue, FieldValue, MethodValue, EnumValue, ArrayValue, AnnotationValue, NullValue, BooleanValue, Values, NoValues, ThenValue, Elements, NoElements, ThenElement, AnnotationSet, Mentions, RanksAreNumbers, Maps, AllMapTo, IsMappedUse, Literal, ByteLiteral, ShortLiteral, CharLiteral, IntLiteral, LongLiteral, FloatLiteral, DoubleLiteral, NullLiteral, BooleanLiteral, Reference, StringReference, TypeReference, FieldReference, MethodReference, EnumReference, NumberedValue, NumberedValues, NumberedElements, NumberedAnnotation, NumberedSet, Plain, Named, Array, Annotated, NoValue, ThenNext, NoElement, ThenNamed, plain_value, named_value, value_in, values_in, elements_in, annotation_in, set_in, IsKnown, AreKnown, HaveKnown, IsKnownAnnotation, IsKnownSet, Denotes, Denote, DenotesSet, renumbered, renumbered_values, renumbered_set, value_uses, values_uses, set_uses}
+use Rattle.dexval.proofs.Common.{◌≡◌, ℕ, map, refl, ap, sym, ◌∙◌, subst, ◌↔◌, All, rank, text_cmp, field_cmp, method_cmp, ByteValue, ShortValue, CharValue, IntValue, LongValue, FloatValue, DoubleValue, StringValue, TypeValue, FieldValue, MethodValue, EnumValue, ArrayValue, AnnotationValue, NullValue, BooleanValue, Values, NoValues, ThenValue, Elements, NoElements, ThenElement, AnnotationSet, Mentions, AreRising, Maps, AllMapTo, IsMappedUse, Literal, ByteLiteral, ShortLiteral, CharLiteral, IntLiteral, LongLiteral, FloatLiteral, DoubleLiteral, NullLiteral, BooleanLiteral, Reference, StringReference, TypeReference, FieldReference, MethodReference, EnumReference, NumberedValue, NumberedValues, NumberedElements, NumberedAnnotation, NumberedSet, Plain, Named, Array, Annotated, NoValue, ThenNext, NoElement, ThenNamed, plain_value, named_value, value_in, values_in, elements_in, annotation_in, set_in, IsKnown, AreKnown, HaveKnown, IsKnownAnnotation, IsKnownSet, Denotes, Denote, DenotesSet, renumbered, renumbered_values, renumbered_set, value_uses, values_uses, set_uses}
 use Rattle.dexspec.specs.Values.{Value}
 use Rattle.dexspec.specs.Annotations.{Annotation}
+use Rattle.dexpool.specs.declared.symbols.SymbolKind.TheVariants as kinds
+use Rattle.dexpool.proofs.Numbers.{number_ranked, all_back}
 use Rattle.dexval.proofs.Meanings.{value_keeps, values_keep, set_keeps}
 
 -- ---- values with symbols replaced by their ranks
@@ -46,20 +48,20 @@ plain_ranked : (m : Mentions) (l : Literal) → ranked m (plain_value l) ≡ Pla
 plain_ranked m (ByteLiteral z) = refl
 plain_ranked m x = refl
 
-module _ (m : Mentions) (ranks : RanksAreNumbers m) where
+module _ (m : Mentions) (rising : AreRising m) where
   named_ranked : (x : Reference) (i : ℕ) → IsKnown m (Named x i) → ranked m (named_value m x i) ≡ Named x i
-  named_ranked StringReference i h = ap (Named StringReference) (ranks.texts_are i [] h)
-  named_ranked TypeReference i h = ap (Named TypeReference) (ranks.types_are i [] h)
-  named_ranked FieldReference i h = ap (Named FieldReference) (ranks.fields_are i (record { class = []; name = []; type = [] }) h)
-  named_ranked MethodReference i h = ap (Named MethodReference) (ranks.methods_are i (record { class = []; name = []; proto = record { return_type = []; parameters = [] } }) h)
-  named_ranked EnumReference i h = ap (Named EnumReference) (ranks.fields_are i (record { class = []; name = []; type = [] }) h)
+  named_ranked StringReference i h = ap (Named StringReference) (number_ranked m rising kinds.Text i h)
+  named_ranked TypeReference i h = ap (Named TypeReference) (number_ranked m rising kinds.Typ i h)
+  named_ranked FieldReference i h = ap (Named FieldReference) (number_ranked m rising kinds.Field i h)
+  named_ranked MethodReference i h = ap (Named MethodReference) (number_ranked m rising kinds.Method i h)
+  named_ranked EnumReference i h = ap (Named EnumReference) (number_ranked m rising kinds.Field i h)
 
   mutual
     value_ranked : (x : NumberedValue) → IsKnown m x → ranked m (value_in m x) ≡ x
     value_ranked (Plain l) h = plain_ranked m l
     value_ranked (Named x i) h = named_ranked x i h
     value_ranked (Array xs) h = ap Array (values_ranked xs h)
-    value_ranked (Annotated t es) h = ap (λ (i : ℕ). Annotated i (ranked_elements m (elements_in m es))) (ranks.types_are t [] h.0) ∙ ap (Annotated t) (elements_ranked es h.1)
+    value_ranked (Annotated t es) h = ap (λ (i : ℕ). Annotated i (ranked_elements m (elements_in m es))) (number_ranked m rising kinds.Typ t h.0) ∙ ap (Annotated t) (elements_ranked es h.1)
 
     values_ranked : (xs : NumberedValues) → AreKnown m xs → ranked_values m (values_in m xs) ≡ xs
     values_ranked NoValue h = refl
@@ -68,17 +70,15 @@ module _ (m : Mentions) (ranks : RanksAreNumbers m) where
     elements_ranked : (es : NumberedElements) → HaveKnown m es → ranked_elements m (elements_in m es) ≡ es
     elements_ranked NoElement h = refl
     elements_ranked (ThenNamed name x es) h =
-        ap (λ (i : ℕ). ThenNamed i (ranked m (value_in m x)) (ranked_elements m (elements_in m es))) (ranks.texts_are name [] h.0)
+        ap (λ (i : ℕ). ThenNamed i (ranked m (value_in m x)) (ranked_elements m (elements_in m es))) (number_ranked m rising kinds.Text name h.0)
         ∙ ap (λ (y : NumberedValue). ThenNamed name y (ranked_elements m (elements_in m es))) (value_ranked x h.1) ∙ ap (ThenNamed name x) (elements_ranked es h.2)
 
   annotation_ranked : (a : NumberedAnnotation) → IsKnownAnnotation m a → ranked_annotation m (annotation_in m a) ≡ a
   annotation_ranked a h =
-      ap (λ (i : ℕ). numbered_with a.visibility i (ranked_elements m (elements_in m a.elements))) (ranks.types_are a.type [] h.type_in) ∙ ap (numbered_with a.visibility a.type) (elements_ranked a.elements h.elements_known)
+      ap (λ (i : ℕ). numbered_with a.visibility i (ranked_elements m (elements_in m a.elements))) (number_ranked m rising kinds.Typ a.type h.type_in) ∙ ap (numbered_with a.visibility a.type) (elements_ranked a.elements h.elements_known)
 
   set_ranked : (xs : NumberedSet) → IsKnownSet m xs → map (ranked_annotation m) (set_in m xs) ≡ xs
-  set_ranked [] h = refl
-  set_ranked (x ∷ xs) h =
-      ap (λ (a : NumberedAnnotation). a ∷ map (ranked_annotation m) (set_in m xs)) (annotation_ranked x (All-head (IsKnownAnnotation m) x xs h)) ∙ ap (λ (l : NumberedSet). x ∷ l) (set_ranked xs (All-tail (IsKnownAnnotation m) x xs h))
+  set_ranked = all_back (IsKnownAnnotation m) (annotation_in m) (ranked_annotation m) annotation_ranked
 
   -- numbered values that denote the same value are equal
   one_value : (x y : NumberedValue) (v : Value) → Denotes m x v → Denotes m y v → x ≡ y
@@ -92,18 +92,18 @@ module _ (m : Mentions) (ranks : RanksAreNumbers m) where
 
 -- ---- values of two numberings, remapped to a third
 
-module _ (m n whole : Mentions) (r s : Maps) (ranks : RanksAreNumbers whole) (from_first : AllMapTo m whole r) (from_second : AllMapTo n whole s) where
+module _ (m n whole : Mentions) (r s : Maps) (rising : AreRising whole) (from_first : AllMapTo m whole r) (from_second : AllMapTo n whole s) where
   pub same_value : (x y : NumberedValue) (v w : Value) → All (IsMappedUse r) (value_uses x) → All (IsMappedUse s) (value_uses y) → Denotes m x v → Denotes n y w → (renumbered r x ≡ renumbered s y) ↔ (v ≡ w)
   same_value x y v w images images' h k =
       let mine = value_keeps m whole r x v from_first images h in
-      let theirs = value_keeps n whole s y w from_second images' k in ((λ e. sym mine.means ∙ ap (value_in whole) e ∙ theirs.means), (λ e. one_value whole ranks (renumbered r x) (renumbered s y) w (subst (Denotes whole (renumbered r x)) e mine) theirs))
+      let theirs = value_keeps n whole s y w from_second images' k in ((λ e. sym mine.means ∙ ap (value_in whole) e ∙ theirs.means), (λ e. one_value whole rising (renumbered r x) (renumbered s y) w (subst (Denotes whole (renumbered r x)) e mine) theirs))
 
   pub same_values : (xs ys : NumberedValues) (vs ws : Values) → All (IsMappedUse r) (values_uses xs) → All (IsMappedUse s) (values_uses ys) → Denote m xs vs → Denote n ys ws → (renumbered_values r xs ≡ renumbered_values s ys) ↔ (vs ≡ ws)
   same_values xs ys vs ws images images' h k =
       let mine = values_keep m whole r xs vs from_first images h in
       let theirs = values_keep n whole s ys ws from_second images' k in (
         (λ e. sym mine.mean ∙ ap (values_in whole) e ∙ theirs.mean),
-        (λ e. one_list whole ranks (renumbered_values r xs) (renumbered_values s ys) ws (subst (Denote whole (renumbered_values r xs)) e mine) theirs),
+        (λ e. one_list whole rising (renumbered_values r xs) (renumbered_values s ys) ws (subst (Denote whole (renumbered_values r xs)) e mine) theirs),
       )
 
   pub same_set : (xs ys : NumberedSet) (a b : AnnotationSet) → All (IsMappedUse r) (set_uses xs) → All (IsMappedUse s) (set_uses ys) → DenotesSet m xs a → DenotesSet n ys b → (renumbered_set r xs ≡ renumbered_set s ys) ↔ (a ≡ b)
@@ -111,5 +111,5 @@ module _ (m n whole : Mentions) (r s : Maps) (ranks : RanksAreNumbers whole) (fr
       let mine = set_keeps m whole r xs a from_first images h in
       let theirs = set_keeps n whole s ys b from_second images' k in (
         (λ e. sym mine.means ∙ ap (set_in whole) e ∙ theirs.means),
-        (λ e. one_set whole ranks (renumbered_set r xs) (renumbered_set s ys) b (subst (DenotesSet whole (renumbered_set r xs)) e mine) theirs),
+        (λ e. one_set whole rising (renumbered_set r xs) (renumbered_set s ys) b (subst (DenotesSet whole (renumbered_set r xs)) e mine) theirs),
       )

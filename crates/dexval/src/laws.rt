@@ -15,7 +15,7 @@ ghost use Rattle.dexval.specs.Directories.{set_weight_in};
 ghost use Rattle.dexval.specs.Laws.{RemappedDenote, UsesAreSymbols, RemappedAreSame, UsesHaveMarks, UsesHaveImages, PlacedHaveImages, ImagesArePlaces, HasFewSymbols, KnownHavePlaces, LightAreCounted, AreCountedStatics, LightSetsFit};
 ghost use Rattle.dexval.specs.Writing.{value_weight_in, statics_weight_in, annotation_weight_in};
 
-use dexpool::{number_law, within_law};
+use dexpool::within_law;
 
 /// If each number has an image, a remapped value, list of values or set denotes the same as before.
 pub fn renumber_law()
@@ -93,6 +93,4 @@ pub fn same_law()
     ensures value { RemappedAreSame Denotes renumbered value_uses }
     ensures values { RemappedAreSame Denote renumbered_values values_uses }
     ensures set { RemappedAreSame DenotesSet renumbered_set set_uses }
-{
-    number_law();
-}
+{}

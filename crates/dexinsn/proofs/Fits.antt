@@ -1,55 +1,47 @@
 -- Remapped numbers fit their places.
-use Rattle.dexinsn.proofs.Common.{if◌then◌else◌, ◌≡◌, ℕ, ◌+◌, ◌^◌, ◌<◌, ◌≤◌, max, nat_lt, ◌==◌, Bool, true, false, not, ◌&&◌, ◌||◌, cond, replicate, List, [], ◌∷◌, ◌++◌, length, take, drop, map, get_or, slice_index, Option, Some, None, inl, inr, refl, ap, sym, ◌∙◌, subst, arith, zero-add, All, Contains, flat_map, range_with_len, IsSome, option_and_then, option_map_or, ltb-true, ltb-false, eqb-true, and_parts, take_more, append-nil, get_or-replicate, get_or-map-range_with_len, flat_map-append, All-nil, All-cons, All-head, All-tail, All-push, All-weaker, All-get_or, Contains-append_left, Contains-append_right, Contains-append_cases, Pool, StringPool, TypePool, ProtoPool, FieldPool, MethodPool, TextSymbol, Mentions, Opcode, opcode_of, opcode_runs, Piece, index_pool, is_wide_index, is_payload_ident, low_byte, with_index, Text, SymbolKind, IsAt, Maps, image, image_of, AllMapTo, Use, IsMappedUse, Contains-nil, Contains-cons_cases, Contains-first, Index, is_text, is_short_string, short_number, short_string, short_strings, HasConstString, IsGreatest, short_at, ImagesFit, IsNotTooLarge, MapsShort, NumberedPiece, Instruction, Denote, IsKnownPiece, piece_in, kind_in, kind_of_pool, uses_of, index_room, FitsPlace, FitPlaces, HasImage, parts_in, piece_with, left_by, pieces_with, AreStored, FitsAt, Payload}
+use Rattle.dexinsn.proofs.Common.{if◌then◌else◌, ◌≡◌, ℕ, ◌+◌, ◌^◌, ◌<◌, ◌≤◌, max, nat_lt, ◌==◌, Bool, true, false, not, ◌&&◌, ◌||◌, cond, replicate, List, [], ◌∷◌, ◌++◌, length, take, drop, map, get_or, slice_index, Option, Some, None, inl, inr, refl, ap, sym, ◌∙◌, subst, arith, zero-add, All, Contains, flat_map, range_with_len, IsSome, option_and_then, option_map_or, ltb-true, ltb-false, eqb-true, and_parts, take_more, append-nil, get_or-replicate, get_or-map-range_with_len, flat_map-append, All-nil, All-cons, All-head, All-tail, All-push, All-weaker, All-get_or, Contains-append_left, Contains-append_right, Pool, StringPool, TypePool, ProtoPool, FieldPool, MethodPool, TextSymbol, Mentions, Opcode, opcode_of, opcode_runs, Piece, index_pool, is_wide_index, is_payload_ident, low_byte, with_index, Text, SymbolKind, IsAt, Maps, image, image_of, AllMapTo, IsMappedUse, Contains-nil, Contains-cons_cases, Contains-first, Index, is_text, is_short_string, short_number, short_string, short_strings, HasConstString, IsGreatest, short_at, ImagesFit, IsNotTooLarge, MapsShort, NumberedPiece, Instruction, Denote, IsKnownPiece, piece_in, kind_in, kind_of_pool, piece_uses, uses_of, FitsPlace, FitPlaces, HasImage, parts_in, piece_with, left_by, pieces_with, AreStored, FitsAt, Payload}
 use Rattle.dexspec.specs.Pieces as symbolic
 use Rattle.dexspec.specs.Mentions.{piece_symbols}
 use Rattle.dexpool.specs.declared.symbols.SymbolKind.TheVariants as kinds
-use Rattle.std.proofs.lemmas.List.Elements.{All-contains}
+use Rattle.std.proofs.lemmas.List.Elements.{All-append, All-contains, Contains-get_or}
 use Rattle.dexspec.proofs.lists.Mapped.{Contains-map_source}
 use Rattle.dexspec.proofs.lists.Members.{Contains-flat_map, Contains-flat_map_source}
 use Rattle.dexspec.proofs.merge.Depths.{Contains-map}
 use Rattle.dexpool.specs.NumberedSymbols.{text_at, symbol_at}
 use Rattle.dexpool.specs.Orderly.{KeepOrder, MapsDown}
 use Rattle.dexpool.specs.Pools.{count_of}
-use Rattle.dexpool.proofs.Numbers.{member_at}
+use Rattle.dexpool.proofs.Parts.{all_parts}
+use Rattle.dexpool.proofs.Numbers.{member_at, some_of}
 use Rattle.dexinsn.specs.{HasPlace}
 use Rattle.dexinsn.proofs.Lined.{Heads, Lined, LinedBy, stored_lined, head_kind, head_room, head_wide}
 
 -- ---- images, piece by piece and use by use
 
+image_of_use : (r : Maps) (p : NumberedPiece) → All (IsMappedUse r) (piece_uses p) → HasImage r p
+image_of_use r (Instruction us (Some n)) h = All-head (IsMappedUse r) (record { kind = kind_in us; number = n }) [] h
+image_of_use r _ h = tt
+
+use_of_image : (r : Maps) (p : NumberedPiece) → HasImage r p → All (IsMappedUse r) (piece_uses p)
+use_of_image r (Instruction us (Some n)) h = All-cons (IsMappedUse r) (record { kind = kind_in us; number = n }) [] h (All-nil (IsMappedUse r))
+use_of_image r _ h = All-nil (IsMappedUse r)
+
 pub images_of_uses : (r : Maps) (ps : List NumberedPiece) → All (IsMappedUse r) (uses_of ps) → All (HasImage r) ps
-images_of_uses r [] h = All-nil (HasImage r)
-images_of_uses r (Instruction us None ∷ ps) h = All-cons (HasImage r) (Instruction us None) ps tt (images_of_uses r ps h)
-images_of_uses r (Instruction us (Some n) ∷ ps) h =
-    let u : Use = record { kind = kind_in us; number = n } in
-    All-cons (HasImage r) (Instruction us (Some n)) ps (All-head (IsMappedUse r) u (uses_of ps) h) (images_of_uses r ps (All-tail (IsMappedUse r) u (uses_of ps) h))
-images_of_uses r (Payload us ∷ ps) h = All-cons (HasImage r) (Payload us) ps tt (images_of_uses r ps h)
+images_of_uses r ps h = All-weaker (λ p. All (IsMappedUse r) (piece_uses p)) (HasImage r) (image_of_use r) ps (all_parts (IsMappedUse r) piece_uses ps h)
 
 pub uses_of_images : (r : Maps) (ps : List NumberedPiece) → All (HasImage r) ps → All (IsMappedUse r) (uses_of ps)
 uses_of_images r [] h = All-nil (IsMappedUse r)
-uses_of_images r (Instruction us None ∷ ps) h = uses_of_images r ps (All-tail (HasImage r) (Instruction us None) ps h)
-uses_of_images r (Instruction us (Some n) ∷ ps) h =
-    let u : Use = record { kind = kind_in us; number = n } in
-    All-cons (IsMappedUse r) u (uses_of ps) (All-head (HasImage r) (Instruction us (Some n)) ps h) (uses_of_images r ps (All-tail (HasImage r) (Instruction us (Some n)) ps h))
-uses_of_images r (Payload us ∷ ps) h = uses_of_images r ps (All-tail (HasImage r) (Payload us) ps h)
-
--- a number that has an image below the room has a place
-place_by : (r : Maps) (us : List ℕ) (n : ℕ) (o : Option ℕ) → image_of r (kind_in us) n ≡ o → IsSome o → ((j : ℕ) → o ≡ Some j → j < index_room us) → HasPlace r (Instruction us (Some n))
-place_by r us n None e some fits = absurd cc
-place_by r us n (Some j) e some fits = (j, e, fits j refl)
+uses_of_images r (p ∷ ps) h = All-append (IsMappedUse r) (piece_uses p) (uses_of ps) (use_of_image r p (All-head (HasImage r) p ps h)) (uses_of_images r ps (All-tail (HasImage r) p ps h))
 
 -- ---- after a cut
 
 cut_place : (r : Maps) (p : NumberedPiece) → MapsDown r → FitsPlace p → HasImage r p → HasPlace r p
-cut_place r (Instruction us (Some n)) down fits image = place_by r us n (image_of r (kind_in us) n) refl image (λ j e. let le : j ≤ n = down (kind_in us) n j e in omega (arith, le, fits))
+cut_place r (Instruction us (Some n)) down fits image =
+    let at = some_of (image_of r (kind_in us) n) image in
+    let le : at.0 ≤ n = down (kind_in us) n at.0 at.1 in (at.0, at.1, omega (arith, le, fits))
 cut_place r _ down fits image = tt
 
-cut_places : (r : Maps) (ps : List NumberedPiece) → MapsDown r → FitPlaces ps → All (HasImage r) ps → All (HasPlace r) ps
-cut_places r [] down fit images = All-nil (HasPlace r)
-cut_places r (p ∷ ps) down fit images =
-    All-cons (HasPlace r) p ps (cut_place r p down (All-head FitsPlace p ps fit) (All-head (HasImage r) p ps images)) (cut_places r ps down (All-tail FitsPlace p ps fit) (All-tail (HasImage r) p ps images))
-
 pub places_after_cut : (r : Maps) (ps : List NumberedPiece) → MapsDown r → FitPlaces ps → All (IsMappedUse r) (uses_of ps) → All (HasPlace r) ps
-places_after_cut r ps down fit uses = cut_places r ps down fit (images_of_uses r ps uses)
+places_after_cut r ps down fit uses k d lt = cut_place r (get_or ps k d) down (fit k d lt) (images_of_uses r ps uses k d lt)
 
 -- ---- after a join
 
@@ -86,22 +78,15 @@ text_image : (r : Maps) (k : SymbolKind) (w : Bool) (i j : ℕ) → (is_text k &
 text_image r kinds.Text w i j is e = e
 text_image r _ w i j is e = absurd cc
 
-first_short : (b : Bool) (n : ℕ) (ns : List ℕ) → b ≡ true → Contains ((if b then n ∷ [] else []) ++ ns) n
-first_short true n ns is = Contains-first n ns
-first_short false n ns is = absurd cc
+short_here : (b : Bool) (n : ℕ) → b ≡ true → Contains (if b then n ∷ [] else []) n
+short_here true n is = Contains-first n []
+short_here false n is = absurd cc
 
-joined_place : (r : Maps) (p : NumberedPiece) (ns : List ℕ) → ImagesFit r → ShortMapped r (short_string p ++ ns) → HasImage r p → HasPlace r p
-joined_place r (Instruction us None) ns fit short has = tt
-joined_place r (Instruction us (Some n)) ns fit short has =
-    place_by r us n (image_of r (kind_in us) n) refl has
-    (λ j e. image_by r (is_wide_index us) (kind_in us) n j fit (λ is f. short n j (first_short (is_short_string us) n ns is) (text_image r (kind_in us) (is_wide_index us) n j is f)) e)
-joined_place r (Payload us) ns fit short has = tt
-
-joined_places : (r : Maps) (ps : List NumberedPiece) → ImagesFit r → ShortMapped r (short_strings ps) → All (HasImage r) ps → All (HasPlace r) ps
-joined_places r [] fit short images = All-nil (HasPlace r)
-joined_places r (p ∷ ps) fit short images =
-    All-cons (HasPlace r) p ps (joined_place r p (short_strings ps) fit short (All-head (HasImage r) p ps images))
-    (joined_places r ps fit (λ i j c e. short i j (Contains-append_right (short_string p) (short_strings ps) i c) e) (All-tail (HasImage r) p ps images))
+joined_place : (r : Maps) (p : NumberedPiece) → ImagesFit r → ShortMapped r (short_string p) → HasImage r p → HasPlace r p
+joined_place r (Instruction us (Some n)) fit short has =
+    let at = some_of (image_of r (kind_in us) n) has in
+    (at.0, at.1, image_by r (is_wide_index us) (kind_in us) n at.0 fit (λ is f. short n at.0 (short_here (is_short_string us) n is) (text_image r (kind_in us) (is_wide_index us) n at.0 is f)) at.1)
+joined_place r _ fit short has = tt
 
 -- the number of a short string has an image if each symbol has one
 text_remapped : (r : Maps) (k : SymbolKind) (w : Bool) (i : ℕ) → (is_text k && not w) ≡ true → IsSome (image_of r k i) → IsSome (image r.texts i)
@@ -120,11 +105,7 @@ short_remapped r (Instruction us (Some n)) i has c = let s = short_is (is_short_
 short_remapped r _ i has c = absurd (Contains-nil i c)
 
 pub shorts_remapped : (r : Maps) (ps : List NumberedPiece) (i : ℕ) → All (HasImage r) ps → Contains (short_strings ps) i → IsSome (image r.texts i)
-shorts_remapped r [] i all c = absurd (Contains-nil i c)
-shorts_remapped r (p ∷ ps) i all c = elim (Contains-append_cases (short_string p) (short_strings ps) i c) [
-  | inl l ↦ short_remapped r p i (All-head (HasImage r) p ps all) l
-  | inr l ↦ shorts_remapped r ps i (All-tail (HasImage r) p ps all) l
-]
+shorts_remapped r ps i all c = let at = Contains-flat_map_source short_string ps i c in short_remapped r at.0 i (All-contains (HasImage r) ps at.0 all at.1) at.2
 
 -- of two numbers of texts the lesser has the lesser image
 lesser_by : (r : Maps) (i g j k : ℕ) (b : Bool) → nat_lt i g ≡ b → KeepOrder r → image r.texts g ≡ Some k → k < 2 ^ 16 → i ≤ g → image r.texts i ≡ Some j → j < 2 ^ 16
@@ -140,8 +121,10 @@ short_mapped r ns None order is short remapped i j c e = absurd (Contains-nil i 
 short_mapped r ns (Some g) order is short remapped i j c e = lesser_image r i g j (image r.texts g) order refl (remapped g is.0) short (subst (λ k. k ≤ g) c.2 (All-get_or (λ k. k ≤ g) ns c.0 i c.1 is.1)) e
 
 pub places_after_join : (r : Maps) (ps : List NumberedPiece) (greatest : Option ℕ) → KeepOrder r → ImagesFit r → IsGreatest (short_strings ps) greatest → MapsShort r greatest → All (IsMappedUse r) (uses_of ps) → All (HasPlace r) ps
-places_after_join r ps greatest order fit is short uses =
-    let images : All (HasImage r) ps = images_of_uses r ps uses in joined_places r ps fit (short_mapped r (short_strings ps) greatest order is short (λ i c. shorts_remapped r ps i images c)) images
+places_after_join r ps greatest order fit is short uses k d lt =
+    let images : All (HasImage r) ps = images_of_uses r ps uses in
+    let mapped : ShortMapped r (short_strings ps) = short_mapped r (short_strings ps) greatest order is short (λ i c. shorts_remapped r ps i images c) in
+    joined_place r (get_or ps k d) fit (λ i j c e. mapped i j (Contains-flat_map short_string ps (get_or ps k d) i (Contains-get_or ps k d lt) c) e) (images k d lt)
 
 -- ---- numbers as they are stored
 

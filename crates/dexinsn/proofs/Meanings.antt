@@ -1,5 +1,6 @@
 -- What numbers denote: ranks, and the same symbols under other numbers.
-use Rattle.dexinsn.proofs.Common.{◌≡◌, ℕ, List, [], ◌∷◌, map, Some, refl, ap, sym, ◌∙◌, subst, ushort, All, AllZip, flat_map, All-nil, All-cons, All-head, All-tail, Mentions, piece_symbols, with_index, AreRising, AreMarksOf, Maps, image_of, AllMapTo, HasMark, IsUseOf, NumberedPiece, Instruction, Denote, IsKnownPiece, piece_in, kind_in, piece_uses, uses_of, numbered_units, numbered_bytes, HasImage, renumbered_piece}
+use Rattle.dexinsn.proofs.Common.{◌≡◌, ℕ, List, map, Some, refl, ap, sym, ◌∙◌, subst, ushort, All, AllZip, flat_map, Mentions, piece_symbols, with_index, AreRising, AreMarksOf, Maps, image_of, AllMapTo, HasMark, IsUseOf, NumberedPiece, Instruction, Denote, IsKnownPiece, piece_in, kind_in, piece_uses, uses_of, numbered_units, numbered_bytes, HasImage, renumbered_piece}
+use Rattle.std.proofs.lemmas.List.Elements.{All-weaker}
 use Rattle.std.specs.Prelude.{Result}
 use Rattle.std.specs.Global.{Vec}
 use Rattle.dexspec.specs.internal.Writing.{Puts}
@@ -43,8 +44,7 @@ image_of_place r _ h = tt
 
 -- numbers that have places have images
 pub images_of_places : (r : Maps) (ps : List NumberedPiece) → All (HasPlace r) ps → All (HasImage r) ps
-images_of_places r [] h = All-nil (HasImage r)
-images_of_places r (p ∷ ps) h = All-cons (HasImage r) p ps (image_of_place r p (All-head (HasPlace r) p ps h)) (images_of_places r ps (All-tail (HasPlace r) p ps h))
+images_of_places r ps h = All-weaker (HasPlace r) (HasImage r) (image_of_place r) ps h
 
 -- ---- the symbols that occur
 

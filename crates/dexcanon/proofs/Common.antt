@@ -7,9 +7,9 @@ pub use Rattle.std.specs.List.{Contains, concat, flat_map}
 pub use Rattle.std.specs.Prelude.{All, IfSome, is_err, option_to_list, unwrap_or, vec_capacity, vec_len, ◌%◌, ◌/◌, ◌↔◌}
 pub use Rattle.dexclass.specs.Numbered.{NumberedClass, definition_of, text_at, type_at}
 pub use Rattle.dexclass.specs.Uses.{IsKnownClass}
-pub use Rattle.dexhead.proofs.Encoded.{Completes, completes_all, completes_more, completes_none}
+pub use Rattle.dexio.proofs.Encoded.{Completes, completes_all, completes_more, completes_none}
 pub use Rattle.dexhead.specs.Laid.{StatesLayout, after_header, map_list}
-pub use Rattle.dexhead.specs.Pushing.{HasRoomFor, Pushes}
+pub use Rattle.dexio.specs.Pushing.{HasRoomFor, Pushes}
 pub use Rattle.dexhead.specs.Sums.{with_sums_set}
 pub use Rattle.dexhead.specs.Written.{StatesTables}
 unfoldable pub use Rattle.dexhead.specs.Written.{field_bytes, head_bytes}

@@ -1,7 +1,7 @@
 //! Devices in memory.
 
 ghost use Rattle.std.specs.Prelude.{IfOk};
-ghost use Rattle.dexhead.specs.Device.{is_broken};
+ghost use Rattle.dexio.specs.Device.{is_broken};
 ghost use Rattle.dexruns.specs.Runs.{AllWork};
 
 use dexhead::Device;

@@ -1,7 +1,7 @@
 //! What the program prints on standard error.
 
 ghost use Rattle.std.specs.Prelude.{◌≡◌, ◌++◌, true, false, map, IfOk, OnOk, OnErr, string_bytes, codes};
-ghost use Rattle.dexhead.specs.Prefixes.{TakesPrefix};
+ghost use Rattle.dexio.specs.Prefixes.{TakesPrefix};
 ghost use Rattle.dexcmd.specs.Printing.{line_text, lines_text, printed_lines, printed_status};
 
 use crate::outcome_report::Report;

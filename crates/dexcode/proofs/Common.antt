@@ -17,7 +17,7 @@ pub use Rattle.dexdebug.proofs.DebugSame.{same_at}
 pub use Rattle.dexdebug.specs.Debug.{FitsIndex, HasPlace, IsFormedDebug, IsFormedOperation, NumberedDebug, debug_uses, name_of, number_uses, operation_uses, renumbered_debug, signature_of, type_of}
 pub use Rattle.dexdebug.specs.DebugReading.{IsDebugAt, IsDebugFault}
 pub use Rattle.dexdebug.specs.Meaning.{IsKnownDebug, debug_in}
-pub use Rattle.dexhead.proofs.Encoded.{given_all, given_more}
+pub use Rattle.dexio.proofs.Encoded.{given_all, given_more}
 pub use Rattle.dexinsn.specs.Numbered.{Denote, Instruction, IsKnownPiece, NumberedCode, NumberedPiece, Payload, kind_in, numbered_units, piece_in, uses_of}
 unfoldable pub use Rattle.dexinsn.specs.Numbered.{numbered_bytes}
 pub use Rattle.dexinsn.specs.Reading.{ArePiecesAt, AreStartsAt}

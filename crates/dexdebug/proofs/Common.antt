@@ -10,7 +10,7 @@ pub use Rattle.std.specs.Cmp.Lexicographic.{pointwise, pointwise_decides}
 pub use Rattle.std.specs.List.{All, AllZip, FoldsTo, flat_map, fold}
 pub use Rattle.std.specs.Option.{IsSome, option_eq, option_map}
 pub use Rattle.std.specs.Prelude.{Err, IfOk, IfSome, MatchOption, Ok, Result, if◌then◌else◌, pos, ℤ, ◌+ℤ◌, ◌≤ℤ◌}
-pub use Rattle.dexhead.proofs.Encoded.{Completes, completes_all, completes_more}
+pub use Rattle.dexio.proofs.Encoded.{Completes, completes_all, completes_more}
 pub use Rattle.dexpool.proofs.Parts.{all_back, all_map, all_parts, all_prefix}
 pub use Rattle.dexpool.specs.Numberings.{AllMapTo, AreMarksOf, AreRising, IsAt, Maps, MapsTo, image_of}
 pub use Rattle.dexpool.specs.NumberedSymbols.{name_at, symbol_of, text_at, type_at}

@@ -6,7 +6,7 @@ ghost use Rattle.dexflags.specs.Flags.{has_bit};
 ghost use Rattle.dexflags.specs.internal.FlagNames.{listed, shown_byte, set_names, table_text, IsSingleBit, HasSingleBits};
 
 use bitflags::{Flag, Flags};
-use dexhead::Output;
+use dexio::Output;
 use dexout::encode_hexadecimal;
 
 // A byte of a constant's name as the text shows it.

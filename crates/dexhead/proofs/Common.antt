@@ -19,5 +19,5 @@ pub use Rattle.dexspec.specs.Conditions.{Condition}
 pub use Rattle.dexspec.specs.Header.{ClassDefs, FieldIds, HasChecksum, HasEndian, HasLengths, HasMagic, HasNoLink, HasSignature, HasSize, HasVersion, MayHave, MethodIds, ProtoIds, StringIds, Table, TypeIds, adler_32, adler_sums, data_off, data_size, file_size, header_length, row_size, table_off, table_size, tables, version}
 pub use Rattle.dexspec.specs.Sections.{AnnotationItems, AnnotationSetRefLists, AnnotationSets, AnnotationsDirectories, AreLaidOut, ClassDataItems, CodeItems, DebugInfoItems, EncodedArrayItems, HasLayout, HasMap, HasTable, HeaderItem, IsKnown, IsPlaced, MapEntry, MapList, Section, StringDataItems, TableOf, TypeLists, entries_at, map_entries, type_code}
 pub use Rattle.sha1.specs.Sha1.{sha1}
-pub use Rattle.dexhead.specs.{AreFew, AreInOrder, AreRight, BeginsWithHeader, HasRoomFor, HaveTables, IsCode, IsEarly, IsInPlace, IsLaidOut, IsNext, IsThere, Pushes, StatesLayout, StatesTables, after_header, entry_meant, entry_of, map_start, meant, one_byte, read, rows_bytes, rows_meant}
+pub use Rattle.dexhead.specs.{AreFew, AreInOrder, AreRight, BeginsWithHeader, HaveTables, IsCode, IsEarly, IsInPlace, IsLaidOut, IsNext, IsThere, StatesLayout, StatesTables, after_header, entry_meant, entry_of, map_start, meant, read, rows_bytes, rows_meant}
 unfoldable pub use Rattle.dexhead.specs.{entries, field_bytes, has_signature, head_bytes, signed, with_sums_set}

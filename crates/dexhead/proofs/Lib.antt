@@ -1,10 +1,7 @@
 pub mod Common
-pub mod Encoded
 pub mod Entries
 pub mod Frames
 pub mod HeaderChecks
 pub mod LaidOut
 pub mod Lengths
 pub mod Overwritten
-pub mod Spelled
-pub mod WrittenPieces

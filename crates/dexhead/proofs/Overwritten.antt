@@ -1,7 +1,7 @@
 -- A file whose sums are set.
 use Rattle.dexhead.proofs.Common.{◌≡◌, ℕ, ◌+◌, ◌-◌, ◌≤◌, List, ◌++◌, length, take, drop, refl, sym, ap, ◌∙◌, arith, drop_at, drop-drop, length-take-le, take_at, take-append-le, take-take, take_rest, drop-append-add, sha1, little_bytes, uint, adler_32, HasChecksum, HasSignature, length-uint, uint_at-encodes, is_at_first, is_at_later, is_at, signed, with_sums_set}
 use Rattle.dexspec.proofs.layout.Sums.{length-sha1, adler_32_small}
-use Rattle.dexhead.proofs.Spelled.{four_bytes}
+use Rattle.dexio.proofs.Spelled.{four_bytes}
 use borrow.Rule.Slice.PartMut.{put_mid}
 
 overwritten : (a k n : ℕ) (xs ys : List ℕ) → a + k ≡ n → put_mid a k xs ys ≡ take a xs ++ (ys ++ drop n xs)

@@ -4,7 +4,7 @@ ghost use Rattle.std.specs.Prelude.{◌≡◌, ⊤, length};
 ghost use Rattle.dexspec.specs.internal.Writing.{Puts};
 
 use crate::header::{ENDIAN_CONSTANT, HEADER_SIZE};
-use crate::output::{Encode, Output, encode_all, put_with_len};
+use dexio::{Encode, Output, encode_all, put_with_len};
 use std::alloc::AllocError;
 
 const MAGIC: [u8; 8] = [0x64, 0x65, 0x78, 0x0a, 0x30, 0x33, 0x35, 0x00];

@@ -6,9 +6,9 @@ ghost use Rattle.dexspec.specs.Sections.{HasLayout};
 ghost use Rattle.dexhead.specs.internal.HeaderChecks.{AreFew, EndsTable, IsLaidOut, has_signature};
 ghost use Rattle.dexhead.specs.Tables.{meant};
 
-use crate::little_endian::u32_at;
 use crate::tables::Table;
 use crate::whole::adler;
+use dexio::u32_at;
 use sha1::Sha1;
 
 /// The bytes of a header.

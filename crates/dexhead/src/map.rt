@@ -7,8 +7,8 @@ ghost use Rattle.dexhead.specs.Tables.{meant};
 ghost use Rattle.dexhead.specs.internal.Map.{read, entry_of, IsCode, IsInPlace, IsNext, AreInOrder, BeginsWithHeader, IsThere, HaveTables, HaveMap, AreRight};
 
 use crate::header;
-use crate::little_endian::{u16_at, u32_at};
 use crate::tables::Table;
+use dexio::{u16_at, u32_at};
 
 /// The bytes of an entry.
 const ENTRY_SIZE: usize = 12;

@@ -4,8 +4,8 @@ ghost use Rattle.std.specs.Prelude.{◌≡◌, ◌+◌, ◌*◌, ◌^◌, ◌<�
 ghost use Rattle.dexspec.specs.Canonical.{map_entry_bytes};
 ghost use Rattle.dexspec.specs.internal.Writing.{Puts};
 
-use crate::output::{Encode, Output, encode_all, put_with_len};
 use crate::sections::Section;
+use dexio::{Encode, Output, encode_all, put_with_len};
 use std::alloc::AllocError;
 
 /// An entry of a map: a kind of section, the number of its items, and the offset of the first.

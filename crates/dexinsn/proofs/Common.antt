@@ -20,7 +20,7 @@ pub use Rattle.std.specs.Ordering.{int_cmp, int_eq, is_lt}
 pub use Rattle.std.specs.Prelude.{IfOk, bit_and, bit_or, vec_capacity, ◌↔◌, ◌⊎◌, IfErr}
 pub use lib.IntN.{nat_abs, negsuc}
 pub use mir.Val.{SFits}
-pub use Rattle.dexhead.proofs.Encoded.{Completes, completes_more, completes_none}
+pub use Rattle.dexio.proofs.Encoded.{Completes, completes_more, completes_none}
 pub use Rattle.dexpool.proofs.Visits.{one_each, visited_all, visited_more}
 pub use Rattle.dexpool.specs.Numberings.{AllMapTo, AreMarksOf, AreRising, IsAt, IsNumbered, IsOfKind, Maps, MapsTo, image, image_of}
 pub use Rattle.dexpool.specs.Pools.{ArePools, count_of}

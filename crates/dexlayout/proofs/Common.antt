@@ -14,7 +14,7 @@ pub use Rattle.dexclass.specs.Uses.{IsKnownClass}
 pub use Rattle.dexcode.specs.CodePut.{HasShortTypes, numbered_code_bytes}
 pub use Rattle.dexcode.specs.Meaning.{IsKnownCode, code_in}
 pub use Rattle.dexcode.specs.Numbered.{NumberedItem, handlers_of}
-pub use Rattle.dexhead.proofs.Encoded.{given_all, given_more}
+pub use Rattle.dexio.proofs.Encoded.{given_all, given_more}
 pub use Rattle.dexhead.specs.Laid.{StatesLayout, map_list, map_start}
 pub use Rattle.dexhead.specs.Written.{entry_meant}
 pub use Rattle.dexmembers.specs.DirectoryPut.{count_placed, numbered_directory_bytes}

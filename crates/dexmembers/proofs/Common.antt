@@ -21,7 +21,7 @@ pub use Rattle.dexcode.specs.Reading.{IsCodeAt, IsCodeFault}
 pub use Rattle.dexcode.specs.Renumbering.{HasImages, HasPlaces, item_uses, renumbered_item}
 pub use Rattle.dexdebug.proofs.Compared.{decides_by_eq}
 pub use Rattle.dexdebug.specs.Meaning.{IsKnownDebug, debug_in}
-pub use Rattle.dexhead.proofs.Encoded.{encoded_put}
+pub use Rattle.dexio.proofs.Encoded.{encoded_put}
 pub use Rattle.dexinsn.specs.Fitting.{ImagesFit, IsGreatest, MapsShort, short_strings}
 pub use Rattle.dexpool.proofs.Changed.{AreChanged, changed_more}
 pub use Rattle.dexpool.proofs.NumberOrder.{places_agree, rises-map}

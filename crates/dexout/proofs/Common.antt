@@ -3,8 +3,8 @@ pub use Rattle.std.proofs.Common.{Bool, Err, IfErr, IfOk, List, None, Ok, OnErr,
 pub use Rattle.std.proofs.lemmas.Grind.{common_steps}
 pub use Rattle.std.proofs.lemmas.List.{nil_from_length, take-append-drop}
 pub use Rattle.std.specs.Prelude.{is_err, vec_capacity, vec_len, ◌↔◌}
-pub use Rattle.dexhead.proofs.Encoded.{Completes, completes_all, completes_more, completes_none}
-pub use Rattle.dexhead.specs.Pushing.{HasRoomFor, Pushes}
+pub use Rattle.dexio.proofs.Encoded.{Completes, completes_all, completes_more, completes_none}
+pub use Rattle.dexio.specs.Pushing.{HasRoomFor, Pushes}
 pub use Rattle.dexspec.proofs.numbers.ByteNumbers.{length-uint, length-ushort}
 pub use Rattle.dexspec.proofs.size.SizeItems.{sleb128-size, uleb128-size}
 pub use Rattle.dexspec.specs.Bytes.{uint, ushort}

@@ -3,7 +3,7 @@
 ghost use Rattle.std.specs.Prelude.{◌≡◌};
 ghost use Rattle.dexout.specs.declared.faults.StoreFault.TheVariants.{Memory, Io};
 
-use dexhead::DeviceFault;
+use dexio::DeviceFault;
 use std::alloc::{AllocError, AllocFailed};
 
 /// Why a file or a listing was not written.

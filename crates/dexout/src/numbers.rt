@@ -4,7 +4,7 @@ ghost use Rattle.std.specs.Prelude.{◌≡◌, ◌<◌, false};
 ghost use Rattle.std.specs.Fmt.{digits, digit_glyph};
 ghost use Rattle.dexout.specs.Printed.{count_text, place_text};
 
-use dexhead::Output;
+use dexio::Output;
 use dexstr::{escaped, hexadecimal_digit};
 use itoa::Buffer;
 

@@ -4,7 +4,7 @@ ghost use Rattle.std.specs.Prelude.{◌≡◌, ◌+◌, ◌≤◌, ◌++◌, Lis
 ghost use Rattle.dexout.specs.Output.{Adds, HasRoom, result_of};
 
 use crate::faults::StoreFault;
-use dexhead::{DeviceFault, Output};
+use dexio::{DeviceFault, Output};
 
 // No number is longer.
 const MOST_BYTES: usize = 5;

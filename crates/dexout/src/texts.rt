@@ -3,7 +3,7 @@
 ghost use Rattle.std.specs.Prelude.{◌≡◌, ◌<◌, All};
 ghost use Rattle.dexout.specs.Printed.{signs_of, unit_text, shown, quoted};
 
-use dexhead::Output;
+use dexio::Output;
 use dexstr::{Text, escaped};
 
 /// The signs of ASCII that a unit is printed as.

@@ -1,7 +1,7 @@
 //! A writer as the target of an output.
 
 use crate::output::Target;
-use dexhead::{DeviceFault, Sink, write_whole};
+use dexio::{DeviceFault, Sink, write_whole};
 
 /// A writer. Once it has failed it is left alone.
 #[derive(Drop)]

@@ -4,7 +4,7 @@ ghost use Rattle.std.specs.Prelude.{◌≡◌, ◌<◌, ◌*◌, ◌/◌, length
 ghost use Rattle.dexspec.specs.Bytes.{ushort_at, ushorts_at};
 ghost use Rattle.dexspec.specs.Rows.{key_cmp};
 
-use dexhead::u16_at;
+use dexio::u16_at;
 use std::cmp::Ordering;
 use std::marker::Model;
 

@@ -7,7 +7,7 @@ use Rattle.dexspec.specs.Classes.{Definition}
 use Rattle.dexspec.specs.Files.{Collection, definitions, Denotes}
 use Rattle.dexspec.specs.Depth.{in_class_order}
 use Rattle.dexclass.specs.Programs.{IsReadAs}
-use Rattle.dexhead.specs.Prefixes.{TakesPrefix}
+use Rattle.dexio.specs.Prefixes.{TakesPrefix}
 use Rattle.dexout.specs.declared.faults.StoreFault.{StoreFault}
 use Rattle.dexout.specs.declared.faults.StoreFault.TheVariants.{Memory, Io}
 use Rattle.dexout.specs.Printed.{shown}

@@ -3,7 +3,7 @@ ghost use Rattle.dexspec.specs.Texts.{IsStringData, string_data};
 ghost use Rattle.dexspec.specs.internal.Writing.{Puts};
 
 use crate::texts::Text;
-use dexhead::{Encode, Output, put_with_len};
+use dexio::{Encode, Output, put_with_len};
 use dexleb::len_u;
 use std::alloc::AllocError;
 

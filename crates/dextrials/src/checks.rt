@@ -2,7 +2,7 @@
 
 ghost use Rattle.std.specs.Prelude.{◌≡◌, false, IfOk};
 ghost use Rattle.dexruns.specs.Runs.{AllWork};
-ghost use Rattle.dexhead.specs.Device.{is_broken};
+ghost use Rattle.dexio.specs.Device.{is_broken};
 
 use crate::causes::{is_reported, is_same};
 use crate::drawing::{Drawn, Known};

@@ -1,7 +1,7 @@
 //! The calls.
 
 ghost use Rattle.dexruns.specs.Runs.{AllWork};
-ghost use Rattle.dexhead.specs.Device.{is_broken};
+ghost use Rattle.dexio.specs.Device.{is_broken};
 
 use crate::checks::devices;
 use crate::memory::trial::{Compare, Trial};

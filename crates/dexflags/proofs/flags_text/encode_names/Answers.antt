@@ -1,7 +1,7 @@
 use Rattle.std.proofs.Common.{rules, sym, ap, subst, ◌∙◌, ◌+◌, drop, false}
 use Rattle.std.specs.List.{join_with_byte}
 use Rattle.bitflags.specs.Sets.{Row}
-use Rattle.dexhead.proofs.Encoded.{Completes, completes_more, completes_all}
+use Rattle.dexio.proofs.Encoded.{Completes, completes_more, completes_all}
 use Rattle.dexflags.specs.internal.FlagNames.{set_names, listed, shown_name}
 use Rattle.dexflags.proofs.Composed.{all_rows, row_at, get_row, rest_text, left_skipped, left_taken, left_none}
 use Rattle.dexflags.proofs.flags_text.encode_names.Goals.{then-has_flag, else-has_flag}

@@ -1,6 +1,6 @@
 use Rattle.std.proofs.Common.{◌≡◌, ap, w64, to_z, of_z, rules}
 use Rattle.std.specs.Prelude.{codes}
-use Rattle.dexhead.proofs.Encoded.{then_given}
+use Rattle.dexio.proofs.Encoded.{then_given}
 use Rattle.dexout.proofs.Given.{next_part, last_part}
 use Rattle.dexlisting.specs.FullListing.{signed_text}
 use Rattle.dexlisting.proofs.debug.encode_operation.Goals as goal

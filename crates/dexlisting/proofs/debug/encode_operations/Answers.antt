@@ -2,7 +2,7 @@ use Rattle.std.proofs.Common.{◌≡◌, ◌+◌, ◌∷◌, [], length, map, ap
 use Rattle.std.specs.Prelude.{All}
 use Rattle.std.proofs.lemmas.Int.{ints, to_z-of_z}
 use Rattle.std.proofs.lemmas.List.Elements.{All-head, All-tail}
-use Rattle.dexhead.proofs.Encoded.{completes_more}
+use Rattle.dexio.proofs.Encoded.{completes_more}
 use Rattle.dexdebug.specs.Meaning.{operation_in, IsKnownOperation}
 use Rattle.dexlisting.specs.FullListing.{operation_line, operation_lines}
 use Rattle.dexlisting.proofs.DebugLines.{operation_next}

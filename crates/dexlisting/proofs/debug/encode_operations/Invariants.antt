@@ -1,6 +1,6 @@
 use Rattle.std.proofs.Common.{◌≡◌, ◌+◌, ◌*◌, ◌^◌, ◌≤◌, length, map, pos, ◌+ℤ◌, ◌≤ℤ◌}
 use Rattle.std.specs.Prelude.{All}
-use Rattle.dexhead.proofs.Encoded.{Completes}
+use Rattle.dexio.proofs.Encoded.{Completes}
 use Rattle.dexdebug.specs.Meaning.{operation_in, IsKnownOperation}
 use Rattle.dexlisting.specs.FullListing.{operation_lines}
 use Rattle.dexlisting.proofs.debug.encode_operations.Given as goal

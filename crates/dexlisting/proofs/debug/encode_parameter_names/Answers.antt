@@ -3,7 +3,7 @@ use Rattle.std.specs.Prelude.{All}
 use Rattle.std.specs.List.{flat_map}
 use Rattle.std.specs.Option.{option_map}
 use Rattle.std.proofs.lemmas.List.Elements.{All-tail}
-use Rattle.dexhead.proofs.Encoded.{then_given, completes_more}
+use Rattle.dexio.proofs.Encoded.{then_given, completes_more}
 use Rattle.dexdebug.specs.Meaning.{IsKnownText}
 use Rattle.dexpool.specs.NumberedSymbols.{text_at}
 use Rattle.dexlisting.specs.FullListing.{parameter_name_line}

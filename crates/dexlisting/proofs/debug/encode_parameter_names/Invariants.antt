@@ -2,7 +2,7 @@ use Rattle.std.proofs.Common.{map}
 use Rattle.std.specs.Prelude.{All}
 use Rattle.std.specs.List.{flat_map}
 use Rattle.std.specs.Option.{option_map}
-use Rattle.dexhead.proofs.Encoded.{Completes}
+use Rattle.dexio.proofs.Encoded.{Completes}
 use Rattle.dexdebug.specs.Meaning.{IsKnownText}
 use Rattle.dexpool.specs.NumberedSymbols.{text_at}
 use Rattle.dexlisting.specs.FullListing.{parameter_name_line}

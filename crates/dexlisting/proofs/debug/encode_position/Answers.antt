@@ -1,7 +1,7 @@
 use Rattle.std.proofs.lemmas.Int.{to_z-of_z}
 use Rattle.std.proofs.Common.{ap, w64}
 use Rattle.std.specs.Prelude.{codes}
-use Rattle.dexhead.proofs.Encoded.{then_given}
+use Rattle.dexio.proofs.Encoded.{then_given}
 use Rattle.dexout.proofs.Given.{next_part, last_part}
 use Rattle.dexout.specs.Printed.{count_text}
 use Rattle.dexlisting.specs.FullListing.{signed_text}

@@ -6,7 +6,7 @@ use Rattle.dexval.specs.Code.{value_of}
 use Rattle.dexval.specs.Numbered.{NumberedValues, NoValue, values_of_list, IsKnownSet, set_in, values_in, method_at}
 use Rattle.dexmembers.specs.Numbered.{NumberedMembers, NumberedField, NumberedMethod, field_in, method_in}
 use Rattle.dexclass.specs.Numbered.{type_at, text_at}
-use Rattle.dexhead.proofs.Encoded.{then_given}
+use Rattle.dexio.proofs.Encoded.{then_given}
 use Rattle.dexout.proofs.Given.{next_part, last_part}
 use Rattle.dexlisting.specs.Listing.{interface_line, source_line}
 use Rattle.dexlisting.specs.FullListing.{set_lines, full_method_lines, full_class_lines}

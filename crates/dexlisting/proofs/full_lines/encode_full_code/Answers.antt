@@ -1,6 +1,6 @@
 use Rattle.std.proofs.Common.{ap, ◌∙◌, List, map}
 use Rattle.std.specs.List.{flat_map}
-use Rattle.dexhead.proofs.Encoded.{then_given}
+use Rattle.dexio.proofs.Encoded.{then_given}
 use Rattle.dexout.proofs.Given.{next_part, last_part}
 use Rattle.dexspec.specs.Symbols.{MethodSymbol}
 use Rattle.dexinsn.specs.Numbered.{NumberedCode, piece_in}

@@ -1,6 +1,6 @@
 use Rattle.std.proofs.Common.{map, drop, ap, arith}
 use Rattle.std.proofs.Math.ListN.{drop_of_length-le}
-use Rattle.dexhead.proofs.Encoded.{completes_none, completes_all, completes_more}
+use Rattle.dexio.proofs.Encoded.{completes_none, completes_all, completes_more}
 use Rattle.dexmembers.specs.Numbered.{field_in}
 use Rattle.dexlisting.specs.internal.Known.{field_lines}
 use Rattle.dexlisting.proofs.Declared.{values_from, lent, lent_known, field_next}

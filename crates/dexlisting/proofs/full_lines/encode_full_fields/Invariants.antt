@@ -1,5 +1,5 @@
 use Rattle.std.proofs.Common.{map, drop}
-use Rattle.dexhead.proofs.Encoded.{Completes}
+use Rattle.dexio.proofs.Encoded.{Completes}
 use Rattle.dexmembers.specs.Numbered.{field_in}
 use Rattle.dexlisting.specs.internal.Known.{field_lines}
 use Rattle.dexlisting.proofs.Declared.{values_from}

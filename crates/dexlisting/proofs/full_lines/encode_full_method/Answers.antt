@@ -1,6 +1,6 @@
 use Rattle.std.proofs.Common.{◌≡◌, ap, sym, subst, ◌∙◌, [], ◌++◌, Option, Some, None, rules, map}
 use Rattle.std.specs.Option.{option_map, option_map_or}
-use Rattle.dexhead.proofs.Encoded.{then_given}
+use Rattle.dexio.proofs.Encoded.{then_given}
 use Rattle.dexout.proofs.Given.{next_part, last_part}
 use Rattle.dexflags.specs.Flags.{OfMethod, flags_text}
 use Rattle.dexspec.specs.Symbols.{MethodSymbol}

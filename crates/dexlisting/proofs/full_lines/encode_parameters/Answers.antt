@@ -1,7 +1,7 @@
 use Rattle.std.proofs.Common.{map, drop, ap, subst, get_or, [], arith}
 use Rattle.std.proofs.Math.ListN.{drop_of_length-le}
 use Rattle.std.proofs.lemmas.List.{get_or_default}
-use Rattle.dexhead.proofs.Encoded.{then_given, completes_none, completes_all, completes_more}
+use Rattle.dexio.proofs.Encoded.{then_given, completes_none, completes_all, completes_more}
 use Rattle.dexval.specs.Numbered.{IsKnownSet, set_in}
 use Rattle.dexlisting.specs.FullListing.{parameter_lines}
 use Rattle.dexlisting.proofs.Declared.{one_set, parameter_next}

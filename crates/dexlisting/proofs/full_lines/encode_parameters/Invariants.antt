@@ -1,5 +1,5 @@
 use Rattle.std.proofs.Common.{map, drop}
-use Rattle.dexhead.proofs.Encoded.{Completes}
+use Rattle.dexio.proofs.Encoded.{Completes}
 use Rattle.dexval.specs.Numbered.{set_in}
 use Rattle.dexlisting.specs.FullListing.{parameter_lines}
 use Rattle.dexlisting.proofs.full_lines.encode_parameters.Given as goal

@@ -1,6 +1,6 @@
 use Rattle.std.proofs.Common.{ap, subst, ◌++◌}
 use Rattle.std.specs.Prelude.{codes}
-use Rattle.dexhead.proofs.Encoded.{then_given}
+use Rattle.dexio.proofs.Encoded.{then_given}
 use Rattle.dexout.proofs.Given.{next_part}
 use Rattle.dexlisting.specs.FullListing.{units_text}
 use Rattle.dexlisting.specs.internal.FullPieces.{full_kind_text, full_listed_line}

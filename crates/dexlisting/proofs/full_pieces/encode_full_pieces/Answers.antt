@@ -2,7 +2,7 @@ use Rattle.std.proofs.Common.{ℕ, ◌+◌, ◌≤◌, List, ap, subst, rules, l
 use Rattle.std.specs.Prelude.{All}
 use Rattle.std.specs.List.{flat_map}
 use Rattle.std.proofs.lemmas.List.Elements.{All-head, All-tail}
-use Rattle.dexhead.proofs.Encoded.{completes_none, completes_all, completes_more}
+use Rattle.dexio.proofs.Encoded.{completes_none, completes_all, completes_more}
 use Rattle.dexout.proofs.Given.{last_part}
 use Rattle.dexspec.specs.Symbols.{MethodSymbol}
 use Rattle.dexinsn.specs.Blank.{blank_units}

@@ -1,7 +1,7 @@
 use Rattle.std.proofs.Common.{◌+◌, ◌≤◌, length}
 use Rattle.std.specs.Prelude.{All}
 use Rattle.std.specs.List.{flat_map}
-use Rattle.dexhead.proofs.Encoded.{Completes}
+use Rattle.dexio.proofs.Encoded.{Completes}
 use Rattle.dexspec.specs.Symbols.{MethodSymbol}
 use Rattle.dexinsn.specs.Blank.{blank_units}
 use Rattle.dexinsn.specs.Listing.{listed}

@@ -1,4 +1,4 @@
-use Rattle.dexhead.proofs.Encoded.{then_given}
+use Rattle.dexio.proofs.Encoded.{then_given}
 use Rattle.dexout.proofs.Given.{last_part}
 use Rattle.std.proofs.Common.{◌≡◌, ◌+◌, ◌*◌, ap, sym, rules, to_z, of_z, w64}
 use Rattle.dexspec.specs.Pieces.{int_in}

@@ -1,5 +1,5 @@
 use Rattle.std.proofs.Common.{ap, rules, to_z, of_z, w64, ◌≡◌}
-use Rattle.dexhead.proofs.Encoded.{then_given}
+use Rattle.dexio.proofs.Encoded.{then_given}
 use Rattle.dexout.proofs.Given.{next_part, last_part}
 use Rattle.dexspec.specs.Pieces.{int_in}
 use Rattle.dexlisting.specs.FullListing.{literal_text}

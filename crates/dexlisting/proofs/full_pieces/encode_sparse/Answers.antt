@@ -1,5 +1,5 @@
 use Rattle.std.proofs.Common.{ap, ◌+◌, ◌*◌}
-use Rattle.dexhead.proofs.Encoded.{then_given}
+use Rattle.dexio.proofs.Encoded.{then_given}
 use Rattle.dexout.proofs.Given.{last_part}
 use Rattle.dexspec.specs.Pieces.{ints_in}
 use Rattle.dexlisting.specs.FullListing.{offsets_text}

@@ -1,4 +1,4 @@
-use Rattle.dexhead.proofs.Encoded.{then_given}
+use Rattle.dexio.proofs.Encoded.{then_given}
 use Rattle.dexlisting.proofs.full_pieces.encode_symbol_after.Goals as goal
 
 pub returns-in-Some : goal.returns-in-Some

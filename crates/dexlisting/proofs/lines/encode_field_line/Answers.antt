@@ -1,5 +1,5 @@
 use Rattle.std.proofs.Common.{ap}
-use Rattle.dexhead.proofs.Encoded.{then_given}
+use Rattle.dexio.proofs.Encoded.{then_given}
 use Rattle.dexflags.specs.Flags.{OfField, flags_text}
 use Rattle.dexlisting.specs.Listing.{own_field_text, field_line}
 use Rattle.dexout.specs.Printed.{shown}

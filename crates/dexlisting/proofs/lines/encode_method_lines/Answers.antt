@@ -2,7 +2,7 @@ use Rattle.std.proofs.Common.{ap, sym, subst, ◌≡◌, ◌++◌, [], Some, Non
 use Rattle.std.specs.Prelude.{codes}
 use Rattle.std.specs.Option.{option_map, option_map_or}
 use Rattle.std.proofs.lemmas.List.{append-nil}
-use Rattle.dexhead.proofs.Encoded.{then_given}
+use Rattle.dexio.proofs.Encoded.{then_given}
 use Rattle.dexflags.specs.Flags.{OfMethod, flags_text}
 use Rattle.dexcode.specs.Meaning.{code_in}
 use Rattle.dexlisting.specs.Listing.{own_method_text, code_lines, method_lines}

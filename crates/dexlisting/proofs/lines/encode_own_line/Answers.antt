@@ -1,7 +1,7 @@
 use Rattle.std.proofs.Common.{ap, [], rules}
 use Rattle.std.specs.Prelude.{codes}
 use Rattle.std.specs.Option.{option_map, option_map_or}
-use Rattle.dexhead.proofs.Encoded.{then_given}
+use Rattle.dexio.proofs.Encoded.{then_given}
 use Rattle.dexflags.specs.Flags.{OfClass, flags_text}
 use Rattle.dexout.specs.Printed.{shown}
 use Rattle.dexlisting.specs.Listing.{own_line}

@@ -1,5 +1,5 @@
 use Rattle.std.proofs.Common.{ap, sym, []}
-use Rattle.dexhead.proofs.Encoded.{then_given}
+use Rattle.dexio.proofs.Encoded.{then_given}
 use Rattle.dexlisting.specs.Listing.{source_line}
 use Rattle.dexout.proofs.Given.{last_part}
 use Rattle.dexlisting.proofs.lines.encode_source.Goals as goal

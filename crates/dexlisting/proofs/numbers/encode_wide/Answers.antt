@@ -1,5 +1,5 @@
 use Rattle.std.proofs.Common.{subst, sym, arith}
-use Rattle.dexhead.proofs.Encoded.{then_given}
+use Rattle.dexio.proofs.Encoded.{then_given}
 use Rattle.dexout.proofs.Given.{last_part}
 use Rattle.dexlisting.proofs.Digits.{wide_place}
 use Rattle.dexlisting.proofs.numbers.encode_wide.Goals as goal

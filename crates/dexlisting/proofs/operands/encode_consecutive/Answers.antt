@@ -1,4 +1,4 @@
-use Rattle.dexhead.proofs.Encoded.{then_given}
+use Rattle.dexio.proofs.Encoded.{then_given}
 use Rattle.dexout.proofs.Given.{next_part, last_part}
 use Rattle.std.proofs.Common.{ap, ◌∙◌, slice_index}
 use Rattle.dexspec.specs.Pieces.{high_byte}

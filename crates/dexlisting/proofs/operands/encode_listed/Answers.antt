@@ -1,4 +1,4 @@
-use Rattle.dexhead.proofs.Encoded.{then_given}
+use Rattle.dexio.proofs.Encoded.{then_given}
 use Rattle.dexout.proofs.Given.{next_part, last_part}
 use Rattle.std.proofs.Common.{◌≡◌, ◌/◌, ◌%◌, ◌∷◌, [], ap, take, refl}
 use Rattle.dexlisting.specs.FullListing.{registers_text, listed_registers}

@@ -1,5 +1,5 @@
 use Rattle.std.proofs.Common.{◌≡◌, ap, suc, rules}
-use Rattle.dexhead.proofs.Encoded.{then_given}
+use Rattle.dexio.proofs.Encoded.{then_given}
 use Rattle.dexout.proofs.Given.{next_part, last_part}
 use Rattle.dexlisting.specs.FullListing.{range_text}
 use Rattle.dexlisting.proofs.operands.encode_range.Goals as goal

@@ -1,4 +1,4 @@
-use Rattle.dexhead.proofs.Encoded.{given_all}
+use Rattle.dexio.proofs.Encoded.{given_all}
 use Rattle.dexout.proofs.Given.{next_part, last_part}
 use Rattle.std.proofs.Common.{◌≡◌, ◌∷◌, ◌++◌, ap, sym, ◌∙◌, rules}
 use Rattle.std.specs.Prelude.{codes}

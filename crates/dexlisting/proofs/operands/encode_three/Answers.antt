@@ -1,5 +1,5 @@
 use Rattle.std.proofs.Common.{ap, append_assoc, ◌∷◌, ◌++◌}
-use Rattle.dexhead.proofs.Encoded.{then_given}
+use Rattle.dexio.proofs.Encoded.{then_given}
 use Rattle.dexout.proofs.Given.{next_part, last_part}
 use Rattle.dexlisting.specs.FullListing.{register_text, literal_text, target_text}
 use Rattle.dexlisting.proofs.operands.encode_three.Goals as goal

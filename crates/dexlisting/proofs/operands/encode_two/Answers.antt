@@ -1,4 +1,4 @@
-use Rattle.dexhead.proofs.Encoded.{then_given}
+use Rattle.dexio.proofs.Encoded.{then_given}
 use Rattle.dexlisting.proofs.operands.encode_two.Goals as goal
 
 pub returns : goal.returns

@@ -1,6 +1,6 @@
 use Rattle.std.proofs.lemmas.Int.{to_z-of_z}
 use Rattle.std.proofs.Common.{ap, append_assoc, ◌∷◌, ◌++◌, w32}
-use Rattle.dexhead.proofs.Encoded.{then_given}
+use Rattle.dexio.proofs.Encoded.{then_given}
 use Rattle.dexout.proofs.Given.{next_part, last_part}
 use Rattle.dexlisting.specs.FullListing.{register_text, literal_text, target_text}
 use Rattle.dexlisting.proofs.operands.encode_two_with_target.Goals as goal

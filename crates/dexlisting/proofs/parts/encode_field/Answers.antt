@@ -1,5 +1,5 @@
 use Rattle.std.proofs.Common.{ap, []}
-use Rattle.dexhead.proofs.Encoded.{then_given}
+use Rattle.dexio.proofs.Encoded.{then_given}
 use Rattle.dexout.specs.Printed.{shown}
 use Rattle.dexout.proofs.Given.{next_part}
 use Rattle.dexlisting.proofs.RowParts.{field_row}

@@ -1,6 +1,6 @@
 use Rattle.std.proofs.Common.{ap, [], ◌∷◌, ◌∙◌}
 use Rattle.std.specs.List.{flat_map}
-use Rattle.dexhead.proofs.Encoded.{then_given}
+use Rattle.dexio.proofs.Encoded.{then_given}
 use Rattle.dexout.specs.Printed.{shown}
 use Rattle.dexclass.specs.Numbered.{type_at}
 use Rattle.dexout.proofs.Given.{next_part, last_part}

@@ -1,6 +1,6 @@
 use Rattle.std.proofs.Common.{ap, ◌∙◌, List}
 use Rattle.std.specs.List.{flat_map}
-use Rattle.dexhead.proofs.Encoded.{then_given}
+use Rattle.dexio.proofs.Encoded.{then_given}
 use Rattle.dexinsn.specs.Numbered.{NumberedCode}
 use Rattle.dexinsn.specs.Listing.{listed}
 use Rattle.dexlisting.specs.internal.Known.{listed_line}

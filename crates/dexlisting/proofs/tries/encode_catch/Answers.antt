@@ -1,4 +1,4 @@
-use Rattle.dexhead.proofs.Encoded.{then_given}
+use Rattle.dexio.proofs.Encoded.{then_given}
 use Rattle.dexlisting.specs.FullListing.{catch_line}
 use Rattle.dexlisting.proofs.tries.encode_catch.Goals as goal
 

@@ -1,5 +1,5 @@
 use Rattle.std.proofs.Common.{arith, subst}
-use Rattle.dexhead.proofs.Encoded.{given_more, given_all}
+use Rattle.dexio.proofs.Encoded.{given_more, given_all}
 use Rattle.dexout.proofs.Given.{last_part}
 use Rattle.dexcode.specs.declared.tries.Try.{Try}
 use Rattle.dexcode.specs.Numbered.{named, try_meant}

@@ -3,7 +3,7 @@ use Rattle.std.specs.Prelude.{All, codes, slice_index_or}
 use Rattle.std.specs.List.{flat_map}
 use Rattle.std.specs.Option.{option_map_or}
 use Rattle.std.proofs.lemmas.List.{get_or_default}
-use Rattle.dexhead.proofs.Encoded.{then_given}
+use Rattle.dexio.proofs.Encoded.{then_given}
 use Rattle.dexout.proofs.Given.{next_part, last_part}
 use Rattle.dexout.specs.Printed.{count_text}
 use Rattle.dexcode.specs.Numbered.{NumberedHandler, no_handler, handler_meant}

@@ -1,7 +1,7 @@
 use Rattle.std.proofs.Common.{◌≡◌, ◌+◌, List, ◌++◌, take, map, refl, ap, sym, ◌∙◌, subst, rules, to_z, of_z, w64, []}
 use Rattle.std.specs.Prelude.{codes}
 use Rattle.std.specs.List.{flat_map}
-use Rattle.dexhead.proofs.Encoded.{then_given, given_more, given_all}
+use Rattle.dexio.proofs.Encoded.{then_given, given_more, given_all}
 use Rattle.dexout.proofs.Given.{next_part, last_part}
 use Rattle.dexout.specs.Printed.{quoted, shown}
 use Rattle.dexval.specs.declared.value.Value.{Value}

@@ -1,6 +1,6 @@
 use Rattle.std.proofs.Common.{append_assoc, ◌++◌}
 use Rattle.std.specs.Prelude.{codes}
-use Rattle.dexhead.proofs.Encoded.{then_given}
+use Rattle.dexio.proofs.Encoded.{then_given}
 use Rattle.dexout.proofs.Given.{last_part}
 use Rattle.dexval.specs.Code.{encoded_type, encoded_elements}
 use Rattle.dexval.specs.Numbered.{elements_in, type_at}

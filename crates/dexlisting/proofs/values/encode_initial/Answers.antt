@@ -1,4 +1,4 @@
-use Rattle.dexhead.proofs.Encoded.{then_given}
+use Rattle.dexio.proofs.Encoded.{then_given}
 use Rattle.dexlisting.proofs.values.encode_initial.Goals as goal
 
 pub returns-in-Some : goal.returns-in-Some

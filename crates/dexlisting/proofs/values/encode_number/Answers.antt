@@ -1,5 +1,5 @@
 use Rattle.std.proofs.lemmas.Int.{to_z-of_z}
-use Rattle.dexhead.proofs.Encoded.{then_given}
+use Rattle.dexio.proofs.Encoded.{then_given}
 use Rattle.dexout.proofs.Given.{last_part}
 use Rattle.std.proofs.Common.{ap, w64}
 use Rattle.dexlisting.specs.FullListing.{literal_text}

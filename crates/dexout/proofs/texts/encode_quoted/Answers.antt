@@ -1,4 +1,4 @@
-use Rattle.dexhead.proofs.Encoded.{then_given}
+use Rattle.dexio.proofs.Encoded.{then_given}
 use Rattle.dexout.proofs.texts.encode_quoted.Goals as goal
 
 pub returns : goal.returns

@@ -1,6 +1,6 @@
 use Rattle.dexval.proofs.Common.{ℕ, ◌+◌, ◌≤◌, List, ◌∷◌, [], ◌++◌, take, flat_map, subst, sym, ap, ◌∙◌, rules, length, map, to_z, of_z, w64, uleb128, Value, Element, EncodedAnnotation, out-EncodedAnnotation, value_of, encoded_of, encoded_type, encoded_elements, values_of_list, values_count, elements_count, count_bytes, numbered_bytes, numbered_values_bytes, numbered_elements_bytes, numbered_array_bytes, encoded_annotation_bytes}
 use Rattle.dexval.proofs.Members.{byte_is, short_is, char_is, int_is, long_is, float_is, double_is, string_is, typ_is, field_is, method_is, enum_is, array_is, annotation_is, value_spelled, element_spelled, values_are_spelled, elements_are_spelled, count_values_is, count_elements_is}
-use Rattle.dexhead.proofs.Encoded.{given_more, given_all}
+use Rattle.dexio.proofs.Encoded.{given_more, given_all}
 use Rattle.dexval.proofs.Encodings.{unsigned_given, signed_given, bits_given}
 use Rattle.dexval.proofs.encoding.+encoding.Goals as goal
 

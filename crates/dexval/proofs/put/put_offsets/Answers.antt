@@ -1,6 +1,6 @@
 use Rattle.dexval.proofs.Common.{◌≡◌, ◌+◌, ◌*◌, ◌++◌, length, map, refl, ap, ◌∙◌, subst, arith, rules, length-map, uint, annotation_of, numbered_set_bytes}
-use Rattle.dexhead.specs.OutputLaws.{pushed_both}
-use Rattle.dexhead.specs.Pushing.{HasRoomFor, Pushes}
+use Rattle.dexio.specs.OutputLaws.{pushed_both}
+use Rattle.dexio.specs.Pushing.{HasRoomFor, Pushes}
 use Rattle.dexval.proofs.Offsets.{annotations_few, set_size, set_begins, offsets_spelled}
 use Rattle.dexval.proofs.put.put_offsets.Goals as goal
 

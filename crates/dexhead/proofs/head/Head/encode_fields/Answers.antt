@@ -1,5 +1,5 @@
 use Rattle.dexhead.proofs.Common.{field_bytes}
-use Rattle.dexhead.proofs.Encoded.{nine_given}
+use Rattle.dexio.proofs.Encoded.{nine_given}
 use Rattle.dexhead.proofs.head.Head.encode_fields.Goals as goal
 
 pub returns : goal.returns

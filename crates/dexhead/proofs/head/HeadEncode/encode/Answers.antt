@@ -1,5 +1,5 @@
 use Rattle.dexhead.proofs.Common.{head_bytes}
-use Rattle.dexhead.proofs.Encoded.{then_given}
+use Rattle.dexio.proofs.Encoded.{then_given}
 use Rattle.dexhead.proofs.head.HeadEncode.encode.Goals as goal
 
 pub returns : goal.returns

@@ -1,0 +1,4 @@
+pub mod Common
+pub mod Encoded
+pub mod Spelled
+pub mod WrittenPieces

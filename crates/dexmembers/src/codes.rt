@@ -10,7 +10,7 @@ ghost use Rattle.dexmembers.specs.internal.Stored.{code_at};
 
 use crate::attaching::place_for;
 use crate::class_data::EncodedMethod;
-use crate::encoded_lists::room;
+use crate::encoded_lists::with_room;
 use crate::method_list::{DeclaredMethod, MethodList, code_at};
 use crate::places::Place;
 use crate::row_reader::{RowReader, too_heavy};
@@ -186,7 +186,7 @@ impl<'f> RowReader<'_, 'f, '_> {
         let with_code = listed.iter().filter(|method| method.code_off != 0).count();
         let may_share = may_share_code(listed);
         let mut methods = Vec::with_capacity(self.alloc, listed.len())?;
-        let items = Vec::with_capacity(self.alloc, room(with_code))?;
+        let items = with_room(self.alloc, with_code)?;
         let places = HashMap::new(self.alloc);
         let mut kept = KeptCodes { items, places };
         let mut left = self.most;

@@ -1,6 +1,6 @@
 //! Lists of encoded members.
 
-ghost use Rattle.std.specs.Prelude.{◌↔◌, ◌≤◌, length, map, IsTrue, IfOk, IfErr};
+ghost use Rattle.std.specs.Prelude.{◌≡◌, ◌↔◌, ◌≤◌, [], length, map, vec_capacity, IsTrue, IfOk, IfErr};
 ghost use Rattle.dexspec.specs.ClassData.{ShareNone};
 ghost use Rattle.dexmembers.specs.Numbered.{NumbersRise};
 ghost use Rattle.dexmembers.specs.internal.EncodedMembers.{ReadsList, ReadsLists, RefusesList, RefusesLists};
@@ -8,18 +8,19 @@ ghost use Rattle.dexmembers.specs.internal.EncodedMembers.{ReadsList, ReadsLists
 use crate::encodings::Encoded;
 use dexhead::Condition;
 use dexpool::{ItemFault, Pools};
-use std::alloc::Global;
+use std::alloc::{AllocError, Global};
 use std::cmp::Ordering;
 
 // The most members for which room is allocated before they are read.
 const MOST_AT_ONCE: usize = 4096;
 
-/// Returns the number of members, of `count`, for which room is allocated before they are read: a false count asks for
-/// little.
-pub(crate) fn room(count: usize) -> usize
-    ensures { result ≤ 4096 }
+/// An empty vector with room for `count` members, or for 4,096 where they are more, since they are still to be read: a
+/// false count asks for little.
+pub(crate) fn with_room<T>(alloc: Global, count: usize) -> Result<Vec<T>, AllocError>
+    ensures items { IfOk result (λ members. members.items ≡ []) }
+    ensures most { IfOk result (λ members. vec_capacity members ≤ 4096) }
 {
-    count.min(MOST_AT_ONCE)
+    Vec::with_capacity(alloc, count.min(MOST_AT_ONCE))
 }
 
 // Returns whether no index is in both lists. One pass over both.
@@ -51,14 +52,21 @@ pub(crate) struct ClassReader<'s, 'a> {
 }
 
 impl ClassReader<'_, '_> {
-    // Reads `count` members at an offset, and returns the number of bytes that encode them.
-    fn read_list<T: Encoded>(&self, at: usize, count: u32) -> Result<(Vec<T>, usize), ItemFault>
-        requires { at ≤ length self.now.bytes.now }
+    // Reads `count` members at an offset into an empty vector, whose room does not depend on what a count says. Returns
+    // them with the number of bytes that encode them.
+    fn read_list<T: Encoded>(
+        &self,
+        at: usize,
+        count: u32,
+        mut members: Vec<T>,
+    ) -> Result<(Vec<T>, usize), ItemFault>
+        requires within { at ≤ length self.now.bytes.now }
+        requires empty { members.items ≡ [] }
+        requires room { vec_capacity members ≤ 4096 }
         ensures list { IfOk result (ReadsList T.encodes T.index_of self.now at count) }
         ensures fault { IfErr result (RefusesList T.encodes T.index_of self.now at count) }
     {
         T::law();
-        let mut members = Vec::with_capacity(self.alloc, room(count as usize))?;
         let mut size = 0;
         let mut last = None;
         for _ in 0..count {
@@ -90,8 +98,12 @@ impl ClassReader<'_, '_> {
             (RefusesLists T.encodes T.index_of self.now at count other_count) }
     {
         T::law();
-        let (members, size) = self.read_list(at, count)?;
-        let (others, others_size) = self.read_list(at + size, other_count)?;
+        let (members, size) = self.read_list(at, count, with_room(self.alloc, count as usize)?)?;
+        let (others, others_size) = self.read_list(
+            at + size,
+            other_count,
+            with_room(self.alloc, other_count as usize)?,
+        )?;
         if !are_apart::<T>(&members, &others) {
             return Err(ItemFault::Refused(Condition::Members as u8));
         }

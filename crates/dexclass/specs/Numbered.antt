@@ -2,7 +2,8 @@
 use Rattle.std.specs.Prelude.{ℕ, ◌==◌, if◌then◌else◌, List, [], map, Option, Some, None, slice_index_or}
 use Rattle.std.specs.Option.{option_map}
 use Rattle.dexspec.specs.Texts.{Text}
-use Rattle.dexspec.specs.Classes.{Definition, class_idx, access_flags, superclass_idx, interfaces_off, source_file_idx, no_index}
+use Rattle.dexspec.specs.Classes.{Definition, class_idx, access_flags, superclass_idx, interfaces_off, source_file_idx}
+use Rattle.dexspec.specs.Classes.{no_index}
 use Rattle.dexspec.specs.Mentions.{Mentions}
 use Rattle.dexmembers.specs.Numbered.{NumberedMembers, members_in}
 use Rattle.dexclass.specs.internal.Rows.{interface_indices}

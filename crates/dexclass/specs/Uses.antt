@@ -1,5 +1,6 @@
 -- The symbols that occur in a class, by their numbers, and classes whose numbers are those of symbols.
-use Rattle.std.specs.Prelude.{◌≡◌, ℕ, ◌<◌, ◌-◌, ◌^◌, min, false, List, ◌∷◌, ◌++◌, length, map, All, option_to_list, slice_index_or}
+use Rattle.std.specs.Prelude.{◌≡◌, ℕ, ◌<◌, ◌-◌, ◌^◌, min, false, List, ◌∷◌, ◌++◌, length, map, All, option_to_list}
+use Rattle.std.specs.Prelude.{slice_index_or}
 use Rattle.dexspec.specs.Mentions.{Mentions}
 use Rattle.dexspec.specs.Weight.{body_weight}
 use Rattle.dexpool.specs.declared.symbols.SymbolKind.{SymbolKind}

@@ -1,5 +1,7 @@
 -- The bytes of code items whose symbols are numbers, and what these weigh.
-use Rattle.std.specs.Prelude.{◌≡◌, ℕ, ℤ, pos, ◌-ℤ◌, ◌+◌, ◌*◌, ◌%◌, ◌^◌, ◌<◌, ◌≤◌, ◌==◌, if◌then◌else◌, List, [], ◌∷◌, ◌++◌, length, take, All, slice_index_or, option_to_list, IsOk, Result, vec_capacity, vec_len}
+use Rattle.std.specs.Prelude.{◌≡◌, ℕ, ℤ, pos, ◌-ℤ◌, ◌+◌, ◌*◌, ◌%◌, ◌^◌, ◌<◌, ◌≤◌, ◌==◌, if◌then◌else◌, List, [], ◌∷◌}
+use Rattle.std.specs.Prelude.{◌++◌, length, take, All, slice_index_or, option_to_list, IsOk, Result, vec_capacity}
+use Rattle.std.specs.Prelude.{vec_len}
 use Rattle.std.specs.List.{flat_map}
 use Rattle.std.specs.Option.{option_map_or}
 use Rattle.std.specs.Global.{Vec}
@@ -14,7 +16,8 @@ use Rattle.dexspec.specs.internal.Writing.{Puts}
 use Rattle.dexinsn.specs.Numbered.{NumberedCode, numbered_units, numbered_bytes}
 use Rattle.dexcode.specs.declared.handlers.Catch.{Catch}
 use Rattle.dexcode.specs.declared.tries.Try.{Try}
-use Rattle.dexcode.specs.Numbered.{NumberedHandler, NumberedTry, NumberedItem, same_handler, handlers_of, handlers_weight}
+use Rattle.dexcode.specs.Numbered.{NumberedHandler, NumberedTry, NumberedItem, same_handler, handlers_of}
+use Rattle.dexcode.specs.Numbered.{handlers_weight}
 use Rattle.dexcode.specs.Meaning.{DenotesCode}
 use Rattle.dexpool.specs.Numberings.{AreRising}
 

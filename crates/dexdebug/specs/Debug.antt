@@ -1,5 +1,6 @@
 -- Debug programs whose symbols are numbers, and what becomes of them when the numbers change.
-use Rattle.std.specs.Prelude.{◌≡◌, ℕ, ◌+◌, ◌*◌, ◌^◌, ◌<◌, ◌≤◌, List, [], ◌∷◌, ◌++◌, length, map, All, Option, Some, None, option_to_list}
+use Rattle.std.specs.Prelude.{◌≡◌, ℕ, ◌+◌, ◌*◌, ◌^◌, ◌<◌, ◌≤◌, List, [], ◌∷◌, ◌++◌, length, map, All, Option, Some}
+use Rattle.std.specs.Prelude.{None, option_to_list}
 use Rattle.std.specs.List.{flat_map}
 use Rattle.dexspec.specs.Numbers.{plus_one, uleb128, sleb128, uleb128p1}
 use Rattle.dexspec.specs.Debug as symbolic
@@ -9,7 +10,10 @@ use Rattle.dexpool.specs.declared.symbols.SymbolKind.TheVariants as kinds
 use Rattle.dexpool.specs.Numberings.{Maps, image_of}
 use Rattle.dexpool.specs.Uses.{Use}
 use Rattle.dexdebug.specs.declared.debug_operation.Operation.{Operation}
-use Rattle.dexdebug.specs.declared.debug_operation.Operation.TheVariants.{AdvancePc, AdvanceLine, StartLocal, StartLocalExtended, EndLocal, RestartLocal, SetPrologueEnd, SetEpilogueBegin, SetFile, Special}
+use Rattle.dexdebug.specs.declared.debug_operation.Operation.TheVariants.{AdvancePc, AdvanceLine, StartLocal}
+use Rattle.dexdebug.specs.declared.debug_operation.Operation.TheVariants.{StartLocalExtended, EndLocal, RestartLocal}
+use Rattle.dexdebug.specs.declared.debug_operation.Operation.TheVariants.{SetPrologueEnd, SetEpilogueBegin, SetFile}
+use Rattle.dexdebug.specs.declared.debug_operation.Operation.TheVariants.{Special}
 
 -- A debug program: the line that it starts at, the number of each parameter's name, and operations, with numbers for
 -- texts and types. None is NO_INDEX.

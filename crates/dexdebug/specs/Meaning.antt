@@ -9,7 +9,10 @@ use Rattle.dexspec.specs.internal.Writing.{Puts}
 use Rattle.dexpool.specs.Numberings.{AreRising}
 use Rattle.dexpool.specs.NumberedSymbols.{text_at, type_at}
 use Rattle.dexdebug.specs.declared.debug_operation.Operation.{Operation}
-use Rattle.dexdebug.specs.declared.debug_operation.Operation.TheVariants.{AdvancePc, AdvanceLine, StartLocal, StartLocalExtended, EndLocal, RestartLocal, SetPrologueEnd, SetEpilogueBegin, SetFile, Special}
+use Rattle.dexdebug.specs.declared.debug_operation.Operation.TheVariants.{AdvancePc, AdvanceLine, StartLocal}
+use Rattle.dexdebug.specs.declared.debug_operation.Operation.TheVariants.{StartLocalExtended, EndLocal, RestartLocal}
+use Rattle.dexdebug.specs.declared.debug_operation.Operation.TheVariants.{SetPrologueEnd, SetEpilogueBegin, SetFile}
+use Rattle.dexdebug.specs.declared.debug_operation.Operation.TheVariants.{Special}
 use Rattle.dexdebug.specs.Debug.{NumberedDebug, name_of, type_of, signature_of}
 
 -- the operation with the texts and types of its numbers

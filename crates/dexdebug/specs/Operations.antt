@@ -1,5 +1,6 @@
 -- Operations as they are stored: their bytes in a file, and beside them the numbers of their symbols.
-use Rattle.std.specs.Prelude.{◌≡◌, ◌==◌, ℕ, zero, suc, ℤ, ◌+◌, if◌then◌else◌, nat_lt, List, [], ◌∷◌, ◌++◌, take, drop, length, map, slice_index_or, Option, None}
+use Rattle.std.specs.Prelude.{◌≡◌, ◌==◌, ℕ, zero, suc, ℤ, ◌+◌, if◌then◌else◌, nat_lt, List, [], ◌∷◌, ◌++◌, take, drop}
+use Rattle.std.specs.Prelude.{length, map, slice_index_or, Option, None}
 use Rattle.std.specs.List.{flat_map}
 use Rattle.dexspec.specs.Lists.{Sequence}
 use Rattle.dexspec.specs.Numbers.{sum_of_groups, signed_sum}
@@ -7,7 +8,10 @@ use Rattle.dexspec.specs.Weight.{operands}
 use Rattle.dexpool.specs.declared.symbols.SymbolKind.TheVariants as kinds
 use Rattle.dexpool.specs.Numberings.{Maps}
 use Rattle.dexdebug.specs.declared.debug_operation.Operation.{Operation}
-use Rattle.dexdebug.specs.declared.debug_operation.Operation.TheVariants.{AdvancePc, AdvanceLine, StartLocal, StartLocalExtended, EndLocal, RestartLocal, SetPrologueEnd, SetEpilogueBegin, SetFile, Special}
+use Rattle.dexdebug.specs.declared.debug_operation.Operation.TheVariants.{AdvancePc, AdvanceLine, StartLocal}
+use Rattle.dexdebug.specs.declared.debug_operation.Operation.TheVariants.{StartLocalExtended, EndLocal, RestartLocal}
+use Rattle.dexdebug.specs.declared.debug_operation.Operation.TheVariants.{SetPrologueEnd, SetEpilogueBegin, SetFile}
+use Rattle.dexdebug.specs.declared.debug_operation.Operation.TheVariants.{Special}
 use Rattle.dexdebug.specs.declared.indices.Index.{Index}
 use Rattle.dexdebug.specs.Debug.{NumberedDebug, image_or_none, unindexed_operation, with_numbers}
 use Rattle.dexdebug.specs.DebugReading.{NumberedAt, every, indices_of, text_index}

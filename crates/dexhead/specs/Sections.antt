@@ -1,7 +1,11 @@
 -- the sections of the code
 use Rattle.dexspec.specs.Sections as sections
 use Rattle.dexhead.specs.declared.sections.Section.{Section}
-use Rattle.dexhead.specs.declared.sections.Section.TheVariants.{HeaderItem, TableOf, MapList, TypeLists, AnnotationSetRefLists, AnnotationSets, ClassDataItems, CodeItems, StringDataItems, DebugInfoItems, AnnotationItems, EncodedArrayItems, AnnotationsDirectories}
+use Rattle.dexhead.specs.declared.sections.Section.TheVariants.{HeaderItem, TableOf, MapList, TypeLists}
+use Rattle.dexhead.specs.declared.sections.Section.TheVariants.{AnnotationSetRefLists, AnnotationSets, ClassDataItems}
+use Rattle.dexhead.specs.declared.sections.Section.TheVariants.{CodeItems, StringDataItems, DebugInfoItems}
+use Rattle.dexhead.specs.declared.sections.Section.TheVariants.{AnnotationItems, EncodedArrayItems}
+use Rattle.dexhead.specs.declared.sections.Section.TheVariants.{AnnotationsDirectories}
 use Rattle.dexhead.specs.Tables.{meant}
 
 -- the section that is meant

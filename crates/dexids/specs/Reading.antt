@@ -1,11 +1,13 @@
 -- Rows that are read one after the other.
-use Rattle.std.specs.Prelude.{◌≡◌, ◌≢◌, ℕ, ◌+◌, ◌*◌, ◌/◌, ◌%◌, ◌<◌, ◌≤◌, Bool, true, map, All, if◌then◌else◌, ◌==◌, List, [], ◌∷◌, length, slice_index_or}
+use Rattle.std.specs.Prelude.{◌≡◌, ◌≢◌, ℕ, ◌+◌, ◌*◌, ◌/◌, ◌%◌, ◌<◌, ◌≤◌, Bool, true, map, All, if◌then◌else◌, ◌==◌}
+use Rattle.std.specs.Prelude.{List, [], ◌∷◌, length, slice_index_or}
 use Rattle.std.specs.Ordering.{is_lt}
 use Rattle.std.specs.declared.cmp.Ordering.{Ordering}
 use Rattle.dexspec.specs.Bytes.{uint_at, ushort_at, ushorts_at}
 use Rattle.dexspec.specs.Texts.{Text}
 use Rattle.dexspec.specs.Header.{StringIds, TypeIds, ProtoIds, FieldIds, MethodIds, table_size}
-use Rattle.dexspec.specs.Rows.{row_at, StringRow, TypeRow, HasString, type_indices, TypeListAt, HasType, HasProto, HasField, HasMethod}
+use Rattle.dexspec.specs.Rows.{row_at, StringRow, TypeRow, HasString, type_indices, TypeListAt, HasType, HasProto}
+use Rattle.dexspec.specs.Rows.{HasField, HasMethod}
 use Rattle.dexspec.specs.Rows as rows
 use Rattle.dexspec.specs.Accepted.{IsFrame}
 use Rattle.dexspec.specs.Names.{IsValueType, IsReferenceType, IsMemberName, shorty_letter}

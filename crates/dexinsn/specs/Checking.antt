@@ -1,9 +1,11 @@
 -- Units that are checked in one pass, with a bit for each unit.
-use Rattle.std.specs.Prelude.{◌≡◌, ◌↔◌, ◌⊎◌, ℕ, ◌+◌, ◌*◌, ◌/◌, ◌^◌, ◌<◌, ◌≤◌, ◌||◌, pos, Bool, true, false, not, List, [], length, drop, slice_index, All, IsTrue, Option, Some, None}
+use Rattle.std.specs.Prelude.{◌≡◌, ◌↔◌, ◌⊎◌, ℕ, ◌+◌, ◌*◌, ◌/◌, ◌^◌, ◌<◌, ◌≤◌, ◌||◌, pos, Bool, true, false, not, List}
+use Rattle.std.specs.Prelude.{[], length, drop, slice_index, All, IsTrue, Option, Some, None}
 use Rattle.std.specs.Option.{IsSome, option_map_or}
 use Rattle.dexspec.specs.Mentions.{Mentions}
 use Rattle.dexspec.specs.Opcodes.{Format, F10t, F20t, F21t, F22t, F30t, F31t, opcode_of}
-use Rattle.dexspec.specs.Pieces.{Cut, AreCut, IsCode, has_right_targets, index_pool, is_payload_ident, low_byte, piece_size}
+use Rattle.dexspec.specs.Pieces.{Cut, AreCut, IsCode, has_right_targets, index_pool, is_payload_ident, low_byte}
+use Rattle.dexspec.specs.Pieces.{piece_size}
 use Rattle.dexinsn.specs.internal.LongSwitches.{HasBit}
 use Rattle.dexinsn.specs.Stored.{FitsAt}
 use Rattle.dexspec.specs.Bytes.{uint_at}

@@ -10,7 +10,8 @@ use Rattle.dexpool.specs.Orderly.{KeepOrder, MapsDown}
 use Rattle.dexpool.specs.declared.marks.Marks.{Marks}
 use Rattle.dexpool.specs.Uses.{IsUseOf, HasMark, IsMappedUse}
 use Rattle.dexinsn.specs.Fitting.{HasConstString, ImagesFit, IsGreatest, MapsShort, short_strings}
-use Rattle.dexinsn.specs.Numbered.{NumberedPiece, Denote, uses_of, numbered_units, FitPlaces, HasImage, HasPlace, renumbered_piece}
+use Rattle.dexinsn.specs.Numbered.{NumberedPiece, Denote, uses_of, numbered_units, FitPlaces, HasImage, HasPlace}
+use Rattle.dexinsn.specs.Numbered.{renumbered_piece}
 
 -- where symbols rise, the units of numbered pieces are those of the pieces that they denote
 abbrev pub UnitsAreDenoted : Type 0

@@ -1,8 +1,10 @@
 -- Pieces as a listing shows them.
-use Rattle.std.specs.Prelude.{◌≡◌, ℕ, ◌+◌, ◌^◌, ◌<◌, ◌≤◌, ◌==◌, if◌then◌else◌, List, [], ◌∷◌, length, drop, map, slice_index, Option, Some, None}
+use Rattle.std.specs.Prelude.{◌≡◌, ℕ, ◌+◌, ◌^◌, ◌<◌, ◌≤◌, ◌==◌, if◌then◌else◌, List, [], ◌∷◌, length, drop, map}
+use Rattle.std.specs.Prelude.{slice_index, Option, Some, None}
 use Rattle.std.specs.Option.{option_map}
 use Rattle.dexspec.specs.Symbols.{Pool}
-use Rattle.dexspec.specs.Pieces.{AreCut, cut_units, low_byte, is_payload_ident, packed_switch_ident, sparse_switch_ident, element_width, element_count}
+use Rattle.dexspec.specs.Pieces.{AreCut, cut_units, low_byte, is_payload_ident, packed_switch_ident}
+use Rattle.dexspec.specs.Pieces.{sparse_switch_ident, element_width, element_count}
 use Rattle.dexpool.specs.declared.symbols.SymbolKind.{SymbolKind}
 use Rattle.dexinsn.specs.declared.pieces.Index.{Index}
 use Rattle.dexinsn.specs.declared.listing.Piece.{Piece}

@@ -1,6 +1,7 @@
 -- Pieces whose symbols are numbers: what they denote under a numbering, and what becomes of them when the numbers
 -- change.
-use Rattle.std.specs.Prelude.{◌≡◌, ℕ, ◌^◌, ◌<◌, if◌then◌else◌, List, [], ◌∷◌, map, All, Option, Some, None, slice_index_or, length}
+use Rattle.std.specs.Prelude.{◌≡◌, ℕ, ◌^◌, ◌<◌, if◌then◌else◌, List, [], ◌∷◌, map, All, Option, Some, None}
+use Rattle.std.specs.Prelude.{slice_index_or, length}
 use Rattle.std.specs.List.{flat_map}
 use Rattle.std.specs.Option.{IsSome, option_map_or}
 use Rattle.dexspec.specs.Bytes.{ushort}

@@ -1,11 +1,18 @@
 -- The enums of the code, as what they mean.
-use Rattle.std.specs.Prelude.{◌≡◌, ℕ, ◌+◌, ◌^◌, ◌<◌, ◌≤◌, Bool, false, List, [], length, map, slice_index, Option, Some, None}
+use Rattle.std.specs.Prelude.{◌≡◌, ℕ, ◌+◌, ◌^◌, ◌<◌, ◌≤◌, Bool, false, List, [], length, map, slice_index, Option, Some}
+use Rattle.std.specs.Prelude.{None}
 use Rattle.std.specs.List.{range_with_len}
 use Rattle.std.specs.Borrow.{Bor}
 use Rattle.std.specs.Option.{option_and_then, option_map, option_map_or}
-use Rattle.dexspec.specs.Opcodes.{opcode_of, units_in, Format as Meant, F10x, F12x, F11n, F11x, F10t, F20t, F22x, F21t, F21s, F21h, F21c, F23x, F22b, F22s, F22t, F22c, F30t, F32x, F31i, F31t, F31c, F35c, F3rc, F51l}
+use Rattle.dexspec.specs.Opcodes.{opcode_of, units_in, Format as Meant, F10x, F12x, F11n, F11x, F10t, F20t, F22x, F21t}
+use Rattle.dexspec.specs.Opcodes.{F21s, F21h, F21c, F23x, F22b, F22s, F22t, F22c, F30t, F32x, F31i, F31t, F31c, F35c}
+use Rattle.dexspec.specs.Opcodes.{F3rc, F51l}
 use Rattle.dexinsn.specs.declared.format.Format.{Format}
-use Rattle.dexinsn.specs.declared.format.Format.TheVariants.{Format10x, Format12x, Format11n, Format11x, Format10t, Format20t, Format22x, Format21t, Format21s, Format21h, Format21c, Format23x, Format22b, Format22s, Format22t, Format22c, Format30t, Format32x, Format31i, Format31t, Format31c, Format35c, Format3rc, Format51l}
+use Rattle.dexinsn.specs.declared.format.Format.TheVariants.{Format10x, Format12x, Format11n, Format11x, Format10t}
+use Rattle.dexinsn.specs.declared.format.Format.TheVariants.{Format20t, Format22x, Format21t, Format21s, Format21h}
+use Rattle.dexinsn.specs.declared.format.Format.TheVariants.{Format21c, Format23x, Format22b, Format22s, Format22t}
+use Rattle.dexinsn.specs.declared.format.Format.TheVariants.{Format22c, Format30t, Format32x, Format31i, Format31t}
+use Rattle.dexinsn.specs.declared.format.Format.TheVariants.{Format31c, Format35c, Format3rc, Format51l}
 use Rattle.dexinsn.specs.declared.opcodes.IndexKind.{IndexKind}
 use Rattle.dexinsn.specs.declared.opcodes.IndexKind.TheVariants as indices
 use Rattle.dexinsn.specs.declared.opcodes.Row.{Row}

@@ -1,5 +1,6 @@
 -- Pieces as they are read from a file.
-use Rattle.std.specs.Prelude.{◌≡◌, ℕ, ◌+◌, ◌*◌, ◌%◌, ◌^◌, ◌<◌, pos, Bool, false, List, [], ◌∷◌, drop, All, MatchOption, Option, Some, None, slice_index_or}
+use Rattle.std.specs.Prelude.{◌≡◌, ℕ, ◌+◌, ◌*◌, ◌%◌, ◌^◌, ◌<◌, pos, Bool, false, List, [], ◌∷◌, drop, All, MatchOption}
+use Rattle.std.specs.Prelude.{Option, Some, None, slice_index_or}
 use Rattle.dexspec.specs.Bytes.{uint_at}
 use Rattle.dexspec.specs.Sections.{IsInData}
 use Rattle.dexspec.specs.Symbols.{Pool}

@@ -1,11 +1,13 @@
 -- What the cuts and faults of the code mean.
-use Rattle.std.specs.Prelude.{Result, Ok, Err, ◌≡◌, ◌≢◌, ◌⊎◌, Vec, ℕ, ◌+◌, ◌<◌, Bool, not, List, [], ◌∷◌, length, drop, map, slice_index, Option, Some, None, ℤ, pos, ◌+ℤ◌, nat_abs, ◌&&◌}
+use Rattle.std.specs.Prelude.{Result, Ok, Err, ◌≡◌, ◌≢◌, ◌⊎◌, Vec, ℕ, ◌+◌, ◌<◌, Bool, not, List, [], ◌∷◌, length, drop}
+use Rattle.std.specs.Prelude.{map, slice_index, Option, Some, None, ℤ, pos, ◌+ℤ◌, nat_abs, ◌&&◌}
 use Rattle.std.specs.List.{find, list_any, list_all}
 use Rattle.std.specs.declared.alloc.Global.{Global}
 use Rattle.std.specs.Option.{option_map}
 use Rattle.std.specs.Ordering.{int_eq}
 use Rattle.dexspec.specs.Opcodes.{Format}
-use Rattle.dexspec.specs.Pieces.{all_of_option, IsCode, branch_offset, is_right_target, Cut, AreCut, has_right_targets, is_instruction_start, is_payload_start, payload_targets, piece_size}
+use Rattle.dexspec.specs.Pieces.{all_of_option, IsCode, branch_offset, is_right_target, Cut, AreCut, has_right_targets}
+use Rattle.dexspec.specs.Pieces.{is_instruction_start, is_payload_start, payload_targets, piece_size}
 use Rattle.dexinsn.specs.declared.code.Cut.{Cut as CutOfCode}
 use Rattle.dexinsn.specs.declared.code_fault.CodeFault.{CodeFault}
 

@@ -1,10 +1,13 @@
 -- Pieces as they are stored: the units as bytes of the file, and beside them the number of each symbol with the unit
 -- at which its instruction begins.
-use Rattle.std.specs.Prelude.{◌≡◌, ℕ, zero, suc, ◌+◌, ◌-◌, ◌/◌, ◌%◌, ◌^◌, ◌<◌, ◌≤◌, Bool, false, if◌then◌else◌, List, [], ◌∷◌, ◌++◌, length, take, drop, map, All, slice_index, Option, Some, None, true, unwrap_or}
+use Rattle.std.specs.Prelude.{◌≡◌, ℕ, zero, suc, ◌+◌, ◌-◌, ◌/◌, ◌%◌, ◌^◌, ◌<◌, ◌≤◌, Bool, false, if◌then◌else◌, List}
+use Rattle.std.specs.Prelude.{[], ◌∷◌, ◌++◌, length, take, drop, map, All, slice_index, Option, Some, None, true}
+use Rattle.std.specs.Prelude.{unwrap_or}
 use Rattle.std.specs.Option.{option_map_or}
 use Rattle.std.specs.List.{flat_map}
 use Rattle.dexspec.specs.Symbols.{Pool}
-use Rattle.dexspec.specs.Pieces.{Cut, AreCut, cut_units, piece_size, index_pool, is_payload_ident, is_wide_index, with_index}
+use Rattle.dexspec.specs.Pieces.{Cut, AreCut, cut_units, piece_size, index_pool, is_payload_ident, is_wide_index}
+use Rattle.dexspec.specs.Pieces.{with_index}
 use Rattle.dexinsn.specs.declared.pieces.Index.{Index}
 use Rattle.dexpool.specs.Uses.{Use}
 use Rattle.dexinsn.specs.Numbered.{NumberedPiece, Instruction, Payload, kind_in, index_room}

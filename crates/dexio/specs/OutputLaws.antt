@@ -1,5 +1,6 @@
 -- The laws of the outputs: bytes are written one after the other.
-use Rattle.std.proofs.Common.{◌≡◌, ℕ, ◌+◌, ◌-◌, ◌^◌, ◌<◌, min, List, [], ◌∷◌, ◌++◌, length, Result, Ok, Err, sym, ◌∙◌, ap, arith, append_assoc, length-append, lt-ltb, refl}
+use Rattle.std.proofs.Common.{◌≡◌, ℕ, ◌+◌, ◌-◌, ◌^◌, ◌<◌, min, List, [], ◌∷◌, ◌++◌, length, Result, Ok, Err, sym, ◌∙◌}
+use Rattle.std.proofs.Common.{ap, arith, append_assoc, length-append, lt-ltb, refl}
 use Rattle.std.specs.Global.{Vec}
 use Rattle.std.proofs.lemmas.List.{append-nil}
 use Rattle.dexspec.specs.Numbers.{uleb128}

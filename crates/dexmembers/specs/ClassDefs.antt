@@ -1,6 +1,7 @@
 -- Rows of class definitions as they are read.
 use Rattle.std.specs.Prelude.{◌≡◌, ℕ, List}
-use Rattle.dexspec.specs.Classes.{class_idx, access_flags, superclass_idx, interfaces_off, source_file_idx, annotations_off, class_data_off, static_values_off}
+use Rattle.dexspec.specs.Classes.{class_idx, access_flags, superclass_idx, interfaces_off, source_file_idx}
+use Rattle.dexspec.specs.Classes.{annotations_off, class_data_off, static_values_off}
 use Rattle.dexmembers.specs.declared.class_def.ClassDef.{ClassDef}
 
 -- class row r has these fields

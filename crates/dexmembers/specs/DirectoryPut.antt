@@ -1,5 +1,6 @@
 -- Annotations directories as they are put: pairs of an index and an offset, those of two lists merged.
-use Rattle.std.specs.Prelude.{ℕ, ◌+◌, nat_lt, if◌then◌else◌, ◌==◌, List, [], ◌∷◌, ◌++◌, map, length, take, drop, ◌≡◌, ◌≤◌, ◌*◌, vec_capacity, vec_len}
+use Rattle.std.specs.Prelude.{ℕ, ◌+◌, nat_lt, if◌then◌else◌, ◌==◌, List, [], ◌∷◌, ◌++◌, map, length, take, drop, ◌≡◌}
+use Rattle.std.specs.Prelude.{◌≤◌, ◌*◌, vec_capacity, vec_len}
 use Rattle.std.specs.List.{flat_map, zip}
 use Rattle.std.specs.Global.{Vec}
 use Rattle.dexspec.specs.Bytes.{uint}

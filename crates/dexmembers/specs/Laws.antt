@@ -13,7 +13,8 @@ use Rattle.dexpool.specs.declared.marks.Marks.{Marks}
 use Rattle.dexinsn.specs.Fitting.{ImagesFit, IsGreatest, MapsShort}
 use Rattle.dexmembers.specs.DirectoryPut.{numbered_directory_bytes}
 use Rattle.dexmembers.specs.Fitting.{NumbersFit, members_short_strings}
-use Rattle.dexmembers.specs.Numbered.{NumberedMembers, AreKnownMembers, AreOfClass, AreOrdered, fields_of, methods_of, members_in, members_of}
+use Rattle.dexmembers.specs.Numbered.{NumberedMembers, AreKnownMembers, AreOfClass, AreOrdered, fields_of, methods_of}
+use Rattle.dexmembers.specs.Numbered.{members_in, members_of}
 use Rattle.dexmembers.specs.Renumbering.{MembersHavePlaces, renumbered_members}
 use Rattle.dexmembers.specs.Spelled.{numbered_class_data_bytes}
 use Rattle.dexmembers.specs.Stripped.{method_tries, strip_members, stripped_members}

@@ -11,7 +11,8 @@ use Rattle.dexspec.specs.Classes.{FieldDef, MethodDef, Body}
 use Rattle.dexspec.specs.Mentions.{Mentions}
 use Rattle.dexcode.specs.Numbered.{NumberedItem}
 use Rattle.dexcode.specs.Meaning.{code_in, IsKnownCode}
-use Rattle.dexval.specs.Numbered.{NumberedSet, NumberedValues, NoValue, set_in, values_in, field_at, method_at, IsKnownSet, AreKnown}
+use Rattle.dexval.specs.Numbered.{NumberedSet, NumberedValues, NoValue, set_in, values_in, field_at, method_at}
+use Rattle.dexval.specs.Numbered.{IsKnownSet, AreKnown}
 
 -- A declared field: its number, its access flags, and its annotations.
 pub record NumberedField : Type 0 where

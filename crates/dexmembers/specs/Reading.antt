@@ -6,7 +6,8 @@ use Rattle.dexspec.specs.Texts.{Text}
 use Rattle.dexspec.specs.Values.{NoValues}
 use Rattle.dexspec.specs.Annotations.{Directory, DirectoryAt, no_directory}
 use Rattle.dexspec.specs.ClassData.{ClassData, ClassDataAt, no_class_data}
-use Rattle.dexspec.specs.Classes.{MakesMethod, StaticValuesAt, ClassTypeRow, field_def, class_idx, annotations_off, class_data_off, static_values_off}
+use Rattle.dexspec.specs.Classes.{MakesMethod, StaticValuesAt, ClassTypeRow, field_def, class_idx, annotations_off}
+use Rattle.dexspec.specs.Classes.{class_data_off, static_values_off}
 use Rattle.dexspec.specs.Conditions.{Condition}
 use Rattle.dexspec.specs.Accepted.{IsReadable, Holds, HasClass, number}
 use Rattle.dexspec.specs.Mentions.{Mentions}

@@ -7,7 +7,8 @@ use Rattle.dexspec.specs.Mentions.{Mentions}
 use Rattle.dexspec.specs.Spellings.{class_data_bytes}
 use Rattle.dexspec.specs.Texts.{Text}
 use Rattle.dexspec.specs.internal.Writing.{Puts}
-use Rattle.dexmembers.specs.Numbered.{NumberedField, NumberedMethod, NumberedMembers, AreKnownMembers, AreOfClass, fields_of, methods_of, members_in, members_of}
+use Rattle.dexmembers.specs.Numbered.{NumberedField, NumberedMethod, NumberedMembers, AreKnownMembers, AreOfClass}
+use Rattle.dexmembers.specs.Numbered.{fields_of, methods_of, members_in, members_of}
 use Rattle.dexpool.specs.Numberings.{AreRising}
 
 -- ---- class data

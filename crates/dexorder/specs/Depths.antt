@@ -1,6 +1,7 @@
 -- The depths of numbered classes. Source: "Dalvik Executable format", "class_defs": a class comes after its superclass
 -- and interfaces. Depth is a term of this project.
-use Rattle.std.specs.Prelude.{◌≡◌, ℕ, zero, suc, ◌<◌, Bool, true, false, List, [], length, All, Option, None, Some, slice_index_or}
+use Rattle.std.specs.Prelude.{◌≡◌, ℕ, zero, suc, ◌<◌, Bool, true, false, List, [], length, All, Option, None, Some}
+use Rattle.std.specs.Prelude.{slice_index_or}
 use Rattle.std.specs.List.{Contains, list_all}
 
 -- the parents of class i

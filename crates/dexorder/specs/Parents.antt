@@ -1,6 +1,7 @@
 -- Classes that have types as their names and as their parents. Types and classes are numbers.
 -- Source: "Dalvik Executable format", "class_def_item": class_idx, superclass_idx and interfaces_off.
-use Rattle.std.specs.Prelude.{◌≡◌, ℕ, ◌<◌, List, ◌++◌, length, map, All, Option, None, Some, IsSome, option_to_list, slice_index_or}
+use Rattle.std.specs.Prelude.{◌≡◌, ℕ, ◌<◌, List, ◌++◌, length, map, All, Option, None, Some, IsSome, option_to_list}
+use Rattle.std.specs.Prelude.{slice_index_or}
 use Rattle.dexspec.specs.Lists.{present}
 use Rattle.dexorder.specs.Depths.{AreDepths}
 

@@ -1,5 +1,6 @@
 -- Bytes that a writer has taken.
-use Rattle.std.proofs.Common.{◌≡◌, ℕ, ◌+◌, ◌≤◌, List, ◌++◌, [], length, take, min, inl, inr, refl, sym, ◌∙◌, ap, append_assoc, arith}
+use Rattle.std.proofs.Common.{◌≡◌, ℕ, ◌+◌, ◌≤◌, List, ◌++◌, [], length, take, min, inl, inr, refl, sym, ◌∙◌, ap}
+use Rattle.std.proofs.Common.{append_assoc, arith}
 use Rattle.std.proofs.lemmas.Bool.{cases_lt}
 use Rattle.std.proofs.lemmas.List.{append-nil, take_all, take-append-le, length-take}
 use Rattle.std.proofs.Math.Seq.{take-append-add}
@@ -39,21 +40,28 @@ module _ {W : Type 0} (reports : W → Type 0) (taken : W → List ℕ) where
       → Took reports taken (x ++ y) a c
   took_both x y a b c h g = record {
     same = g.same ∙ h.same;
-    all = λ t. let one = h.all t in let two = g.all one.0 in (two.0, two.1 ∙ ap (λ bs. bs ++ y) one.1 ∙ append_assoc (taken a.sink.now) x y);
+    all = λ t.
+        let one = h.all t in
+        let two = g.all one.0 in
+        (two.0, two.1 ∙ ap (λ bs. bs ++ y) one.1 ∙ append_assoc (taken a.sink.now) x y);
   }
 
   pub took_whole : (x : List ℕ) (a b : Writer W) → Took reports taken x a b → TookPrefix reports taken x a b
   took_whole x a b h =
       record {
         same = h.same;
-        some = λ t. (length x, (h.all t).1 ∙ ap (λ z. taken a.sink.now ++ z) (sym (take_all (length x) x (omega arith))));
+        some =
+            λ t. (length x, (h.all t).1 ∙ ap (λ z. taken a.sink.now ++ z) (sym (take_all (length x) x (omega arith))));
       }
 
   pub took_more : (x y : List ℕ) (a b : Writer W) → TookPrefix reports taken x a b
       → TookPrefix reports taken (x ++ y) a b
   took_more x y a b h = record {
     same = h.same;
-    some = λ t. let one = h.some t in let k = prefix_of one.0 x y in (k.0, one.1 ∙ ap (λ z. taken a.sink.now ++ z) (sym k.1));
+    some = λ t.
+        let one = h.some t in
+        let k = prefix_of one.0 x y in
+        (k.0, one.1 ∙ ap (λ z. taken a.sink.now ++ z) (sym k.1));
   }
 
   pub took_after : (x y : List ℕ) (a b c : Writer W) → Took reports taken x a b → TookPrefix reports taken y b c

@@ -1,7 +1,8 @@
 -- The symbol of a kind and a number.
 use Rattle.std.specs.Prelude.{ℕ, [], slice_index_or}
 use Rattle.dexspec.specs.Texts.{Text}
-use Rattle.dexspec.specs.Symbols.{Proto, Field, Method, Symbol, TextSymbol, TypeSymbol, ProtoSymbol, FieldSymbol, MethodSymbol}
+use Rattle.dexspec.specs.Symbols.{Proto, Field, Method, Symbol, TextSymbol, TypeSymbol, ProtoSymbol, FieldSymbol}
+use Rattle.dexspec.specs.Symbols.{MethodSymbol}
 use Rattle.dexspec.specs.Mentions.{Mentions}
 use Rattle.dexpool.specs.declared.symbols.SymbolKind.{SymbolKind}
 use Rattle.dexpool.specs.declared.symbols.SymbolKind.TheVariants as kinds

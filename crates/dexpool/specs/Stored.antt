@@ -9,7 +9,8 @@ use Rattle.dexrows.specs.declared.fields.FieldRow.{FieldRow}
 use Rattle.dexrows.specs.declared.methods.MethodRow.{MethodRow}
 use Rattle.dexids.specs.declared.rows.ProtoEntry.{ProtoEntry}
 use Rattle.dexpool.specs.declared.numbering.Tables.{Tables}
-use Rattle.dexids.specs.Tables.{text_of, type_of, span_of, type_cmp, proto_cmp, field_cmp, method_cmp, proto_of, field_of, method_of}
+use Rattle.dexids.specs.Tables.{text_of, type_of, span_of, type_cmp, proto_cmp, field_cmp, method_cmp, proto_of}
+use Rattle.dexids.specs.Tables.{field_of, method_of}
 use Rattle.dexids.specs.Reading.{HasSpan}
 use Rattle.dexpool.specs.Pools.{symbols_of}
 

@@ -1,5 +1,6 @@
 -- The kinds of type descriptors, as the code finds them.
-use Rattle.std.specs.Prelude.{ℕ, suc, Bool, true, false, ◌&&◌, ◌||◌, List, [], ◌∷◌, drop, Option, Some, None, is_some, if◌then◌else◌, nat_le, ◌==◌}
+use Rattle.std.specs.Prelude.{ℕ, suc, Bool, true, false, ◌&&◌, ◌||◌, List, [], ◌∷◌, drop, Option, Some, None, is_some}
+use Rattle.std.specs.Prelude.{if◌then◌else◌, nat_le, ◌==◌}
 use Rattle.dexspec.specs.Names.{TypeKind, VoidType, PrimitiveType, ClassType, ArrayType}
 use Rattle.dexstr.specs.declared.descriptors.Kind.{Kind}
 use Rattle.dexstr.specs.declared.descriptors.Kind.TheVariants.{Void, Primitive, Class, Array}

@@ -5,10 +5,12 @@ use Rattle.dexspec.specs.Mentions.{Mentions}
 use Rattle.dexspec.specs.Weight.{value_weight, static_values_weight, set_weight}
 use Rattle.dexval.specs.Items.{IsItemAt}
 use Rattle.dexval.specs.Nesting.{AreReadAt, IsElementReadAt, AreElementsReadAt, IsAnnotationReadAt}
-use Rattle.dexval.specs.Numbered.{NumberedValue, NumberedValues, NumberedElements, NumberedAnnotation, NumberedSet, AreKnown, value_in, values_in, set_in}
+use Rattle.dexval.specs.Numbered.{NumberedValue, NumberedValues, NumberedElements, NumberedAnnotation, NumberedSet}
+use Rattle.dexval.specs.Numbered.{AreKnown, value_in, values_in, set_in}
 use Rattle.dexval.specs.Reading.{IsValueAt, IsSetAt}
 use Rattle.dexval.specs.internal.Scalars.{IsReadAt}
-use Rattle.dexval.specs.Spelled.{values_count, numbered_weight, numbered_values_weight, numbered_elements_weight, numbered_annotation_weight}
+use Rattle.dexval.specs.Spelled.{values_count, numbered_weight, numbered_values_weight, numbered_elements_weight}
+use Rattle.dexval.specs.Spelled.{numbered_annotation_weight}
 
 -- ---- within a value
 

@@ -2,7 +2,9 @@
 use Rattle.std.specs.Prelude.{ℕ, List, map}
 use Rattle.std.specs.Global.{Vec}
 use Rattle.dexval.specs.declared.value.Value.{Value}
-use Rattle.dexval.specs.declared.value.Value.TheOpen.{Value-F, Element-F, EncodedAnnotation-F, Byte, Short, Char, Int, Long, Float, Double, String, Typ, Field, Method, Enum, Array, Annotation, Null, Boolean}
+use Rattle.dexval.specs.declared.value.Value.TheOpen.{Value-F, Element-F, EncodedAnnotation-F, Byte, Short, Char, Int}
+use Rattle.dexval.specs.declared.value.Value.TheOpen.{Long, Float, Double, String, Typ, Field, Method, Enum, Array}
+use Rattle.dexval.specs.declared.value.Value.TheOpen.{Annotation, Null, Boolean}
 use Rattle.dexval.specs.declared.value.Value.TheFolds.{fold-Value, fold-Element}
 use Rattle.dexval.specs.declared.value.Element.{Element}
 use Rattle.dexval.specs.declared.value.EncodedAnnotation.{EncodedAnnotation, out-EncodedAnnotation}
@@ -11,7 +13,11 @@ use Rattle.dexval.specs.declared.annotation.Visibility.TheVariants.{Build, Runti
 use Rattle.dexval.specs.declared.annotation.Annotation.{Annotation as CodeAnnotation}
 use Rattle.dexval.specs.declared.set.AnnotationSet.{AnnotationSet}
 use Rattle.dexval.specs.declared.directory.Directory.{Directory}
-use Rattle.dexval.specs.Numbered.{NumberedValue, NumberedValues, NumberedElements, NumberedAnnotation, NumberedSet, NumberedDirectory, Plain, Named, Annotated, ByteLiteral, ShortLiteral, CharLiteral, IntLiteral, LongLiteral, FloatLiteral, DoubleLiteral, NullLiteral, BooleanLiteral, StringReference, TypeReference, FieldReference, MethodReference, EnumReference, values_of_list, elements_of_list}
+use Rattle.dexval.specs.Numbered.{NumberedValue, NumberedValues, NumberedElements, NumberedAnnotation, NumberedSet}
+use Rattle.dexval.specs.Numbered.{NumberedDirectory, Plain, Named, Annotated, ByteLiteral, ShortLiteral, CharLiteral}
+use Rattle.dexval.specs.Numbered.{IntLiteral, LongLiteral, FloatLiteral, DoubleLiteral, NullLiteral, BooleanLiteral}
+use Rattle.dexval.specs.Numbered.{StringReference, TypeReference, FieldReference, MethodReference, EnumReference}
+use Rattle.dexval.specs.Numbered.{values_of_list, elements_of_list}
 use Rattle.dexval.specs.Numbered as numbered
 
 -- one value, whose inner values are models

@@ -3,7 +3,8 @@ use Rattle.std.specs.Prelude.{◌≡◌, ◌≢◌, ℕ, ◌+◌, ◌*◌, ◌%�
 use Rattle.dexspec.specs.Lists.{OrNone}
 use Rattle.dexspec.specs.Bytes.{uint_at}
 use Rattle.dexspec.specs.Sections.{IsInData}
-use Rattle.dexspec.specs.Annotations.{AnnotationSet, Directory, SetAt, RefListAt, PairsAt, DirectoryAt, fields_count, methods_count, parameters_count}
+use Rattle.dexspec.specs.Annotations.{AnnotationSet, Directory, SetAt, RefListAt, PairsAt, DirectoryAt, fields_count}
+use Rattle.dexspec.specs.Annotations.{methods_count, parameters_count}
 use Rattle.dexspec.specs.Mentions.{Mentions}
 use Rattle.dexspec.specs.Weight.{set_weight, ref_list_weight}
 use Rattle.dexval.specs.Numbered.{NumberedSet, IsKnownSet, set_in}

@@ -8,7 +8,8 @@ use Rattle.std.specs.Hash as fed
 use base.Stored.{Gv, gnil, gnum, gcons}
 use Rattle.dexval.specs.declared.set.AnnotationSet.{AnnotationSet}
 use Rattle.dexval.specs.Code.{set_of}
-use Rattle.dexval.specs.Numbered.{NumberedValue, NumberedValues, NumberedElements, NumberedAnnotation, NumberedSet, Plain, Named, Array, Annotated, NoValue, ThenNext, NoElement, ThenNamed}
+use Rattle.dexval.specs.Numbered.{NumberedValue, NumberedValues, NumberedElements, NumberedAnnotation, NumberedSet}
+use Rattle.dexval.specs.Numbered.{Plain, Named, Array, Annotated, NoValue, ThenNext, NoElement, ThenNamed}
 use Rattle.dexval.specs.internal.Heads.{literal_head}
 use Rattle.dexval.specs.internal.Scalars.{code_of_reference}
 use Rattle.dexval.specs.Stored.{elements_code}

@@ -4,11 +4,13 @@ use Rattle.dexspec.specs.Lists.{rises}
 use Rattle.dexspec.specs.Numbers.{Uleb128At}
 use Rattle.dexspec.specs.Texts.{Text, text_cmp}
 use Rattle.dexspec.specs.Rows.{StringRow}
-use Rattle.dexspec.specs.Values.{Value, Values, Elements, ValueAt, ElementsAt, EncodedArrayAt, EncodedAnnotationAt, value_depth, values_depth, elements_depth, names_of}
+use Rattle.dexspec.specs.Values.{Value, Values, Elements, ValueAt, ElementsAt, EncodedArrayAt, EncodedAnnotationAt}
+use Rattle.dexspec.specs.Values.{value_depth, values_depth, elements_depth, names_of}
 use Rattle.dexspec.specs.Mentions.{Mentions}
 use Rattle.dexpool.specs.Pools.{ArePools}
 use Rattle.dexpool.specs.Numberings.{AreRising}
-use Rattle.dexval.specs.Numbered.{NumberedValue, NumberedValues, NumberedElements, AreKnown, HaveKnown, values_in, elements_in, type_at}
+use Rattle.dexval.specs.Numbered.{NumberedValue, NumberedValues, NumberedElements, AreKnown, HaveKnown, values_in}
+use Rattle.dexval.specs.Numbered.{elements_in, type_at}
 use Rattle.dexval.specs.internal.Scalars.{IsReadAt}
 
 -- the pools are those of the file, and rise

@@ -2,7 +2,10 @@
 use Rattle.std.specs.Prelude.{◌≡◌, ℕ, ℤ, ◌<◌, Bool, List, [], ◌∷◌, map, length, All, slice_index_or}
 use Rattle.dexspec.specs.Texts.{Text}
 use Rattle.dexspec.specs.Symbols.{Field, Method}
-use Rattle.dexspec.specs.Values.{Value, ByteValue, ShortValue, CharValue, IntValue, LongValue, FloatValue, DoubleValue, StringValue, TypeValue, FieldValue, MethodValue, EnumValue, ArrayValue, AnnotationValue, NullValue, BooleanValue, Values, NoValues, ThenValue, Elements, NoElements, ThenElement}
+use Rattle.dexspec.specs.Values.{Value, ByteValue, ShortValue, CharValue, IntValue, LongValue, FloatValue, DoubleValue}
+use Rattle.dexspec.specs.Values.{StringValue, TypeValue, FieldValue, MethodValue, EnumValue, ArrayValue}
+use Rattle.dexspec.specs.Values.{AnnotationValue, NullValue, BooleanValue, Values, NoValues, ThenValue, Elements}
+use Rattle.dexspec.specs.Values.{NoElements, ThenElement}
 use Rattle.dexspec.specs.Annotations.{Annotation, AnnotationSet, Directory}
 use Rattle.dexspec.specs.Mentions.{Mentions}
 use Rattle.dexpool.specs.declared.symbols.SymbolKind.{SymbolKind}

@@ -8,7 +8,8 @@ use Rattle.dexpool.specs.declared.faults.ItemFault.{ItemFault}
 use Rattle.dexpool.specs.declared.faults.ItemFault.TheVariants.{Refused, Memory}
 use Rattle.dexval.specs.Directories.{directory_weight}
 use Rattle.dexval.specs.Items.{Refuses}
-use Rattle.dexval.specs.Numbered.{NumberedValue, NumberedValues, NumberedSet, NumberedDirectory, IsKnown, AreKnown, IsKnownSet, IsKnownDirectory, value_in, values_in, set_in, directory_in}
+use Rattle.dexval.specs.Numbered.{NumberedValue, NumberedValues, NumberedSet, NumberedDirectory, IsKnown, AreKnown}
+use Rattle.dexval.specs.Numbered.{IsKnownSet, IsKnownDirectory, value_in, values_in, set_in, directory_in}
 
 -- an encoded_value that nests at most `most_depth` deep is at offset o of the data
 pub record EncodedValueAt (b : List ℕ) (o : ℕ) (v : Value) (n : ℕ) : Type 0 where

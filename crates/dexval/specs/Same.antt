@@ -6,7 +6,8 @@ use Rattle.dexval.specs.declared.set.AnnotationSet.{AnnotationSet}
 use Rattle.dexval.specs.declared.value.Element.{Element}
 use Rattle.dexval.specs.declared.value.Value.{Value}
 use Rattle.dexval.specs.Code.{value_of, values_of, element_of, elements_of, annotation_of, set_of}
-use Rattle.dexval.specs.Renumbering.{renumbered, renumbered_values, renumbered_element, renumbered_elements, renumbered_annotation, renumbered_set}
+use Rattle.dexval.specs.Renumbering.{renumbered, renumbered_values, renumbered_element, renumbered_elements}
+use Rattle.dexval.specs.Renumbering.{renumbered_annotation, renumbered_set}
 
 -- two values
 abbrev pub SameValue : Maps → Value → Maps → Value → Type 0

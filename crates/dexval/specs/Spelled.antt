@@ -4,7 +4,11 @@ use Rattle.dexspec.specs.Numbers.{uleb128}
 use Rattle.dexspec.specs.Values.{value_byte}
 use Rattle.dexspec.specs.Spellings.{unsigned_bytes, signed_bytes, bits_bytes, offsets_bytes}
 use Rattle.dexspec.specs.Placing.{offsets_from}
-use Rattle.dexval.specs.Numbered.{Literal, ByteLiteral, ShortLiteral, CharLiteral, IntLiteral, LongLiteral, FloatLiteral, DoubleLiteral, NullLiteral, BooleanLiteral, Reference, StringReference, TypeReference, FieldReference, MethodReference, EnumReference, NumberedValue, NumberedValues, NumberedElements, NumberedAnnotation, NumberedSet, Plain, Named, Array, Annotated, NoValue, ThenNext, NoElement, ThenNamed}
+use Rattle.dexval.specs.Numbered.{Literal, ByteLiteral, ShortLiteral, CharLiteral, IntLiteral, LongLiteral}
+use Rattle.dexval.specs.Numbered.{FloatLiteral, DoubleLiteral, NullLiteral, BooleanLiteral, Reference, StringReference}
+use Rattle.dexval.specs.Numbered.{TypeReference, FieldReference, MethodReference, EnumReference, NumberedValue}
+use Rattle.dexval.specs.Numbered.{NumberedValues, NumberedElements, NumberedAnnotation, NumberedSet, Plain, Named}
+use Rattle.dexval.specs.Numbered.{Array, Annotated, NoValue, ThenNext, NoElement, ThenNamed}
 
 -- ---- counts
 

@@ -3,7 +3,11 @@ use Rattle.std.specs.Prelude.{◌≡◌, ℕ, ◌==◌, T}
 use Rattle.std.proofs.Common.{refl, sym, ap, subst}
 use Rattle.std.specs.Coded.{Coded, coded_ℕ, coded_ℤ, coded_bool}
 use base.Stored.{Gv, gnil, gnum, gcons}
-use Rattle.dexval.specs.Numbered.{Literal, ByteLiteral, ShortLiteral, CharLiteral, IntLiteral, LongLiteral, FloatLiteral, DoubleLiteral, NullLiteral, BooleanLiteral, Reference, StringReference, TypeReference, FieldReference, MethodReference, EnumReference, NumberedValue, NumberedValues, NumberedElements, Plain, Named, Array, Annotated, NoValue, ThenNext, NoElement, ThenNamed}
+use Rattle.dexval.specs.Numbered.{Literal, ByteLiteral, ShortLiteral, CharLiteral, IntLiteral, LongLiteral}
+use Rattle.dexval.specs.Numbered.{FloatLiteral, DoubleLiteral, NullLiteral, BooleanLiteral, Reference, StringReference}
+use Rattle.dexval.specs.Numbered.{TypeReference, FieldReference, MethodReference, EnumReference, NumberedValue}
+use Rattle.dexval.specs.Numbered.{NumberedValues, NumberedElements, Plain, Named, Array, Annotated, NoValue, ThenNext}
+use Rattle.dexval.specs.Numbered.{NoElement, ThenNamed}
 
 -- the first number of a code of several parts
 abbrev tag : Gv → ℕ

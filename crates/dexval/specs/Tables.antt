@@ -1,5 +1,6 @@
 -- Sets of annotations, and lists of them, that are each kept once and named by their places.
-use Rattle.std.specs.Prelude.{◌≡◌, ◌⊎◌, ℕ, ◌<◌, List, [], ◌∷◌, ◌++◌, length, map, All, Option, Some, None, slice_index_or}
+use Rattle.std.specs.Prelude.{◌≡◌, ◌⊎◌, ℕ, ◌<◌, List, [], ◌∷◌, ◌++◌, length, map, All, Option, Some, None}
+use Rattle.std.specs.Prelude.{slice_index_or}
 use Rattle.std.specs.List.{Contains}
 use Rattle.dexpool.specs.Numberings.{Maps}
 use Rattle.dexval.specs.Numbered.{NumberedSet}

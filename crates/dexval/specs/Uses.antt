@@ -2,7 +2,9 @@
 use Rattle.std.specs.Prelude.{ℕ, List, [], ◌∷◌, ◌++◌}
 use Rattle.std.specs.List.{flat_map}
 use Rattle.dexpool.specs.declared.symbols.SymbolKind.TheVariants as kinds
-use Rattle.dexval.specs.Numbered.{NumberedValue, NumberedValues, NumberedElements, NumberedAnnotation, NumberedSet, Plain, Named, Array, Annotated, NoValue, ThenNext, NoElement, ThenNamed, kind_of_reference}
+use Rattle.dexval.specs.Numbered.{NumberedValue, NumberedValues, NumberedElements, NumberedAnnotation, NumberedSet}
+use Rattle.dexval.specs.Numbered.{Plain, Named, Array, Annotated, NoValue, ThenNext, NoElement, ThenNamed}
+use Rattle.dexval.specs.Numbered.{kind_of_reference}
 use Rattle.dexpool.specs.Uses.{Use}
 
 abbrev mutual

@@ -14,8 +14,10 @@ use Rattle.dexval.specs.declared.set.AnnotationSet.{AnnotationSet}
 use Rattle.dexval.specs.declared.value.Value.{Value}
 use Rattle.dexval.specs.Code.{value_of, values_of, annotation_of, set_of}
 use Rattle.dexval.specs.Directories.{set_weight_in}
-use Rattle.dexval.specs.Numbered.{NumberedValue, NumberedValues, NumberedAnnotation, NumberedSet, value_in, values_in, annotation_in, set_in, Denotes, Denote, DenotesAnnotation, DenotesSet}
-use Rattle.dexval.specs.Spelled.{IsCounted, AreCounted, IsCountedAnnotation, numbered_array_bytes, numbered_annotation_bytes}
+use Rattle.dexval.specs.Numbered.{NumberedValue, NumberedValues, NumberedAnnotation, NumberedSet, value_in, values_in}
+use Rattle.dexval.specs.Numbered.{annotation_in, set_in, Denotes, Denote, DenotesAnnotation, DenotesSet}
+use Rattle.dexval.specs.Spelled.{IsCounted, AreCounted, IsCountedAnnotation, numbered_array_bytes}
+use Rattle.dexval.specs.Spelled.{numbered_annotation_bytes}
 
 -- ---- bytes
 

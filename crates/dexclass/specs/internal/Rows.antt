@@ -1,5 +1,6 @@
 -- Class rows as they are checked.
-use Rattle.std.specs.Prelude.{◌≡◌, ◌↔◌, ℕ, ◌<◌, ◌==◌, Bool, false, IsTrue, List, [], ◌∷◌, length, if◌then◌else◌, Option, All, slice_index_or}
+use Rattle.std.specs.Prelude.{◌≡◌, ◌↔◌, ℕ, ◌<◌, ◌==◌, Bool, false, IsTrue, List, [], ◌∷◌, length, if◌then◌else◌, Option}
+use Rattle.std.specs.Prelude.{All, slice_index_or}
 use Rattle.dexspec.specs.Lists.{OrNone}
 use Rattle.dexspec.specs.Texts.{Text}
 use Rattle.dexspec.specs.Header.{ClassDefs, TypeIds, table_size}

@@ -1,5 +1,6 @@
 -- The handlers of a list that tries name, which alone are kept.
-use Rattle.std.specs.Prelude.{◌≡◌, ◌≢◌, ℕ, ◌+◌, ◌*◌, ◌<◌, ◌≤◌, Bool, List, length, All, Option, Some, None, slice_index_or}
+use Rattle.std.specs.Prelude.{◌≡◌, ◌≢◌, ℕ, ◌+◌, ◌*◌, ◌<◌, ◌≤◌, Bool, List, length, All, Option, Some, None}
+use Rattle.std.specs.Prelude.{slice_index_or}
 use Rattle.indexmap.specs.IndexSet.{insert_key}
 use Rattle.dexspec.specs.Bytes.{ushort_at}
 use Rattle.dexcode.specs.declared.handlers.Catch.{Catch}

@@ -10,7 +10,8 @@ use Rattle.dexids.specs.declared.protos.ProtoReader.{ProtoReader}
 use Rattle.dexids.specs.declared.protos.CheckedLists.{CheckedLists}
 use Rattle.dexrows.specs.declared.fields.FieldRow.{FieldRow}
 use Rattle.dexrows.specs.declared.methods.MethodRow.{MethodRow}
-use Rattle.dexids.specs.Reading.{AreNames, IsText, IsType, FieldRowAt, ProtoRowAt, MethodRowAt, AreFields, AreProtos, AreMethods, file_numbers}
+use Rattle.dexids.specs.Reading.{AreNames, IsText, IsType, FieldRowAt, ProtoRowAt, MethodRowAt, AreFields, AreProtos}
+use Rattle.dexids.specs.Reading.{AreMethods, file_numbers}
 use Rattle.dexids.specs.internal.CheckedLists.{AreLetters, letters_in, IsChecked, AreChecked}
 
 -- ---- texts and types

@@ -5,7 +5,8 @@ use Rattle.dexspec.specs.Opcodes.{Format}
 use Rattle.dexspec.specs.Pieces.{Cut}
 use Rattle.dexinsn.specs.declared.code.Cut.{Cut as CutOfCode}
 use Rattle.dexinsn.specs.Bits.{bits_in}
-use Rattle.dexinsn.specs.Checking.{AreBitsOf, AreCodeStarts, AreCutWith, ArePassed, HasNoCode, IsChecked, begins_instruction, is_noted}
+use Rattle.dexinsn.specs.Checking.{AreBitsOf, AreCodeStarts, AreCutWith, ArePassed, HasNoCode, IsChecked}
+use Rattle.dexinsn.specs.Checking.{begins_instruction, is_noted}
 use Rattle.dexinsn.specs.Split.{are_right_targets, branches_right, cuts_of, targets_payload}
 
 -- ---- bits

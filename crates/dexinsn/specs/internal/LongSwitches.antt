@@ -1,5 +1,6 @@
 -- Targets of long switch payloads in groups, and the starts of instructions as bits of words.
-use Rattle.std.specs.Prelude.{◌≡◌, ◌↔◌, ℕ, ◌+◌, ◌*◌, ◌/◌, ◌%◌, ◌<◌, ◌≤◌, Bool, true, List, length, All, slice_index, Some, Vec, ℤ, pos, ◌+ℤ◌, nat_eq}
+use Rattle.std.specs.Prelude.{◌≡◌, ◌↔◌, ℕ, ◌+◌, ◌*◌, ◌/◌, ◌%◌, ◌<◌, ◌≤◌, Bool, true, List, length, All, slice_index}
+use Rattle.std.specs.Prelude.{Some, Vec, ℤ, pos, ◌+ℤ◌, nat_eq}
 use lib.IntN.{negsuc}
 use Rattle.std.specs.Int.{bit_at}
 use Rattle.std.specs.List.{list_all}

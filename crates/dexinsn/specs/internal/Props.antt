@@ -5,4 +5,7 @@ use Rattle.dexspec.specs.Pieces.{Cut, AreCut}
 
 pub AreCut-prop : (at : ℕ) (us : List ℕ) (cs : List Cut) (rest : List ℕ) → IsProp (AreCut at us cs rest)
 AreCut-prop at us [] rest = hlevel props
-AreCut-prop at us (c ∷ cs) rest = let later : IsProp (AreCut (at + c.units) (drop c.units us) cs rest) = AreCut-prop (at + c.units) (drop c.units us) cs rest in hlevel (props, later)
+AreCut-prop at us (c ∷ cs) rest =
+    let later : IsProp (AreCut (at + c.units) (drop c.units us) cs rest) =
+    AreCut-prop (at + c.units) (drop c.units us) cs rest in
+    hlevel (props, later)

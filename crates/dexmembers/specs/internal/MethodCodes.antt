@@ -1,5 +1,6 @@
 -- The code of methods as it is read, one after the other.
-use Rattle.std.specs.Prelude.{◌≢◌, ◌⊎◌, ℕ, ◌<◌, ◌≤◌, List, [], ◌∷◌, ◌++◌, length, Option, Some, None, sum_by, option_to_list, ◌≡◌, ◌+◌, MatchOption, nat_eq}
+use Rattle.std.specs.Prelude.{◌≢◌, ◌⊎◌, ℕ, ◌<◌, ◌≤◌, List, [], ◌∷◌, ◌++◌, length, Option, Some, None, sum_by}
+use Rattle.std.specs.Prelude.{option_to_list, ◌≡◌, ◌+◌, MatchOption, nat_eq}
 use Rattle.std.specs.List.{AllZip, Contains}
 use Rattle.dexspec.specs.Lists.{OrNone, SomeAt, BothOrNone}
 use Rattle.dexspec.specs.Code.{Code, CodeAt}
@@ -88,7 +89,8 @@ CodesWithin reader listed methods =
 
 -- ---- as it is kept
 
--- where there is code, it is the last of the new list, at the place; otherwise the list is the old one, and there is no place
+-- where there is code, it is the last of the new list, at the place; otherwise the list is the old one, and there is no
+-- place
 abbrev pub IsKept : Option NumberedItem → List NumberedItem → List NumberedItem → Option ℕ → Type 0
 IsKept None old new place = (new ≡ old) × (place ≡ None)
 IsKept (Some code) old new place = (new ≡ old ++ code ∷ []) × (place ≡ Some (length old))

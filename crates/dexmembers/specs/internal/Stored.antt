@@ -9,8 +9,8 @@ use Rattle.dexval.specs.Renumbering.{remapped}
 use Rattle.dexval.specs.Tables.{IsPlaceIn}
 use Rattle.dexmembers.specs.Held.{HeldMethod}
 
--- A method as it is stored: its number, its access flags, and the places of its code, of its annotations and of those of
--- its parameters.
+-- A method as it is stored: its number, its access flags, and the places of its code, of its annotations and of those
+-- of its parameters.
 pub record StoredMethod : Type 0 where
   pub number : ℕ
   pub flags : ℕ

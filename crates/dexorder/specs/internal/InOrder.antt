@@ -6,7 +6,8 @@ use Rattle.dexorder.specs.internal.Searching.{is_under_all}
 -- the depth is that below one parent more, if the type is that of a class
 abbrev pub IsDeeper : List (Option ℕ) → List (Option ℕ) → ℕ → ℕ → ℕ → Type 0
 IsDeeper by_type depths depth typ d =
-    MatchOption (slice_index_or by_type typ None) (d ≡ depth) (λ p. (e : ℕ) × (slice_index_or depths p None ≡ Some e) × (d ≡ max depth (suc e)))
+    MatchOption (slice_index_or by_type typ None) (d ≡ depth)
+    (λ p. (e : ℕ) × (slice_index_or depths p None ≡ Some e) × (d ≡ max depth (suc e)))
 
 -- these are depths of the first classes
 abbrev pub AreFirstDepths : List (List ℕ) → List (Option ℕ) → Type 0
@@ -19,4 +20,5 @@ pub record IsDepthBelow (classes : List (List ℕ)) (parents : List ℕ) (d : �
 
 -- so it has where these are depths of the first classes
 abbrev pub HaveDepthBelow : List (Option ℕ) → List ℕ → ℕ → Type 0
-HaveDepthBelow depths parents d = (classes : List (List ℕ)) → AreFirstDepths classes depths → IsDepthBelow classes parents d
+HaveDepthBelow depths parents d =
+    (classes : List (List ℕ)) → AreFirstDepths classes depths → IsDepthBelow classes parents d

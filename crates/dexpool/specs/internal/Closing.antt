@@ -1,5 +1,6 @@
 -- Marks closed downwards, and what tables keep by them.
-use Rattle.std.specs.Prelude.{◌≡◌, ℕ, Bool, true, false, List, [], ◌∷◌, map, All, Option, unwrap_or, slice_index, slice_index_or, slice_set, length}
+use Rattle.std.specs.Prelude.{◌≡◌, ℕ, Bool, true, false, List, [], ◌∷◌, map, All, Option, unwrap_or, slice_index}
+use Rattle.std.specs.Prelude.{slice_index_or, slice_set, length}
 use Rattle.std.specs.List.{flat_map}
 use Rattle.dexspec.specs.Mentions.{Mentions}
 use Rattle.dexpool.specs.Cut.{kept, places}

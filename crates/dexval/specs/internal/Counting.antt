@@ -1,6 +1,7 @@
 -- Items of a file that are read into the cache of a directory, and counted against a budget; and items that are
 -- checked.
-use Rattle.std.specs.Prelude.{◌≡◌, ◌⊎◌, ℕ, ◌+◌, ◌-◌, ◌*◌, ◌^◌, ◌<◌, ◌≤◌, min, length, List, Option, Some, All, map, sum_by}
+use Rattle.std.specs.Prelude.{◌≡◌, ◌⊎◌, ℕ, ◌+◌, ◌-◌, ◌*◌, ◌^◌, ◌<◌, ◌≤◌, min, length, List, Option, Some, All, map}
+use Rattle.std.specs.Prelude.{sum_by}
 use Rattle.std.specs.Global.{Vec}
 use Rattle.std.specs.List.{Contains}
 use Rattle.dexspec.specs.Bytes.{uint_at}
@@ -15,7 +16,8 @@ use Rattle.dexval.specs.declared.directory_reading.DirectoryPairs.{DirectoryPair
 use Rattle.dexval.specs.declared.directory_cache.File.{File}
 use Rattle.dexval.specs.declared.directory_checking.CheckedSets.{CheckedSets}
 use Rattle.dexval.specs.CheckedSets.{IsWeighed, AreChecked}
-use Rattle.dexval.specs.Directories.{IsKnownAt, IsSetOrEmptyAt, IsRefListAt, IsIndexBelow, HasPair, ArePairsAt, NoPairsAt, set_weight_in, sets_weight_in}
+use Rattle.dexval.specs.Directories.{IsKnownAt, IsSetOrEmptyAt, IsRefListAt, IsIndexBelow, HasPair, ArePairsAt}
+use Rattle.dexval.specs.Directories.{NoPairsAt, set_weight_in, sets_weight_in}
 use Rattle.dexval.specs.DirectoryCache.{AreCached, IsNoted, IsNamedOf}
 use Rattle.dexval.specs.Items.{IsRefusal}
 use Rattle.dexval.specs.Nesting.{HasPools}

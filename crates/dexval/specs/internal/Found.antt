@@ -16,9 +16,11 @@ use Rattle.dexval.specs.declared.value.Value.{Value}
 use Rattle.dexval.specs.declared.value_checking.StaticsShape.{StaticsShape}
 use Rattle.dexval.specs.declared.value_checking.ValueShape.{ValueShape}
 use Rattle.dexval.specs.Checking.{HasValue, HasArray, HasElement, HasElements, HasAnnotation}
-use Rattle.dexval.specs.Code.{value_of, values_of, element_of, elements_of, encoded_type, encoded_elements, annotation_of}
+use Rattle.dexval.specs.Code.{value_of, values_of, element_of, elements_of, encoded_type, encoded_elements}
+use Rattle.dexval.specs.Code.{annotation_of}
 use Rattle.dexval.specs.Items.{IsItemAt, NoSetAt, HasOffsets}
-use Rattle.dexval.specs.Nesting.{NoArrayAt, AreReadAt, NoElementAt, IsElementReadAt, NoElementsAt, AreElementsReadAt, NoAnnotationAt, IsAnnotationReadAt}
+use Rattle.dexval.specs.Nesting.{NoArrayAt, AreReadAt, NoElementAt, IsElementReadAt, NoElementsAt, AreElementsReadAt}
+use Rattle.dexval.specs.Nesting.{NoAnnotationAt, IsAnnotationReadAt}
 use Rattle.dexval.specs.Results.{HasValueShape, HasStaticsShape, HasSetShape}
 use Rattle.dexval.specs.internal.Scalars.{Spells, NoValueAt, IsReadAt}
 

@@ -2,7 +2,9 @@
 use Rattle.std.specs.Prelude.{[], ℕ, ℤ, pos, if◌then◌else◌}
 use Rattle.dexpool.specs.Numberings.{Maps}
 use Rattle.dexval.specs.internal.Scalars.{code_of_reference}
-use Rattle.dexval.specs.Numbered.{NumberedValue, NumberedValues, NumberedElements, NoValue, NoElement, Plain, Named, Array, Annotated, Literal, ByteLiteral, ShortLiteral, CharLiteral, IntLiteral, LongLiteral, FloatLiteral, DoubleLiteral, NullLiteral, BooleanLiteral}
+use Rattle.dexval.specs.Numbered.{NumberedValue, NumberedValues, NumberedElements, NoValue, NoElement, Plain, Named}
+use Rattle.dexval.specs.Numbered.{Array, Annotated, Literal, ByteLiteral, ShortLiteral, CharLiteral, IntLiteral}
+use Rattle.dexval.specs.Numbered.{LongLiteral, FloatLiteral, DoubleLiteral, NullLiteral, BooleanLiteral}
 
 -- the head of a literal: its type code and its number
 abbrev pub literal_head : Literal → ℕ × ℤ

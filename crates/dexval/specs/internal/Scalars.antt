@@ -6,7 +6,10 @@ use Rattle.dexspec.specs.Mentions.{Mentions}
 use Rattle.dexpool.specs.declared.symbols.SymbolKind.{SymbolKind}
 use Rattle.dexpool.specs.declared.symbols.SymbolKind.TheVariants as kinds
 use Rattle.dexpool.specs.Pools.{count_of}
-use Rattle.dexval.specs.Numbered.{NumberedValue, Literal, Reference, Plain, Named, Array, Annotated, ByteLiteral, ShortLiteral, CharLiteral, IntLiteral, LongLiteral, FloatLiteral, DoubleLiteral, NullLiteral, BooleanLiteral, StringReference, TypeReference, FieldReference, MethodReference, EnumReference, IsKnown, value_in, kind_of_reference}
+use Rattle.dexval.specs.Numbered.{NumberedValue, Literal, Reference, Plain, Named, Array, Annotated, ByteLiteral}
+use Rattle.dexval.specs.Numbered.{ShortLiteral, CharLiteral, IntLiteral, LongLiteral, FloatLiteral, DoubleLiteral}
+use Rattle.dexval.specs.Numbered.{NullLiteral, BooleanLiteral, StringReference, TypeReference, FieldReference}
+use Rattle.dexval.specs.Numbered.{MethodReference, EnumReference, IsKnown, value_in, kind_of_reference}
 
 -- the maximum number of bytes of a value of a type code, if an argument counts them
 abbrev pub width_of : ℕ → Option ℕ

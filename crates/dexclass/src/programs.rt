@@ -16,7 +16,7 @@ ghost use Rattle.dexclass.specs.Programs.{AreMergeable, AreClassesOf, IsClassAt}
 use crate::arranging::arrange;
 use crate::classes::Class;
 use crate::ordering::{known_depths, names};
-use dexorder::{Hierarchy, class_order};
+use dexorder::{class_order, depths_of};
 use dexpool::{Numbering, SymbolKind};
 use std::alloc::{AllocError, Global};
 use std::marker::Model;
@@ -199,7 +199,7 @@ impl<'a> Program<'a> {
             });
         }
         let types = numbering.count(SymbolKind::Typ);
-        let depths = Hierarchy::of(alloc, &classes, types)?.depths(alloc)?;
+        let depths = depths_of(alloc, &classes, types)?;
         Program::arranged(alloc, numbering, classes, &depths, total)
     }
 

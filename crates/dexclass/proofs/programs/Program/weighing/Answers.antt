@@ -1,21 +1,15 @@
 use Rattle.dexclass.proofs.Common.{arith, ℕ, ◌<◌, All, List, map, sym, subst, AreDepthsOf, IsAcyclic}
 use Rattle.dexclass.specs.{NumberedClass, definition_of, AreNamed}
-use Rattle.dexclass.proofs.Ordered.{are_classes, depths_are, names_within}
+use Rattle.dexclass.proofs.Ordered.{depths_are, names_within}
 use Rattle.dexclass.proofs.ProgramsOf.{named, one_collection_is, one_program_is}
 use Rattle.dexclass.proofs.programs.Program.weighing.Goals as goal
 
-pub of-requires : goal.of-requires
-of-requires c =
+pub depths_of-requires : goal.depths_of-requires
+depths_of-requires c =
     let m = c.args.numbering in
     let cs = c.args.classes.items in
     let within = names_within m cs (named m cs c.requires.mergeable c.is_numbering.ensures) in
     subst (λ (l : List NumberedClass). All (λ (x : NumberedClass). x.name < c.count-types.result) l) (sym c.deref.ensures.value) (subst (λ (n : ℕ). All (λ (x : NumberedClass). x.name < n) cs) (sym c.count-types.ensures) within)
-
-pub depths-requires : goal.depths-requires
-depths-requires c =
-    let m = c.args.numbering in
-    let own = subst (AreNamed m) (sym c.deref.ensures.value) (named m c.args.classes.items c.requires.mergeable c.is_numbering.ensures) in
-    (are_classes m c.deref.result.now own c.in_ok-of.field-0 c.in_ok-of.ensures).within
 
 pub arranged-requires-clause-depths : goal.arranged-requires-clause-depths
 arranged-requires-clause-depths c =
@@ -24,7 +18,7 @@ arranged-requires-clause-depths c =
     let acyclic = subst (λ (l : List NumberedClass). IsAcyclic (map (definition_of m) l)) (sym c.deref.ensures.value) c.requires.mergeable.good.acyclic in
     let found : AreDepthsOf (map (definition_of m) c.args.classes.items) c.in_ok-depths.depths.items =
     subst (λ (l : List NumberedClass). AreDepthsOf (map (definition_of m) l) c.in_ok-depths.depths.items) c.deref.ensures.value
-    (depths_are m c.deref.result.now own c.in_ok-of.field-0 c.in_ok-of.ensures c.in_ok-depths.depths.items c.in_ok-depths.ensures acyclic) in
+    (depths_are m c.deref.result.now own c.in_ok-depths.ensures.classes c.in_ok-depths.ensures.are c.in_ok-depths.depths.items c.in_ok-depths.ensures.found acyclic) in
     subst (AreDepthsOf (map (definition_of m) c.args.classes.items)) (sym c.deref-2.ensures.value) found
 
 pub invariant_of-result : goal.invariant_of-result

@@ -22,7 +22,7 @@ module _ (m : Mentions) where
   abbrev ranked_try : symbolic.Try → NumberedTry
   ranked_try t = record { start_addr = t.start; insn_count = t.count; handler = record { catches = map ranked_catch t.handler.catches; catch_all_addr = t.handler.catch_all } }
 
-  abbrev ranked_code : symbolic.Code → NumberedItem
+  abbrev pub ranked_code : symbolic.Code → NumberedItem
   ranked_code x = record {
     body = record { registers = x.registers; ins = x.ins; outs = x.outs; pieces = map ranked_piece x.pieces };
     tries = map ranked_try x.tries;
@@ -44,7 +44,7 @@ module _ (m : Mentions) (rising : AreRising m) where
       let catches = all_back (λ (c : Catch). c.typ < length m.types) (catch_meant m) (ranked_catch m) catch_back t.handler.catches h in
       λ i. record { start_addr = t.start_addr; insn_count = t.insn_count; handler = record { catches = catches i; catch_all_addr = t.handler.catch_all_addr } }
 
-  code_back : (c : NumberedItem) → IsKnownCode m c → ranked_code m (code_in m c) ≡ c
+  pub code_back : (c : NumberedItem) → IsKnownCode m c → ranked_code m (code_in m c) ≡ c
   code_back c h =
       λ i. record {
         body = record {

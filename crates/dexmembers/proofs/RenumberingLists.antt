@@ -1,20 +1,6 @@
 -- What holds of mapped lists and options, member by member.
-use Rattle.dexmembers.proofs.Common.{◌≡◌, List, [], ◌∷◌, get_or, map, Option, Some, None, refl, ap, subst, arith, ◌↔◌, IfSome, All, option_map, get_or-map, length-map, All-nil, All-cons, All-head, All-tail, All-map}
-
--- the first member, if there is one
-abbrev first_or : {X : Type 0} → X → List X → X
-first_or d [] = d
-first_or d (x ∷ xs) = x
-
--- the others
-abbrev others : {X : Type 0} → List X → List X
-others [] = []
-others (x ∷ xs) = xs
-
--- what there is, if there is something
-abbrev value_or : {X : Type 0} → X → Option X → X
-value_or d None = d
-value_or d (Some x) = x
+use Rattle.dexpool.proofs.Numbers.{all_kept}
+use Rattle.dexmembers.proofs.Common.{◌≡◌, List, [], ◌∷◌, get_or, map, Option, Some, None, refl, ap, subst, arith, IfSome, All, option_map, get_or-map, length-map, All-head, All-tail, All-map}
 
 -- two ways of two steps have the same end
 pub both_where : {A B C D : Type 0} (f : A → B) (g : B → D) (h : A → C) (k : C → D) (P : A → Type 0) → ((x : A) → P x → g (f x) ≡ k (h x)) → (xs : List A) → All P xs → map g (map f xs) ≡ map k (map h xs)
@@ -42,35 +28,10 @@ options_both P K L each (Some x) h k = each x h k
 
 -- what members mean is kept by a step
 pub maps_keep : {X Y : Type 0} (f : X → X) (p q : X → Y) (P K L : X → Type 0) → ((x : X) → P x → K x → L (f x) × (q (f x) ≡ p x)) → (xs : List X) → All P xs → All K xs → All L (map f xs) × (map q (map f xs) ≡ map p xs)
-maps_keep f p q P K L each [] h k = (All-nil L, refl)
-maps_keep f p q P K L each (x ∷ xs) h k =
-    let first = each x (All-head P x xs h) (All-head K x xs k) in
-    let rest = maps_keep f p q P K L each xs (All-tail P x xs h) (All-tail K x xs k) in
-    (All-cons L (f x) (map f xs) first.0 rest.0, λ i. first.1 i ∷ rest.1 i)
+maps_keep f p q P K L each xs h k = all_kept L q (λ x. P x × K x) f p (λ x both. each x both.0 both.1) xs (λ i d lt. (h i d lt, k i d lt))
 
 -- the same for what may be there
 pub options_keep : {X Y : Type 0} (f : X → X) (p q : X → Y) (P K L : X → Type 0) → ((x : X) → P x → K x → L (f x) × (q (f x) ≡ p x))
     → (o : Option X) → IfSome o P → IfSome o K → IfSome (option_map f o) L × (option_map q (option_map f o) ≡ option_map p o)
 options_keep f p q P K L each None h k = (tt, refl)
 options_keep f p q P K L each (Some x) h k = let one = each x h k in (one.0, ap Some one.1)
-
--- lists are the same under one map just where they are so under another
-pub maps_same : {X Y Z : Type 0} (f g : X → Y) (p q : X → Z) (K L : X → Type 0) → ((x y : X) → K x → L y → (f x ≡ g y) ↔ (p x ≡ q y)) → (xs ys : List X) → All K xs → All L ys → (map f xs ≡ map g ys) ↔ (map p xs ≡ map q ys)
-maps_same f g p q K L each [] [] h k = ((λ e. refl), (λ e. refl))
-maps_same f g p q K L each [] (y ∷ ys) h k = ((λ e. absurd cc), (λ e. absurd cc))
-maps_same f g p q K L each (x ∷ xs) [] h k = ((λ e. absurd cc), (λ e. absurd cc))
-maps_same f g p q K L each (x ∷ xs) (y ∷ ys) h k =
-    let first = each x y (All-head K x xs h) (All-head L y ys k) in
-    let rest = maps_same f g p q K L each xs ys (All-tail K x xs h) (All-tail L y ys k) in (
-      (λ e. let one = first.0 (ap (first_or (f x)) e) in let more = rest.0 (ap others e) in λ i. one i ∷ more i),
-      (λ e. let one = first.1 (ap (first_or (p x)) e) in let more = rest.1 (ap others e) in λ i. one i ∷ more i),
-    )
-
--- and what may be there
-pub options_same : {X Y Z : Type 0} (f g : X → Y) (p q : X → Z) (K L : X → Type 0) → ((x y : X) → K x → L y → (f x ≡ g y) ↔ (p x ≡ q y)) → (o u : Option X) → IfSome o K → IfSome u L → (option_map f o ≡ option_map g u) ↔ (option_map p o ≡ option_map q u)
-options_same f g p q K L each None None h k = ((λ e. refl), (λ e. refl))
-options_same f g p q K L each None (Some y) h k = ((λ e. absurd cc), (λ e. absurd cc))
-options_same f g p q K L each (Some x) None h k = ((λ e. absurd cc), (λ e. absurd cc))
-options_same f g p q K L each (Some x) (Some y) h k =
-    let one = each x y h k in
-    ((λ e. ap Some (one.0 (ap (value_or (f x)) e))), (λ e. ap Some (one.1 (ap (value_or (p x)) e))))

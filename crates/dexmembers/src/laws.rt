@@ -9,7 +9,7 @@ use dexcode::{
     code_remapped_law, code_uses_law,
 };
 use dexpool::number_law;
-use dexval::{narrow_law, renumber_law, same_law};
+use dexval::{narrow_law, renumber_law};
 
 /// Once renumbered, where each number has an image, members denote what they denoted before. They are in order where
 /// they were, and of the class that they were of.
@@ -29,10 +29,7 @@ pub fn members_remapped_law()
 pub fn members_same_law()
     ensures { EqualRemappedMembers }
 {
-    number_law();
-    same_law();
-    code_remapped_law();
-    code_kept_law();
+    members_remapped_law();
 }
 
 /// After a cut: where numbers fit their places, as those of all members do

@@ -9,7 +9,7 @@ use Rattle.dexval.proofs.Meanings.{value_keeps, values_keep, set_keeps}
 -- ---- values with symbols replaced by their ranks
 
 abbrev mutual
-  ranked : Mentions → Value → NumberedValue
+  pub ranked : Mentions → Value → NumberedValue
   ranked m (ByteValue z) = Plain (ByteLiteral z)
   ranked m (ShortValue z) = Plain (ShortLiteral z)
   ranked m (CharValue u) = Plain (CharLiteral u)
@@ -27,11 +27,11 @@ abbrev mutual
   ranked m NullValue = Plain NullLiteral
   ranked m (BooleanValue is) = Plain (BooleanLiteral is)
 
-  ranked_values : Mentions → Values → NumberedValues
+  pub ranked_values : Mentions → Values → NumberedValues
   ranked_values m NoValues = NoValue
   ranked_values m (ThenValue v vs) = ThenNext (ranked m v) (ranked_values m vs)
 
-  ranked_elements : Mentions → Elements → NumberedElements
+  pub ranked_elements : Mentions → Elements → NumberedElements
   ranked_elements m NoElements = NoElement
   ranked_elements m (ThenElement name v es) = ThenNamed (rank text_cmp name m.texts) (ranked m v) (ranked_elements m es)
 
@@ -39,7 +39,7 @@ abbrev mutual
 abbrev numbered_with : ℕ → ℕ → NumberedElements → NumberedAnnotation
 numbered_with v t es = record { visibility = v; type = t; elements = es }
 
-abbrev ranked_annotation : Mentions → Annotation → NumberedAnnotation
+abbrev pub ranked_annotation : Mentions → Annotation → NumberedAnnotation
 ranked_annotation m a = numbered_with a.visibility (rank text_cmp a.type m.types) (ranked_elements m a.elements)
 
 -- ---- the ranks are the numbers
@@ -63,7 +63,7 @@ module _ (m : Mentions) (rising : AreRising m) where
     value_ranked (Array xs) h = ap Array (values_ranked xs h)
     value_ranked (Annotated t es) h = ap (λ (i : ℕ). Annotated i (ranked_elements m (elements_in m es))) (number_ranked m rising kinds.Typ t h.0) ∙ ap (Annotated t) (elements_ranked es h.1)
 
-    values_ranked : (xs : NumberedValues) → AreKnown m xs → ranked_values m (values_in m xs) ≡ xs
+    pub values_ranked : (xs : NumberedValues) → AreKnown m xs → ranked_values m (values_in m xs) ≡ xs
     values_ranked NoValue h = refl
     values_ranked (ThenNext x xs) h = ap (λ (y : NumberedValue). ThenNext y (ranked_values m (values_in m xs))) (value_ranked x h.0) ∙ ap (ThenNext x) (values_ranked xs h.1)
 
@@ -77,7 +77,7 @@ module _ (m : Mentions) (rising : AreRising m) where
   annotation_ranked a h =
       ap (λ (i : ℕ). numbered_with a.visibility i (ranked_elements m (elements_in m a.elements))) (number_ranked m rising kinds.Typ a.type h.type_in) ∙ ap (numbered_with a.visibility a.type) (elements_ranked a.elements h.elements_known)
 
-  set_ranked : (xs : NumberedSet) → IsKnownSet m xs → map (ranked_annotation m) (set_in m xs) ≡ xs
+  pub set_ranked : (xs : NumberedSet) → IsKnownSet m xs → map (ranked_annotation m) (set_in m xs) ≡ xs
   set_ranked = all_back (IsKnownAnnotation m) (annotation_in m) (ranked_annotation m) annotation_ranked
 
   -- numbered values that denote the same value are equal

@@ -1,5 +1,6 @@
 -- The symbols of a debug program, part by part, and what becomes of their numbers.
-use Rattle.dexdebug.proofs.Common.{◌≡◌, ℕ, ◌+◌, ◌<◌, ◌^◌, List, [], ◌∷◌, ◌++◌, map, Option, Some, None, refl, sym, subst, arith, length-map, All, flat_map, All-nil, All-cons, All-head, All-tail, Maps, image_of, Use, all_prefix, all_back, all_parts, all_map, Operation, StartLocal, StartLocalExtended, SetFile, NumberedDebug, HasPlace, FitsIndex, IsFormedOperation, IsFormedDebug, IsSpecial, number_uses, operation_uses, debug_uses, image_or_none, name_of, type_of, signature_of, with_numbers, renumbered_operation, renumbered_debug}
+use Rattle.std.proofs.lemmas.List.Elements.{All-map}
+use Rattle.dexdebug.proofs.Common.{get_or, ◌≡◌, ℕ, ◌+◌, List, [], ◌++◌, map, Option, Some, None, refl, sym, subst, arith, length-map, All, flat_map, All-head, Maps, Use, all_prefix, all_back, all_parts, all_map, Operation, StartLocal, StartLocalExtended, SetFile, NumberedDebug, HasPlace, FitsIndex, IsFormedOperation, IsFormedDebug, IsSpecial, number_uses, operation_uses, debug_uses, image_or_none, name_of, type_of, signature_of, with_numbers, renumbered_operation, renumbered_debug}
 use Rattle.dexpool.specs.declared.symbols.SymbolKind.{SymbolKind}
 use Rattle.dexpool.specs.declared.symbols.SymbolKind.TheVariants as kinds
 
@@ -43,11 +44,8 @@ operation_formed r op all is =
     (image_fits r kinds.Text (signature_of op) (signature_part (HasPlace r) op all))
 
 operations_formed : (r : Maps) (ops : List Operation) → All (HasPlace r) (flat_map operation_uses ops) → All IsFormedOperation ops → All IsFormedOperation (map (renumbered_operation r) ops)
-operations_formed r [] all are = All-nil IsFormedOperation
-operations_formed r (op ∷ ops) all are =
-    All-cons IsFormedOperation (renumbered_operation r op) (map (renumbered_operation r) ops)
-    (operation_formed r op (all_prefix (HasPlace r) (operation_uses op) (flat_map operation_uses ops) all) (All-head IsFormedOperation op ops are))
-    (operations_formed r ops (all_back (HasPlace r) (operation_uses op) (flat_map operation_uses ops) all) (All-tail IsFormedOperation op ops are))
+operations_formed r ops all are =
+    let each = all_parts (HasPlace r) operation_uses ops all in All-map IsFormedOperation (renumbered_operation r) ops (λ k d lt. operation_formed r (get_or ops k d) (each k d lt) (are k d lt))
 
 -- a debug program whose numbers have small images keeps its form
 pub debug_formed : (r : Maps) (d : NumberedDebug) → All (HasPlace r) (debug_uses d) → IsFormedDebug d → IsFormedDebug (renumbered_debug r d)

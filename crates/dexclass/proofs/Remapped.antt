@@ -1,5 +1,5 @@
 -- Numbers of texts that are remapped, and what they denote.
-use Rattle.dexclass.proofs.Common.{◌≡◌, ℕ, ◌<◌, true, List, [], ◌∷◌, ◌++◌, length, map, get_or, Option, Some, None, option_to_list, refl, ap, subst, IsSome, All, option_map, All-head, All-tail, All-map, rises, Text, text_cmp, text_total, IsAt, MapsTo, image, map_both, one_place, some_of, sym, unwrap_or}
+use Rattle.dexclass.proofs.Common.{◌≡◌, ℕ, ◌<◌, true, List, [], ◌++◌, length, map, get_or, Option, Some, None, option_to_list, refl, ap, subst, IsSome, All, option_map, All-head, All-map, Text, IsAt, MapsTo, image, map_both, some_of, sym, unwrap_or, rises, text_cmp, text_total, one_place}
 use Rattle.dexclass.specs.{remapped}
 
 -- ---- the same text
@@ -36,24 +36,6 @@ pub numbers_after : (f : ℕ → ℕ) (o : Option ℕ) (is : List ℕ) → map f
 numbers_after f None is = refl
 numbers_after f (Some i) is = refl
 
--- ---- one number for each text
-
-module _ (xs : List Text) (rising : rises text_cmp xs ≡ true) where
-  -- two numbers have different items
-  pub one_at : (i j : ℕ) → i < length xs → j < length xs → get_or xs i [] ≡ get_or xs j [] → i ≡ j
-  one_at i j li lj e = one_place text_cmp text_total xs rising i j [] li lj e
-
-  pub one_list : (is js : List ℕ) → All (λ i. i < length xs) is → All (λ i. i < length xs) js → map (λ i. get_or xs i []) is ≡ map (λ i. get_or xs i []) js → is ≡ js
-  one_list [] [] f g e = refl
-  one_list (i ∷ is) (j ∷ js) f g e =
-      let first : get_or xs i [] ≡ get_or xs j [] = cc in
-      let rest : map (λ k. get_or xs k []) is ≡ map (λ k. get_or xs k []) js = cc in
-      λ k. (one_at i j (All-head (λ i. i < length xs) i is f) (All-head (λ i. i < length xs) j js g) first) k ∷ (one_list is js (All-tail (λ i. i < length xs) i is f) (All-tail (λ i. i < length xs) j js g) rest) k
-  one_list x v f g e = absurd cc
-
-  pub one_optional : (o p : Option ℕ) → All (λ i. i < length xs) (option_to_list o) → All (λ i. i < length xs) (option_to_list p) → option_map (λ i. get_or xs i []) o ≡ option_map (λ i. get_or xs i []) p → o ≡ p
-  one_optional None None f g e = refl
-  one_optional (Some i) (Some j) f g e =
-      let same : get_or xs i [] ≡ get_or xs j [] = cc in
-      ap Some (one_at i j (All-head (λ i. i < length xs) i [] f) (All-head (λ i. i < length xs) j [] g) same)
-  one_optional x v f g e = absurd cc
+-- two numbers have different texts
+pub one_at : (xs : List Text) → rises text_cmp xs ≡ true → (i j : ℕ) → i < length xs → j < length xs → get_or xs i [] ≡ get_or xs j [] → i ≡ j
+one_at xs rising i j li lj e = one_place text_cmp text_total xs rising i j [] li lj e

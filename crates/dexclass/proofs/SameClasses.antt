@@ -2,8 +2,15 @@
 -- their definitions are.
 use Rattle.dexclass.proofs.Common.{◌≡◌, ℕ, ◌-◌, ◌^◌, ◌<◌, min, List, ◌∷◌, ◌++◌, length, map, option_to_list, sym, ap, ◌∙◌, subst, ◌↔◌, IsSome, All, All-head, All-tail, Text, Definition, Mentions, body_weight, AreRising, Maps, AllMapTo, image, Use, IsMappedUse, NumberedMembers, members_in, members_of, AreKnownMembers, AreOrdered, AreOfClass, members_uses, all_prefix, all_back, all_seen}
 use Rattle.dexmembers.specs.Renumbering.{renumbered_members}
-use Rattle.dexclass.specs.{NumberedClass, type_at, definition_of, type_numbers, text_numbers, type_use, text_use, IsKnownClass, remapped, renumbered, IsMappedClass, StaysSame, IsPartClass}
-use Rattle.dexclass.proofs.Remapped.{remapped_is, all_remapped, optional_remapped, all_within, optional_numbers, numbers_after, one_at, one_list, one_optional}
+use Rattle.std.specs.Prelude.{Option, Some, None, IfSome, []}
+use Rattle.std.specs.Option.{option_map}
+use Rattle.dexspec.specs.Spellings.{text_index, type_index}
+use Rattle.dexpool.specs.declared.symbols.SymbolKind.TheVariants as kinds
+use Rattle.dexpool.proofs.Numbers.{number_ranked, one_back}
+use Rattle.dexpool.proofs.Numbers as numbers
+use Rattle.dexmembers.proofs.SameMembers.{ranked_members, members_back}
+use Rattle.dexclass.specs.{NumberedClass, text_at, type_at, definition_of, type_numbers, text_numbers, type_use, text_use, IsKnownClass, remapped, renumbered, IsMappedClass, StaysSame}
+use Rattle.dexclass.proofs.Remapped.{remapped_is, all_remapped, optional_remapped, all_within, optional_numbers, numbers_after}
 
 -- ---- a class that is remapped
 
@@ -78,35 +85,36 @@ module _ (m n : Mentions) (r : Maps) (h : AllMapTo m n r) (c : NumberedClass) (m
 
 -- ---- one class for each definition
 
--- members of classes of one name are the same where they denote the same
-abbrev pub MembersSame : (m n : Mentions) (r s : Maps) (x y : NumberedMembers) → Type 0
-MembersSame m n r s x y = (name : Text) → AreOfClass m name x → AreOfClass n name y → members_in m x ≡ members_in n y → renumbered_members r x ≡ renumbered_members s y
+-- the class that denotes it: each number the rank of its symbol
+abbrev ranked_class : Mentions → Definition → NumberedClass
+ranked_class m d = record {
+  name = type_index m d.0;
+  flags = d.1.flags;
+  superclass = option_map (type_index m) d.1.superclass;
+  interfaces = map (type_index m) d.1.interfaces;
+  source = option_map (text_index m) d.1.source;
+  members = ranked_members m d.0 (members_of d.1);
+  weight = min (2 ^ 64 - 1) (body_weight d.1);
+}
 
-module _ (m n whole : Mentions) (r s : Maps) (c d : NumberedClass) (rising : AreRising whole) (f : IsPartClass whole m r c) (g : IsPartClass whole n s d) (mine : StaysSame m whole r c) (theirs : StaysSame n whole s d) (members : MembersSame m n r s c.members d.members) where
-  -- mapped to the same definition, they are the same
-  one_class : definition_of m c ≡ definition_of n d → renumbered r c ≡ renumbered s d
-  one_class e =
-      let P : ℕ → Type 0 = λ i. i < length whole.types in
-      let x = renumbered r c in
-      let y = renumbered s d in
-      let there : definition_of whole x ≡ definition_of whole y = mine.same ∙ e ∙ sym theirs.same in
-      let parents_mine = All-tail P x.name (option_to_list x.superclass ++ x.interfaces) mine.known.types_in in
-      let parents_theirs = All-tail P y.name (option_to_list y.superclass ++ y.interfaces) theirs.known.types_in in
-      let name = one_at whole.types rising.types_rise x.name y.name (All-head P x.name (option_to_list x.superclass ++ x.interfaces) mine.known.types_in) (All-head P y.name (option_to_list y.superclass ++ y.interfaces) theirs.known.types_in) (ap (λ (z : Definition). z.0) there) in
-      let superclass = one_optional whole.types rising.types_rise x.superclass y.superclass (all_prefix P (option_to_list x.superclass) x.interfaces parents_mine) (all_prefix P (option_to_list y.superclass) y.interfaces parents_theirs) (ap (λ (z : Definition). z.1.superclass) there) in
-      let interfaces = one_list whole.types rising.types_rise x.interfaces y.interfaces (all_back P (option_to_list x.superclass) x.interfaces parents_mine) (all_back P (option_to_list y.superclass) y.interfaces parents_theirs) (ap (λ (z : Definition). z.1.interfaces) there) in
-      let source = one_optional whole.texts rising.texts_rise x.source y.source mine.known.texts_in theirs.known.texts_in (ap (λ (z : Definition). z.1.source) there) in
-      let declared = members (type_at m c.name) f.known.members_own (subst (λ t. AreOfClass n t d.members) (sym (ap (λ (z : Definition). z.0) e)) g.known.members_own) (ap (λ (z : Definition). members_of z.1) e) in
-      λ i. record {
-        name = name i;
-        flags = (there i).1.flags;
-        superclass = superclass i;
-        interfaces = interfaces i;
-        source = source i;
-        members = declared i;
-        weight = (mine.known.weighed ∙ ap (λ (z : Definition). min (2 ^ 64 - 1) (body_weight z.1)) there ∙ sym theirs.known.weighed) i;
-      }
+if_some : (P : ℕ → Type 0) (o : Option ℕ) → All P (option_to_list o) → IfSome o P
+if_some P None all = tt
+if_some P (Some i) all = All-head P i [] all
 
-  -- mapped into one numbering, they are the same if and only if their definitions are
-  pub same_classes : (renumbered r c ≡ renumbered s d) ↔ (definition_of m c ≡ definition_of n d)
-  same_classes = (λ e. sym mine.same ∙ ap (definition_of whole) e ∙ theirs.same, λ e. one_class e)
+class_back : (m : Mentions) → AreRising m → (c : NumberedClass) → IsKnownClass m c → ranked_class m (definition_of m c) ≡ c
+class_back m rising c known =
+    let P : ℕ → Type 0 = λ i. i < length m.types in
+    let parents = All-tail P c.name (option_to_list c.superclass ++ c.interfaces) known.types_in in
+    let name = number_ranked m rising kinds.Typ c.name (All-head P c.name (option_to_list c.superclass ++ c.interfaces) known.types_in) in
+    let superclass = one_back P (type_at m) (type_index m) (number_ranked m rising kinds.Typ) c.superclass (if_some P c.superclass (all_prefix P (option_to_list c.superclass) c.interfaces parents)) in
+    let interfaces = numbers.all_back P (type_at m) (type_index m) (number_ranked m rising kinds.Typ) c.interfaces (all_back P (option_to_list c.superclass) c.interfaces parents) in
+    let source = one_back (λ i. i < length m.texts) (text_at m) (text_index m) (number_ranked m rising kinds.Text) c.source (if_some (λ i. i < length m.texts) c.source known.texts_in) in
+    let declared = members_back m rising (type_at m c.name) c.members known.members_known known.members_own in
+    λ i. record { name = name i; flags = c.flags; superclass = superclass i; interfaces = interfaces i; source = source i; members = declared i; weight = (sym known.weighed) i }
+
+-- mapped into one numbering, they are the same if and only if their definitions are
+pub same_classes : (m n whole : Mentions) (r s : Maps) (c d : NumberedClass) → AreRising whole → StaysSame m whole r c → StaysSame n whole s d → (renumbered r c ≡ renumbered s d) ↔ (definition_of m c ≡ definition_of n d)
+same_classes m n whole r s c d rising mine theirs = (
+  λ e. sym mine.same ∙ ap (definition_of whole) e ∙ theirs.same,
+  λ e. sym (class_back whole rising (renumbered r c) mine.known) ∙ ap (ranked_class whole) (mine.same ∙ e ∙ sym theirs.same) ∙ class_back whole rising (renumbered s d) theirs.known,
+)

@@ -3,7 +3,7 @@
 
 ghost use Rattle.dexclass.specs.Laws.{UsesAreSymbols, UsesHaveMarks, MappedStaysSame, AllAreMapped, SameOnceMapped};
 
-use dexmembers::{members_remapped_law, members_same_law, members_uses_law};
+use dexmembers::{members_remapped_law, members_uses_law};
 
 /// The symbols that occur in a class are those of what it denotes, one for one and in their order. Where there is a
 /// mark for each symbol, there is one for each that occurs.
@@ -30,5 +30,4 @@ pub fn same_law()
     ensures { SameOnceMapped }
 {
     renumbering_law();
-    members_same_law();
 }

@@ -29,7 +29,7 @@ module _ (m : Mentions) (class : Text) where
     parameter_annotations = map ranked_set x.parameter_annotations;
   }
 
-  abbrev ranked_members : Members → NumberedMembers
+  abbrev pub ranked_members : Members → NumberedMembers
   ranked_members z = record {
     annotations = ranked_set z.annotations;
     static_fields = map ranked_field z.static_fields;
@@ -56,7 +56,7 @@ module _ (m : Mentions) (rising : AreRising m) (class : Text) where
       let parameters = numbers.all_back (IsKnownSet m) (set_in m) (ranked_set m class) (set_ranked m rising) x.parameter_annotations h.0.parameters_known in
       λ i. record { number = number i; flags = x.flags; code = code i; annotations = set i; parameter_annotations = parameters i }
 
-  members_back : (x : NumberedMembers) → AreKnownMembers m x → AreOfClass m class x → ranked_members m class (members_in m x) ≡ x
+  pub members_back : (x : NumberedMembers) → AreKnownMembers m x → AreOfClass m class x → ranked_members m class (members_in m x) ≡ x
   members_back x known own =
       let fields = numbers.all_back (λ f. IsKnownField m f × FieldIsOf m class f) (field_in m) (ranked_field m class) field_back in
       let methods = numbers.all_back (λ y. IsKnownMethod m y × MethodIsOf m class y) (method_in m) (ranked_method m class) method_back in

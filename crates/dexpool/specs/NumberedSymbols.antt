@@ -23,7 +23,7 @@ text_at m i = slice_index_or m.texts i []
 abbrev pub type_at : Mentions → ℕ → Text
 type_at m i = slice_index_or m.types i []
 
--- what stands for the name of a number of none: one whose texts are empty
+-- what is taken for the name of a number of none: one whose texts are empty
 abbrev pub no_name : (kind : SymbolKind) → Named kind
 no_name kinds.Text = []
 no_name kinds.Typ = []

@@ -214,7 +214,7 @@ index_in us = if is_wide_index us then two_units us 1 else slice_index us 1
 abbrev pub with_index : ℕ → List ℕ → List ℕ
 with_index i us = if is_wide_index us then slice_set (slice_set us 1 (i % 65536)) 2 (i / 65536) else slice_set us 1 i
 
--- The units encode the piece. `Names i s` says that index i stands for symbol s: in a file that row i of the symbol's
+-- The units encode the piece. `Names i s` says that index i denotes symbol s: in a file that row i of the symbol's
 -- pool has it; in units that are not in a file, which have zero for each index, that i is 0.
 abbrev pub DenotesPiece : (ℕ → Symbol → Type 0) → List ℕ → Piece → Type 0
 DenotesPiece Names us (Instruction xs None) =

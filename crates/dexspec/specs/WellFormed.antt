@@ -45,7 +45,7 @@ IsSymbol (MethodSymbol m) = IsMethod m
 
 -- ---- code
 
--- the pieces are the cuts of their joined units, in which zero stands for each symbol
+-- the pieces are the cuts of their joined units, in which each symbol has index zero
 pub record ArePieces (ps : List Piece) (cuts : List Cut) : Type 0 where
   pub code : IsCode (flat_map units_of ps) cuts
   pub pieces : AllZip (λ c p. DenotesPiece (λ i s. i ≡ 0) (cut_units (flat_map units_of ps) c) p) cuts ps

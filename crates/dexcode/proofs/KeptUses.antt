@@ -1,5 +1,5 @@
 -- Symbols that are marked are kept, and their numbers have images.
-use Rattle.dexcode.proofs.Common.{◌≡◌, ℕ, ◌<◌, Bool, List, [], ◌∷◌, ◌++◌, length, map, get_or, Option, Some, None, refl, arith, All, Contains, flat_map, IsSome, Contains-append_left, Contains-append_right, in_order, text_cmp, Symbol, TextSymbol, TypeSymbol, ProtoSymbol, FieldSymbol, MethodSymbol, proto_cmp, field_cmp, method_cmp, Mentions, closed, texts_in, types_in, protos_in, fields_in, methods_in, text_total, text_exact, proto_total, proto_exact, field_total, field_exact, method_total, method_exact, in_order-has, SymbolKind, Marks, Maps, image, image_of, MapsTo, AllMapTo, AreMarksOf, marked, marked_remapped, Use, marks_of, IsMappedUse, IsMarkedUse}
+use Rattle.dexcode.proofs.Common.{◌≡◌, ℕ, ◌<◌, Bool, List, [], ◌++◌, length, map, get_or, Option, Some, None, refl, arith, All, Contains, flat_map, IsSome, Contains-append_left, Contains-append_right, in_order, text_cmp, Symbol, TextSymbol, TypeSymbol, ProtoSymbol, FieldSymbol, MethodSymbol, proto_cmp, field_cmp, method_cmp, Mentions, closed, texts_in, types_in, protos_in, fields_in, methods_in, text_total, text_exact, proto_total, proto_exact, field_total, field_exact, method_total, method_exact, in_order-has, SymbolKind, Marks, Maps, image, image_of, MapsTo, AllMapTo, AreMarksOf, marked, marked_remapped, Use, marks_of, IsMappedUse, IsMarkedUse}
 use Rattle.std.specs.Cmp.{IsTotalOrder}
 use Rattle.std.specs.FinMap.{IsAntisymmetric}
 use Rattle.std.specs.declared.cmp.Ordering.{Ordering}
@@ -8,22 +8,18 @@ use Rattle.dexspec.proofs.merge.Depths.{Contains-map}
 use Rattle.dexpool.specs.Cut.{kept}
 use Rattle.dexpool.specs.declared.symbols.SymbolKind.TheVariants as kinds
 use Rattle.dexpool.specs.internal.Closing.{IsMarked}
+use Rattle.dexpool.proofs.CutRows.{any_of}
 use Rattle.dexpool.proofs.KeptRows.{mark_within, kept_has}
 
 some_or : (o : Option ℕ) → (o ≡ None → ⊥) → IsSome o
 some_or None h = absurd (h refl)
 some_or (Some j) h = refl
 
--- any member of a list that has one
-some : {X : Type 0} (xs : List X) (i : ℕ) → i < length xs → X
-some [] i lt = absurd (omega arith)
-some (x ∷ xs) i lt = x
-
 module _ {X : Type 0} (R : X → X → Ordering) (o : IsTotalOrder R) (exact : IsAntisymmetric R) (parts : Symbol → List X) (symbol : X → Symbol) (itself_in : (x : X) → Contains (parts (symbol x)) x) where
   maps_kept : (ms : List Bool) (xs : List X) (ss : List Symbol) (images : List (Option ℕ)) (i : ℕ) → length ms ≡ length xs → IsMarked ms i → ((s : Symbol) → Contains (map symbol (kept ms xs)) s → Contains ss s) → MapsTo xs (in_order R (flat_map parts ss)) images → IsSome (image images i)
   maps_kept ms xs ss images i count mark among l =
       let lt : i < length xs = omega (arith, count, mark_within ms i mark) in
-      let d = some xs i lt in
+      let d = any_of xs i lt in
       let x = get_or xs i d in
       some_or (image images i) (λ e. l.none i d lt e (in_order-has R o exact (flat_map parts ss) x (Contains-flat_map parts ss (symbol x) x (among (symbol x) (Contains-map symbol (kept ms xs) x (kept_has ms xs i d mark lt))) (itself_in x))))
 

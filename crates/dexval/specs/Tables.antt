@@ -48,10 +48,6 @@ AreRemappedSets r old new = (place : Option ℕ) → IsRemappedSet r (set_at old
 
 -- ---- a table that grows
 
--- the table with one more set at its end
-abbrev pub with_set : NumberedTable → NumberedSet → NumberedTable
-with_set t set = record { sets = t.sets ++ set ∷ []; lists = t.lists }
-
 -- the table with one more list at its end
 abbrev pub with_list : NumberedTable → List (Option ℕ) → NumberedTable
 with_list t places = record { sets = t.sets; lists = t.lists ++ places ∷ [] }

@@ -10,6 +10,7 @@ ghost use Rattle.dexval.specs.Reading.{IsSetAt, IsSetFault};
 ghost use Rattle.dexval.specs.Tables.{set_at};
 ghost use Rattle.dexval.specs.internal.Counting.{IsFile, IsCacheOf, IsSetNoted, HasCountedSet, HasCountedSetOrEmpty, IsFaultWithin, Counts, IsTooHeavy};
 
+use crate::set_table::add_set;
 use crate::{AnnotationSet, SetTable, read_set};
 use dexhead::{Condition, Frame};
 use dexpool::{ItemFault, Pools};
@@ -97,7 +98,7 @@ impl File<'_> {
             return Ok(*place);
         }
         let set = read_set(cache.alloc, self.frame, self.pools, off)?;
-        let place = cache.table.add_set(set)?;
+        let place = add_set(&mut cache.table.sets, set)?;
         cache.sets.insert(off, place)?;
         Ok(place)
     }

@@ -1,10 +1,10 @@
 //! Sets of annotations that several members share, each kept once.
 
-ghost use Rattle.std.specs.Prelude.{◌≡◌, ◌≢◌, ◌<◌, ◌-◌, ◌^◌, [], All, IfNone, IfOk, IfSome, OnOk, length, map, min};
+ghost use Rattle.std.specs.Prelude.{◌≡◌, ◌≢◌, ◌<◌, ◌≤◌, ◌-◌, ◌^◌, [], ◌∷◌, ◌++◌, All, IfNone, IfOk, IfSome, OnOk, OnErr, length, map, min, vec_len, vec_capacity};
 ghost use Rattle.dexspec.specs.Mentions.{Mentions};
 ghost use Rattle.dexval.specs.Code.{set_of};
 ghost use Rattle.dexval.specs.Directories.{set_weight_in, sets_weight_in};
-ghost use Rattle.dexval.specs.Tables.{Extends, IsPlaceIn, set_at, places_at, sets_at, AreRemappedSets, with_set, with_list};
+ghost use Rattle.dexval.specs.Tables.{Extends, IsPlaceIn, set_at, places_at, sets_at, AreRemappedSets, with_list};
 
 use crate::set::AnnotationSet;
 use crate::weight::listed_weight;
@@ -36,6 +36,22 @@ impl Model for SetTable {
     ghost view = { λ t. record { sets = map set_of t.sets.items; lists = map (λ l. l.items) t.lists.items } };
 
     ghost invariant = { λ t. HoldsLists (record { sets = map set_of t.sets.items; lists = map (λ l. l.items) t.lists.items }) };
+}
+
+/// Puts a set after those of a table. Returns its place.
+///
+/// Condition: there are fewer than 2^32. Error: there was no room for another set, and the memory for more was refused;
+/// the sets are unchanged.
+pub(crate) fn add_set(sets: &mut Vec<AnnotationSet>, set: AnnotationSet) -> Result<u32, AllocError>
+    requires { length sets.old.items < 2 ^ 32 }
+    ensures place { IfOk result (λ place. place ≡ length sets.old.items) }
+    ensures sets { OnOk result (sets.new.items ≡ sets.old.items ++ set ∷ []) }
+    ensures unchanged { OnErr result (sets.new.items ≡ sets.old.items) }
+    ensures full { OnErr result (vec_capacity sets.old ≤ vec_len sets.old) }
+{
+    let place = sets.len() as u32;
+    sets.push(set)?;
+    Ok(place)
 }
 
 impl SetTable {
@@ -95,20 +111,6 @@ impl SetTable {
             → result ≡ min (2 ^ 64 - 1) (sets_weight_in m (sets_at self.now place)) }
     {
         listed_weight(self.list(place), |place| self.set_weight(*place))
-    }
-
-    /// Adds a set. Returns its place.
-    ///
-    /// Condition: there are fewer than 2^32.
-    pub(crate) fn add_set(&mut self, set: AnnotationSet) -> Result<u32, AllocError>
-        requires { length self.old.sets < 2 ^ 32 }
-        ensures place { IfOk result (λ place. place ≡ length self.old.sets) }
-        ensures table { OnOk result (self.new ≡ with_set self.old (set_of set)) }
-        ensures extends { OnOk result (Extends self.old self.new) }
-    {
-        let place = self.sets.len() as u32;
-        self.sets.push(set)?;
-        Ok(place)
     }
 
     /// Adds a list of sets. Returns its place.

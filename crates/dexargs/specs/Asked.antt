@@ -154,7 +154,9 @@ dump_of full file [] = Dump full file
 dump_of full file (class ∷ classes) = DumpClasses full file (class ∷ classes)
 
 abbrev pub dump_in : List Row → Option Request
-dump_in rows = option_map (λ file. dump_of (is_set (codes "all") rows) file (values_in (codes "class") rows)) (first_of (codes "file") rows)
+dump_in rows =
+    option_map (λ file. dump_of (is_set (codes "all") rows) file (values_in (codes "class") rows))
+    (first_of (codes "file") rows)
 
 abbrev pub is_null : Ending → Bool
 is_null Line = false
@@ -223,8 +225,8 @@ asked_by ending (Some (command, rows)) = if ends_names ending command rows then 
 abbrev pub asked : Ending → List Text → Option Request
 asked ending words = asked_by ending (subcommand_of program_app words)
 
--- the kinds of error for these arguments: those of clap, and where it takes them one if they ask for nothing; none if they
--- are those of a job
+-- the kinds of error for these arguments: those of clap, and where it takes them one if they ask for nothing; none if
+-- they are those of a job
 abbrev pub refusal : Ending → List Text → Kinds
 refusal ending words =
     or_else (fault_of program_app words) (if is_some (asked ending words) then [] else ValueValidation ∷ [])

@@ -1,5 +1,6 @@
 -- Which arguments the bytes of a list encode.
-use Rattle.std.specs.Prelude.{◌≡◌, ℕ, ◌+◌, List, [], ◌∷◌, ◌==◌, ◌||◌, if◌then◌else◌, Option, Some, None, not, length, take, Bool, codes}
+use Rattle.std.specs.Prelude.{◌≡◌, ℕ, ◌+◌, List, [], ◌∷◌, ◌==◌, ◌||◌, if◌then◌else◌, Option, Some, None, not, length}
+use Rattle.std.specs.Prelude.{take, Bool, codes}
 use Rattle.std.specs.List.{count_by, filter, slice_split}
 use Rattle.std.specs.Str.{IsUtf8, IsValidUpTo, bytes_eq}
 use Rattle.std.specs.Str.Lines.{lines}
@@ -46,7 +47,8 @@ asks_for_null argument = bytes_eq argument (codes "-z") || bytes_eq argument (co
 -- how names end in the lists of these arguments: with a zero byte if one of them before `--` asks for it
 abbrev pub ending_of : List (List ℕ) → Ending
 ending_of [] = Line
-ending_of (argument ∷ arguments) = if is_separator argument then Line else if asks_for_null argument then Null else ending_of arguments
+ending_of (argument ∷ arguments) =
+    if is_separator argument then Line else if asks_for_null argument then Null else ending_of arguments
 
 -- the number of the line that a place is in, from 1: one more than the ends of lines before it
 abbrev pub line_number : Ending → List ℕ → ℕ → ℕ

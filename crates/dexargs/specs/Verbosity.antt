@@ -7,4 +7,5 @@ use Rattle.dexargs.specs.Lists.{is_separator}
 abbrev pub is_verbose : List (List ℕ) → Bool
 is_verbose [] = false
 is_verbose (argument ∷ arguments) =
-    if is_separator argument then false else if bytes_eq argument (codes "--verbose") then true else is_verbose arguments
+    if is_separator argument then false else if bytes_eq argument (codes "--verbose") then true
+    else is_verbose arguments

@@ -3,7 +3,9 @@ use Rattle.std.specs.Prelude.{◌≡◌, ◌<◌, ◌≤◌, ◌≢◌, ℕ, Lis
 use Rattle.dexspec.specs.Merging.{Caps, AreCaps}
 use Rattle.dexargs.specs.declared.lists.Ending.{Ending}
 use Rattle.dexargs.specs.declared.words.Job.{Job}
-use Rattle.dexargs.specs.declared.words.Job.TheVariants.{Check, Dump, DumpClasses, Normalise, Merge, KeepChecking, Digest, Conflicts, Diff, Count, CountEach, CountPackages, Repair}
+use Rattle.dexargs.specs.declared.words.Job.TheVariants.{Check, Dump, DumpClasses, Normalise, Merge, KeepChecking}
+use Rattle.dexargs.specs.declared.words.Job.TheVariants.{Digest, Conflicts, Diff, Count, CountEach, CountPackages}
+use Rattle.dexargs.specs.declared.words.Job.TheVariants.{Repair}
 use Rattle.dexargs.specs.declared.words.Placing.{Placing}
 use Rattle.dexargs.specs.declared.words.Placing.TheVariants.{InPlace, Atomic}
 
@@ -20,7 +22,8 @@ pub record IsSoundMerge (out : List ℕ) (placing : Placing) (files : ℕ) (fan 
   pub most : IfSome fan (λ n. n ≤ 65535)
   pub capped : AreCaps caps
 
--- a command over files has one file or more, and one over classes one class or more; a comparison of old and new files has one or more of each
+-- a command over files has one file or more, and one over classes one class or more; a comparison of old and new files
+-- has one or more of each
 abbrev pub IsSound : Job → Type 0
 IsSound (Check ending files) = 0 < vec_len files
 IsSound (Dump full file) = Unit {0}

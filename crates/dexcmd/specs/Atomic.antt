@@ -48,7 +48,8 @@ abbrev pub IsUnplaced : {R F D : Type 0} → AtomicFile R F D → Type 0
 IsUnplaced file = file.stage ≡ Placed → ⊥
 
 -- a write to a file that is made returned what a write to the file returned, and its names are as they were
-pub record IsPutInto {R F D E : Type 0} (contents : F → Option (List ℕ)) (made : F) (old new : AtomicFile R F D) (result : Result ℕ E) (buf : List ℕ) : Type 0 where
+pub record IsPutInto {R F D E : Type 0} (contents : F → Option (List ℕ)) (made : F) (old new : AtomicFile R F D)
+    (result : Result ℕ E) (buf : List ℕ) : Type 0 where
   pub left : F
   pub is : IsMadeAs left new
   pub temporary : new.temporary ≡ old.temporary

@@ -1,6 +1,7 @@
--- More of the lines of a report: the reason of each device that failed, and of each refusal its meaning and remedy, also
--- of those on standard output. This project's rules.
-use Rattle.std.specs.Prelude.{◌≡◌, ◌⊎◌, ℕ, Bool, List, [], ◌∷◌, ◌++◌, map, Option, Some, None, Result, Ok, Err, if◌then◌else◌, nat_lt, length, slice_index_or, is_some, option_map, codes, string_bytes}
+-- More of the lines of a report: the reason of each device that failed, and of each refusal its meaning and remedy,
+-- also of those on standard output. This project's rules.
+use Rattle.std.specs.Prelude.{◌≡◌, ◌⊎◌, ℕ, Bool, List, [], ◌∷◌, ◌++◌, map, Option, Some, None, Result, Ok, Err}
+use Rattle.std.specs.Prelude.{if◌then◌else◌, nat_lt, length, slice_index_or, is_some, option_map, codes, string_bytes}
 use Rattle.std.specs.List.{flat_map}
 use Rattle.dexruns.specs.Lines.{condition_text}
 use Rattle.dexruns.specs.Conditions.{condition_numbers}
@@ -82,7 +83,8 @@ abbrev pub noted_lines : List (List ℕ) → List (List ℕ) → List Bool → L
 noted_lines meanings remedies conditions = flat_map (condition_lines meanings remedies) (condition_numbers conditions)
 
 -- what lines become
-abbrev pub explained_lines : List (List ℕ) → List (List ℕ) → Option (List ℕ) → List (List ℕ) → List (List ℕ) → List LineKind → List (List ℕ)
+abbrev pub explained_lines : List (List ℕ) → List (List ℕ) → Option (List ℕ) → List (List ℕ) → List (List ℕ)
+    → List LineKind → List (List ℕ)
 explained_lines meanings remedies unwritten unread [] kinds = []
 explained_lines meanings remedies unwritten unread (line ∷ lines) kinds =
     line_with line (reason_of (first_kind kinds) unread unwritten) ∷ (notes_of meanings remedies (first_kind kinds)
@@ -91,9 +93,12 @@ explained_lines meanings remedies unwritten unread (line ∷ lines) kinds =
 -- the report has the lines of the plain one with these reasons and remedies, and those of its conditions
 abbrev pub IsExplained : Remedies → Reasons → Report → Report → Type 0
 IsExplained remedies reasons plain said =
-    IsReport plain.status (explained_lines (map (λ text. text.now) remedies.meanings.now) (map (λ text. text.now) remedies.remedies.now)
-    (option_map string_bytes reasons.unwritten) (map string_bytes reasons.unread.items) (map string_bytes plain.lines.items) plain.kinds.items
-    ++ noted_lines (map (λ text. text.now) remedies.meanings.now) (map (λ text. text.now) remedies.remedies.now) plain.conditions) said
+    IsReport plain.status
+    (explained_lines (map (λ text. text.now) remedies.meanings.now) (map (λ text. text.now) remedies.remedies.now)
+    (option_map string_bytes reasons.unwritten) (map string_bytes reasons.unread.items)
+    (map string_bytes plain.lines.items) plain.kinds.items
+    ++ noted_lines (map (λ text. text.now) remedies.meanings.now) (map (λ text. text.now) remedies.remedies.now)
+    plain.conditions) said
 
 -- the report is explained if there are reasons, or is the plain one
 abbrev pub IsExplainedOrPlain : {E : Type 0} → Remedies → Result Reasons E → Report → Report → Type 0
@@ -109,6 +114,7 @@ AreTextsOf (Some error ∷ errors) (text ∷ texts) = AreTextsOf errors texts
 
 -- the reasons are those of inputs that keep these errors, in their order, and of an output that keeps the other; their
 -- texts are the system's
-pub record AreReasonsOf (unread : List (Option DeviceError)) (unwritten : Option DeviceError) (reasons : Reasons) : Type 0 where
+pub record AreReasonsOf (unread : List (Option DeviceError)) (unwritten : Option DeviceError) (reasons : Reasons) :
+    Type 0 where
   pub of_inputs : AreTextsOf unread (map string_bytes reasons.unread.items)
   pub of_output : is_some reasons.unwritten ≡ is_some unwritten

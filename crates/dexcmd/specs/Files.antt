@@ -19,7 +19,8 @@ IsOpen file old = old.stage ≡ Open file
 
 -- A read of an open file returned what a read of the file returned. It is closed at its end, after a fault, or where no
 -- more of it is to be read, and not before.
-pub record IsReadFrom {R F D E : Type 0} (remaining : F → Option (List ℕ)) (file : F) (old new : OldFile R F D) (result : Result ℕ E) (buf : List ℕ) : Type 0 where
+pub record IsReadFrom {R F D E : Type 0} (remaining : F → Option (List ℕ)) (file : F) (old new : OldFile R F D)
+    (result : Result ℕ E) (buf : List ℕ) : Type 0 where
   pub left : F
   pub read : ReadConsumes (remaining file) (remaining left) result (take old.unread buf)
   pub unread : MatchResult result (λ n. new.unread ≡ old.unread - n) (λ _. Unit {0})
@@ -34,7 +35,8 @@ abbrev pub IsUnmade : {R F D : Type 0} → NewFile R F D → Type 0
 IsUnmade new = new.file ≡ None
 
 -- a write to a file that is made returned what a write to the file returned
-pub record IsWrittenTo {R F D E : Type 0} (contents : F → Option (List ℕ)) (file : F) (new : NewFile R F D) (result : Result ℕ E) (buf : List ℕ) : Type 0 where
+pub record IsWrittenTo {R F D E : Type 0} (contents : F → Option (List ℕ)) (file : F) (new : NewFile R F D)
+    (result : Result ℕ E) (buf : List ℕ) : Type 0 where
   pub left : F
   pub is : new.file ≡ Some left
   pub written : WriteAppends (contents file) (contents left) result buf

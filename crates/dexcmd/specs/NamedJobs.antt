@@ -13,7 +13,8 @@ use Rattle.dexcmd.specs.Jobs.{IsFinished, WritesAtTheEnd}
 use Rattle.dexcmd.specs.Names.{input_names, output_name, placing}
 
 -- the report is explained with the reasons of these errors
-pub record IsExplainedBy (unread : List (Option DeviceError)) (unwritten : Option DeviceError) (remedies : Remedies) (plain said : Report) : Type 0 where
+pub record IsExplainedBy (unread : List (Option DeviceError)) (unwritten : Option DeviceError) (remedies : Remedies)
+    (plain said : Report) : Type 0 where
   pub reasons : Reasons
   pub reasons_are : AreReasonsOf unread unwritten reasons
   pub explained : IsExplained remedies reasons plain said
@@ -21,11 +22,13 @@ pub record IsExplainedBy (unread : List (Option DeviceError)) (unwritten : Optio
 -- the report is the plain one; with remedies it is explained if there is memory for that
 abbrev pub IsSaidAs : List (Option DeviceError) → Option DeviceError → Option (Bor Remedies) → Report → Report → Type 0
 IsSaidAs unread unwritten None plain said = said ≡ plain
-IsSaidAs unread unwritten (Some remedies) plain said = (said ≡ plain) ⊎ IsExplainedBy unread unwritten remedies.now plain said
+IsSaidAs unread unwritten (Some remedies) plain said =
+    (said ≡ plain) ⊎ IsExplainedBy unread unwritten remedies.now plain said
 
 module _ {In Out : Type 0} (is_input : List ℕ → In → Type 0) (is_output : Option (List ℕ) → Placing → Out → Type 0)
     (error_of : In → Option DeviceError) (output_error : Out → Option DeviceError) (is_closed is_placed : Out → Bool)
-    (reports : In → Type 0) (to_come : In → List ℕ) (reader_failed : In → Bool) (writes : Out → Type 0) (taken : Out → List ℕ) (writer_failed : Out → Bool) where
+    (reports : In → Type 0) (to_come : In → List ℕ) (reader_failed : In → Bool) (writes : Out → Type 0)
+    (taken : Out → List ℕ) (writer_failed : Out → Bool) where
   -- the job was done and finished over the devices of its names, and this is its report
   pub record IsRunByName (remedies : Option (Bor Remedies)) (job : Job) (said : Report) : Type 0 where
     pub inputs : List In
@@ -35,7 +38,8 @@ module _ {In Out : Type 0} (is_input : List ℕ → In → Type 0) (is_output : 
     pub plain : Report
     pub inputs_named : AllZip is_input (input_names job) inputs
     pub output_named : is_output (output_name job) (placing job) out
-    pub is_finished : IsFinished is_closed is_placed reports to_come reader_failed writes taken writer_failed inputs left out finished job plain
+    pub is_finished : IsFinished is_closed is_placed reports to_come reader_failed writes taken writer_failed inputs
+        left out finished job plain
     pub unwritten : WritesAtTheEnd job → plain.status ≢ 0 → writer_failed finished ≡ false → finished ≡ out
     pub placed : plain.status ≡ 0 → is_placed finished ≡ true
     pub unplaced : WritesAtTheEnd job → plain.status ≢ 0 → is_placed out ≡ false → is_placed finished ≡ false

@@ -3,7 +3,9 @@ use Rattle.std.specs.Prelude.{ℕ, List, [], ◌∷◌, map, Option, Some, None,
 use Rattle.dexargs.specs.declared.words.Job.{Job}
 use Rattle.dexargs.specs.declared.words.Placing.{Placing}
 use Rattle.dexargs.specs.declared.words.Placing.TheVariants.{InPlace}
-use Rattle.dexargs.specs.declared.words.Job.TheVariants.{Check, Dump, DumpClasses, Normalise, Merge, KeepChecking, Digest, Conflicts, Diff, Count, CountEach, CountPackages, Repair}
+use Rattle.dexargs.specs.declared.words.Job.TheVariants.{Check, Dump, DumpClasses, Normalise, Merge, KeepChecking}
+use Rattle.dexargs.specs.declared.words.Job.TheVariants.{Digest, Conflicts, Diff, Count, CountEach, CountPackages}
+use Rattle.dexargs.specs.declared.words.Job.TheVariants.{Repair}
 
 -- the names of the inputs, in the order in which they are read
 abbrev pub input_names : Job → List (List ℕ)

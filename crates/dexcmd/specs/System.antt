@@ -1,5 +1,6 @@
 -- The devices of the system by their names.
-use Rattle.std.specs.Prelude.{◌≡◌, ◌≢◌, ℕ, ◌==◌, if◌then◌else◌, Bool, true, false, List, Option, Some, None, Result, Ok, Err, codes}
+use Rattle.std.specs.Prelude.{◌≡◌, ◌≢◌, ℕ, ◌==◌, if◌then◌else◌, Bool, true, false, List, Option, Some, None, Result, Ok}
+use Rattle.std.specs.Prelude.{Err, codes}
 use Rattle.dexcmd.specs.declared.device_error.DeviceError.{DeviceError}
 use Rattle.dexargs.specs.declared.words.Placing.{Placing}
 use Rattle.dexargs.specs.declared.words.Placing.TheVariants.{InPlace, Atomic}
@@ -100,5 +101,6 @@ is_closed Closed = true
 -- the state after a write: one that takes nothing breaks the output too, and one to a pipe that nobody reads closes it
 abbrev pub IsStateAfter : {E K : Type 0} → (E → K) → K → Bool → Result ℕ E → State → Type 0
 IsStateAfter kind_of broken_pipe _ (Ok n) state = state ≡ (if n == 0 then Broken else Working)
-IsStateAfter kind_of broken_pipe true (Err error) state = (kind_of error ≡ broken_pipe → state ≡ Closed) × (kind_of error ≢ broken_pipe → state ≡ Broken)
+IsStateAfter kind_of broken_pipe true (Err error) state =
+    (kind_of error ≡ broken_pipe → state ≡ Closed) × (kind_of error ≢ broken_pipe → state ≡ Broken)
 IsStateAfter kind_of broken_pipe false (Err error) state = state ≡ Broken

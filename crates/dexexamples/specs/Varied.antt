@@ -2,7 +2,8 @@
 use Rattle.std.specs.Prelude.{ℕ, pos, List, [], ◌∷◌, Some, None, codes}
 use Rattle.dexspec.specs.Symbols.{TextSymbol, TypeSymbol}
 use Rattle.dexspec.specs.Pieces.{Instruction, Payload}
-use Rattle.dexspec.specs.Values.{ByteValue, ShortValue, CharValue, LongValue, MethodValue, ArrayValue, AnnotationValue, NoValues, ThenValue, NoElements, ThenElement}
+use Rattle.dexspec.specs.Values.{ByteValue, ShortValue, CharValue, LongValue, MethodValue, ArrayValue, AnnotationValue}
+use Rattle.dexspec.specs.Values.{NoValues, ThenValue, NoElements, ThenElement}
 use Rattle.dexspec.specs.Classes.{Definition}
 
 abbrev pub varied_a : Definition

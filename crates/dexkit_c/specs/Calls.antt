@@ -1,5 +1,6 @@
 -- What the calls hand out, of files as lists of bytes, and what they may be asked for.
-use Rattle.std.specs.Prelude.{◌≡◌, ◌≢◌, ℕ, ◌≤◌, ◌<◌, ◌==◌, if◌then◌else◌, Bool, Option, None, Some, List, [], ◌∷◌, ◌++◌, length, map}
+use Rattle.std.specs.Prelude.{◌≡◌, ◌≢◌, ℕ, ◌≤◌, ◌<◌, ◌==◌, if◌then◌else◌, Bool, Option, None, Some, List, [], ◌∷◌, ◌++◌}
+use Rattle.std.specs.Prelude.{length, map}
 use Rattle.std.specs.List.{AllZip, flat_map}
 use Rattle.dexspec.specs.Conditions as conditions
 use Rattle.dexspec.specs.Accepted.{number}
@@ -34,7 +35,8 @@ AreReadAs files collections = AllZip IsReadAs files collections
 
 -- the caps of these numbers
 abbrev pub caps_in : CapNumbers → Caps
-caps_in numbers = caps_of numbers.types numbers.protos numbers.fields numbers.methods numbers.short_strings numbers.weight
+caps_in numbers =
+    caps_of numbers.types numbers.protos numbers.fields numbers.methods numbers.short_strings numbers.weight
 
 -- the fan of a number: 0 is none
 abbrev pub fan_in : ℕ → Option ℕ
@@ -48,7 +50,8 @@ pub record IsAskedRight (count : ℕ) (caps : Caps) (fan flags : ℕ) : Type 0 w
   pub flags_are : flags < 2
 
 -- the files are accepted, and these are the bytes of the canonical file of what is kept of their union
-pub record IsMergedOf (caps : Caps) (fan : Option ℕ) (is_stripped : Bool) (files : List (List ℕ)) (out : List ℕ) : Type 0 where
+pub record IsMergedOf (caps : Caps) (fan : Option ℕ) (is_stripped : Bool) (files : List (List ℕ)) (out : List ℕ) :
+    Type 0 where
   pub collections : List Collection
   pub read : AreReadAs files collections
   pub plan : Plan

@@ -90,7 +90,8 @@ SaysCause (cause.Cap number) fault = (fault.kind ≡ 4) × (fault.number ≡ num
 
 -- the fault says this to the caller
 abbrev pub Says : RunFault → Fault → Type 0
-Says (run.Input i refusal) fault = (fault.kind ≡ 1) × (fault.input ≡ i) × (fault.number ≡ refusal.number) × (fault.place ≡ refusal.place)
+Says (run.Input i refusal) fault =
+    (fault.kind ≡ 1) × (fault.input ≡ i) × (fault.number ≡ refusal.number) × (fault.place ≡ refusal.place)
 Says run.Plan fault = Unit {0}
 Says (run.Merge reported) fault = SaysCause reported fault
 Says (run.Read i) fault = Unit {0}
@@ -106,8 +107,10 @@ SaysInText (run.Read i) text = ⊥
 SaysInText run.Write text = ⊥
 SaysInText run.Memory text = ⊥
 
--- what the fault and the text say is true of the files: one is refused, or all are read and the cause is true of them; the text may be left out
-pub record IsFaultSaid (Unmade : MergeCause → Type 0) (files : List (List ℕ)) (fault : Fault) (IsTextLeft : Type 0) (text : List ℕ) : Type 0 where
+-- what the fault and the text say is true of the files: one is refused, or all are read and the cause is true of them;
+-- the text may be left out
+pub record IsFaultSaid (Unmade : MergeCause → Type 0) (files : List (List ℕ)) (fault : Fault) (IsTextLeft : Type 0)
+    (text : List ℕ) : Type 0 where
   pub why : RunFault
   pub status : exit_status why ≡ 1
   pub is : IsFaultOfFiles Unmade files why

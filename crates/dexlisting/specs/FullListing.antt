@@ -1,27 +1,37 @@
 -- The full listing that `dump --all` writes: a line, or part of one, for all that a class has, so that two classes with
 -- the same full listing are the same. This project's rules, but for the mnemonics, which are those of the page "Dalvik
--- bytecode", the operands, which are written as that page writes them, and the names of debug operations, which are those
--- of "Dalvik Executable format", "Byte code values", in small letters.
-use Rattle.std.specs.Prelude.{ℕ, zero, suc, ℤ, pos, negsuc, nat_abs, ◌+ℤ◌, ◌-ℤ◌, ◌+◌, ◌-◌, ◌*◌, ◌/◌, ◌%◌, ◌^◌, ◌==◌, ◌||◌, ◌&&◌, nat_lt, nat_le, Bool, true, false, if◌then◌else◌, List, [], ◌∷◌, ◌++◌, take, length, slice_index, Option, Some, None, codes, decimal}
+-- bytecode", the operands, which are written as that page writes them, and the names of debug operations, which are
+-- those of "Dalvik Executable format", "Byte code values", in small letters.
+use Rattle.std.specs.Prelude.{ℕ, zero, suc, ℤ, pos, negsuc, nat_abs, ◌+ℤ◌, ◌-ℤ◌, ◌+◌, ◌-◌, ◌*◌, ◌/◌, ◌%◌, ◌^◌, ◌==◌}
+use Rattle.std.specs.Prelude.{◌||◌, ◌&&◌, nat_lt, nat_le, Bool, true, false, if◌then◌else◌, List, [], ◌∷◌, ◌++◌, take}
+use Rattle.std.specs.Prelude.{length, slice_index, Option, Some, None, codes, decimal}
 use Rattle.std.specs.List.{flat_map, list_any}
 use Rattle.std.specs.Option.{option_map_or}
 use Rattle.dexspec.specs.Bytes.{signed_in}
 use Rattle.dexstr.specs.Escapes.{escaped}
 use Rattle.dexspec.specs.Texts.{Text}
 use Rattle.dexspec.specs.Symbols.{Symbol, MethodSymbol, FieldSymbol, Method}
-use Rattle.dexspec.specs.Opcodes.{Format, Opcode, F10x, F12x, F11n, F11x, F10t, F20t, F22x, F21t, F21s, F21h, F21c, F23x, F22b, F22s, F22t, F22c, F30t, F32x, F31i, F31t, F31c, F35c, F3rc, F51l, opcode_of}
-use Rattle.dexspec.specs.Pieces.{Piece, Instruction, Payload, units_of, low_byte, high_byte, two_units, int_in, ints_in, packed_switch_ident, sparse_switch_ident, branch_offset}
-use Rattle.dexspec.specs.Debug.{Operation, AdvancePc, AdvanceLine, StartLocal, StartLocalExtended, EndLocal, RestartLocal, SetPrologueEnd, SetEpilogueBegin, SetFile, Special, Debug}
+use Rattle.dexspec.specs.Opcodes.{Format, Opcode, F10x, F12x, F11n, F11x, F10t, F20t, F22x, F21t, F21s, F21h, F21c}
+use Rattle.dexspec.specs.Opcodes.{F23x, F22b, F22s, F22t, F22c, F30t, F32x, F31i, F31t, F31c, F35c, F3rc, F51l}
+use Rattle.dexspec.specs.Opcodes.{opcode_of}
+use Rattle.dexspec.specs.Pieces.{Piece, Instruction, Payload, units_of, low_byte, high_byte, two_units, int_in, ints_in}
+use Rattle.dexspec.specs.Pieces.{packed_switch_ident, sparse_switch_ident, branch_offset}
+use Rattle.dexspec.specs.Debug.{Operation, AdvancePc, AdvanceLine, StartLocal, StartLocalExtended, EndLocal}
+use Rattle.dexspec.specs.Debug.{RestartLocal, SetPrologueEnd, SetEpilogueBegin, SetFile, Special, Debug}
 use Rattle.dexdebug.specs.Positions.{address_step, line_step}
 use Rattle.dexspec.specs.Code.{Catch, Handler, Try, Code}
-use Rattle.dexspec.specs.Values.{Value, ByteValue, ShortValue, CharValue, IntValue, LongValue, FloatValue, DoubleValue, StringValue, TypeValue, FieldValue, MethodValue, EnumValue, ArrayValue, AnnotationValue, NullValue, BooleanValue, Values, NoValues, ThenValue, Elements, NoElements, ThenElement}
+use Rattle.dexspec.specs.Values.{Value, ByteValue, ShortValue, CharValue, IntValue, LongValue, FloatValue, DoubleValue}
+use Rattle.dexspec.specs.Values.{StringValue, TypeValue, FieldValue, MethodValue, EnumValue, ArrayValue}
+use Rattle.dexspec.specs.Values.{AnnotationValue, NullValue, BooleanValue, Values, NoValues, ThenValue, Elements}
+use Rattle.dexspec.specs.Values.{NoElements, ThenElement}
 use Rattle.dexspec.specs.Annotations.{Annotation, AnnotationSet}
 use Rattle.dexspec.specs.Classes.{Definition, FieldDef, MethodDef}
 use Rattle.dexspec.specs.Files.{Collection, definitions}
 use Rattle.dexspec.specs.Depth.{in_class_order}
 use Rattle.dexflags.specs.Flags.{OfField, OfMethod, flags_text}
 use Rattle.dexout.specs.Printed.{shown, quoted, count_text, place_text}
-use Rattle.dexlisting.specs.Listing.{own_field_text, own_method_text, symbol_text, mnemonic_text, payload_text, counts_line, own_line, interface_line, source_line, chosen}
+use Rattle.dexlisting.specs.Listing.{own_field_text, own_method_text, symbol_text, mnemonic_text, payload_text}
+use Rattle.dexlisting.specs.Listing.{counts_line, own_line, interface_line, source_line, chosen}
 
 -- ---- names and numbers
 

@@ -1,12 +1,15 @@
 -- The listing that `dump` writes. This project's rules, but for the mnemonics, which are those of the page "Dalvik
 -- bytecode".
-use Rattle.std.specs.Prelude.{ℕ, ◌+◌, ◌==◌, Bool, if◌then◌else◌, List, [], ◌∷◌, ◌++◌, length, slice_index, Some, None, codes}
+use Rattle.std.specs.Prelude.{ℕ, ◌+◌, ◌==◌, Bool, if◌then◌else◌, List, [], ◌∷◌, ◌++◌, length, slice_index, Some, None}
+use Rattle.std.specs.Prelude.{codes}
 use Rattle.std.specs.List.{flat_map}
 use Rattle.std.specs.Option.{option_map_or}
 use Rattle.dexspec.specs.Texts.{Text}
-use Rattle.dexspec.specs.Symbols.{Proto, Field, Method, Symbol, TextSymbol, TypeSymbol, ProtoSymbol, FieldSymbol, MethodSymbol}
+use Rattle.dexspec.specs.Symbols.{Proto, Field, Method, Symbol, TextSymbol, TypeSymbol, ProtoSymbol, FieldSymbol}
+use Rattle.dexspec.specs.Symbols.{MethodSymbol}
 use Rattle.dexspec.specs.Opcodes.{opcode_of}
-use Rattle.dexspec.specs.Pieces.{Piece, Instruction, Payload, units_of, low_byte, packed_switch_ident, sparse_switch_ident, element_width, element_count}
+use Rattle.dexspec.specs.Pieces.{Piece, Instruction, Payload, units_of, low_byte, packed_switch_ident}
+use Rattle.dexspec.specs.Pieces.{sparse_switch_ident, element_width, element_count}
 use Rattle.dexspec.specs.Code.{Code}
 use Rattle.dexspec.specs.Classes.{Definition, FieldDef, MethodDef}
 use Rattle.dexspec.specs.Files.{Collection, definitions}

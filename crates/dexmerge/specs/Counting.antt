@@ -1,5 +1,6 @@
 -- What a union of definitions holds, in numbers.
-use Rattle.std.specs.Prelude.{◌≡◌, ℕ, ◌+◌, ◌-◌, ◌^◌, ◌<◌, min, nat_lt, not, Bool, false, List, length, Option, Some, None}
+use Rattle.std.specs.Prelude.{◌≡◌, ℕ, ◌+◌, ◌-◌, ◌^◌, ◌<◌, min, nat_lt, not, Bool, false, List, length, Option, Some}
+use Rattle.std.specs.Prelude.{None}
 use Rattle.dexspec.specs.Lists.{AreDistinct, rank}
 use Rattle.dexspec.specs.Texts.{Text, text_cmp}
 use Rattle.dexspec.specs.Classes.{Definition}

@@ -6,7 +6,8 @@ use Rattle.dexspec.specs.Bytes.{uint}
 use Rattle.dexspec.specs.Texts.{string_data}
 use Rattle.dexspec.specs.Placing.{section_bytes, offsets, uses_offsets}
 use Rattle.dexspec.specs.Spellings.{text_index}
-use Rattle.dexspec.specs.Canonical.{class_offsets, data_sections, table_bytes, proto_row_bytes, field_row_bytes, method_row_bytes, with_sums, unsigned_file, type_list_section, string_section}
+use Rattle.dexspec.specs.Canonical.{class_offsets, data_sections, table_bytes, proto_row_bytes, field_row_bytes}
+use Rattle.dexspec.specs.Canonical.{method_row_bytes, with_sums, unsigned_file, type_list_section, string_section}
 use Rattle.dexhead.specs.Laid.{after_header}
 use Rattle.dexhead.specs.Written.{head_bytes}
 use Rattle.dexcanon.specs.declared.contents.Contents.{Contents}

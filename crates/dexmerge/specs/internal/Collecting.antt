@@ -1,5 +1,6 @@
 -- One class of each name, collected from the parts of a union.
-use Rattle.std.specs.Prelude.{◌≡◌, ℕ, Bool, true, false, List, [], ◌∷◌, ◌++◌, map, length, All, slice_index_or, slice_set}
+use Rattle.std.specs.Prelude.{◌≡◌, ℕ, Bool, true, false, List, [], ◌∷◌, ◌++◌, map, length, All, slice_index_or}
+use Rattle.std.specs.Prelude.{slice_set}
 use Rattle.std.specs.Borrow.{Bor}
 use Rattle.std.specs.List.{Contains, AllZip}
 use Rattle.dexspec.specs.Lists.{AreDistinct}

@@ -63,6 +63,8 @@ impl Encodings<'_, '_> {
             return self.sharing.add(None);
         };
         self.room.clear();
+        // With room for its weight it is not measured before it is encoded.
+        self.room.reserve(debug.weight() as usize)?;
         put_debug(debug, self.numbering, &mut self.room)?;
         let bytes = Vec::from_slice(*self.room.allocator(), &self.room)?;
         self.sharing.add(Some(ItemKey { bytes }))

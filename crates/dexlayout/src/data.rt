@@ -6,8 +6,8 @@ ghost use Rattle.dexspec.specs.Texts.{string_data};
 ghost use Rattle.dexspec.specs.Placing.{end, end_from};
 ghost use Rattle.dexspec.specs.Canonical.{data_start, string_section};
 ghost use Rattle.dexlayout.specs.Laid.{AreWritable, ordered_of};
-ghost use Rattle.dexlayout.specs.internal.Parts.{AreBack, AreData, AreFirstSections};
-ghost use Rattle.dexlayout.specs.internal.Placing.{AreStringsFrom, CanPlaceSets, PlacedSets, AreWrittenSets, AreKnownSets, AreSharedBy, IsDataFrom, AreEntriesOf};
+ghost use Rattle.dexlayout.specs.internal.Parts.{AreData, AreFirstSections};
+ghost use Rattle.dexlayout.specs.internal.Placing.{AreStringsFrom, CanPlaceRefLists, PlacedBack, AreWrittenSets, AreKnownSets, IsDataFrom, AreEntriesOf};
 
 use crate::bodies::{Bodies, place_bodies};
 use crate::directories::{place_directories, place_ref_lists};
@@ -85,16 +85,13 @@ fn place_first_sections(input: &Input<'_, '_>, from: u32) -> Result<FirstSection
     })
 }
 
-// Lays out the last sections, after the class data.
-fn place_back(input: &Input<'_, '_>, annotations: &Items, from: u32) -> Result<Back, AllocError>
-    requires place { CanPlaceSets input.now.classes.now annotations.now from }
-    requires shared { AreSharedBy input.now.classes.now input.now.written.now
-        input.now.numbers.now }
-    ensures { IfOk result (PlacedSets AreBack input.now.classes.now annotations.now from) }
+// Lays out the lists of sets and the directories, after the sets.
+fn place_back(alloc: Global, classes: &[Class<'_>], sets: Sets) -> Result<Back, AllocError>
+    requires { CanPlaceRefLists classes.now sets }
+    ensures { IfOk result (PlacedBack classes.now sets) }
 {
-    let sets = place_sets(input, annotations, from)?;
-    let ref_lists = place_ref_lists(input, &sets)?;
-    let directories = place_directories(input.alloc, input.classes, &sets, &ref_lists)?;
+    let ref_lists = place_ref_lists(alloc, classes, &sets)?;
+    let directories = place_directories(alloc, classes, &sets, &ref_lists)?;
     Ok(Back {
         sets,
         ref_lists,
@@ -124,7 +121,10 @@ pub(crate) fn place_data<'p, 'a>(
     let first_sections = place_first_sections(&input, from)?;
     let bodies = place_bodies(&input, first_sections.strings.end())?;
     let end = bodies.class_data.places().end();
-    let back = place_back(&input, &first_sections.annotations, end)?;
+    let sets = place_sets(&input, &first_sections.annotations, end)?;
+    // The numbers of the uses are not needed any more: there may be as many as offsets in the lists.
+    drop(shared);
+    let back = place_back(alloc, classes, sets)?;
     Ok(Data {
         first_sections,
         bodies,

@@ -7,7 +7,7 @@ ghost use Rattle.dexlayout.specs.internal.Placing.{CanPlaceRefLists, PlacedRefLi
 ghost use Rattle.dexmembers.specs.Numbered.{fields_of, methods_of};
 ghost use Rattle.dexlayout.specs.internal.Directories.{directory_with};
 
-use crate::input::{Input, method_at};
+use crate::input::method_at;
 use crate::items::Items;
 use crate::sets::Sets;
 use dexclass::Class;
@@ -30,14 +30,18 @@ fn put_list(list: &[u32], items: &mut Items) -> Result<(), AllocError>
 /// the sets. Memory for the offsets of all methods is allocated at once.
 ///
 /// Source: "annotation_set_ref_list".
-pub(crate) fn place_ref_lists(input: &Input<'_, '_>, sets: &Sets) -> Result<Items, AllocError>
-    requires { CanPlaceRefLists input.now.classes.now sets.now }
-    ensures { IfOk result (PlacedRefLists input.now.classes.now sets.now) }
+pub(crate) fn place_ref_lists(
+    alloc: Global,
+    classes: &[Class<'_>],
+    sets: &Sets,
+) -> Result<Items, AllocError>
+    requires { CanPlaceRefLists classes.now sets.now }
+    ensures { IfOk result (PlacedRefLists classes.now sets.now) }
 {
     let from = sets.written().places().end();
-    let mut items = Items::starting_at(input.alloc, from, sets.methods().len())?;
+    let mut items = Items::starting_at(alloc, from, sets.methods().len())?;
     let mut rest = sets.parameters();
-    for class in input.classes {
+    for class in classes {
         let members = class.members();
         for i in 0..members.method_count() {
             let parameters = method_at(members, i).parameter_annotations();

@@ -13,7 +13,7 @@ ghost use Rattle.dexlayout.specs.internal.Adding.{AddsSet, AddsUses, AreKnownPar
 
 use crate::input::{Input, method_at};
 use crate::items::Items;
-use crate::sharing::{Shared, Sharing, place_shared};
+use crate::sharing::{Shared, Sharing, UseOffsets};
 use dexclass::Class;
 use dexmembers::{Fields, Members, Method, Methods, ParameterSets};
 use dexval::AnnotationSet;
@@ -94,36 +94,34 @@ impl Sets {
     }
 
     // Adds the offset of a class's own set and those of the sets of its fields.
-    fn collect_own(&mut self, own: u32, fields: &[u32]) -> Result<(), AllocError>
-        ensures { OnOk result (self.new ≡ collect_own self.old own fields.now) }
+    fn collect_own(&mut self, own: u32, fields: UseOffsets<'_>) -> Result<(), AllocError>
+        ensures { OnOk result (self.new ≡ collect_own self.old own fields.entry) }
     {
         self.own.push(own)?;
-        self.fields.extend_from_slice(fields)?;
-        Ok(())
+        fields.append_to(&mut self.fields)
     }
 
     // Adds the offsets of a method's own set and of those of its parameters.
-    fn collect_method(&mut self, offs: &[u32]) -> Result<(), AllocError>
-        requires { 1 ≤ length offs.now }
-        ensures { OnOk result (self.new ≡ collect_method self.old offs.now) }
+    fn collect_method(&mut self, offs: UseOffsets<'_>) -> Result<(), AllocError>
+        requires { 1 ≤ length offs }
+        ensures { OnOk result (self.new ≡ collect_method self.old offs.entry) }
     {
         let (_, parameters) = offs.split_at(1);
-        self.methods.push(offs[0])?;
-        self.parameters.extend_from_slice(parameters)?;
-        Ok(())
+        self.methods.push(offs.first())?;
+        parameters.append_to(&mut self.parameters)
     }
 
     // Adds the offsets of the sets of the methods of a class, and returns those that are left.
     fn collect_methods<'o>(
         &mut self,
         members: &Members<'_>,
-        offs: &'o [u32],
-    ) -> Result<&'o [u32], AllocError>
-        requires { length (flat_map sets_of_method (methods_of members.now)) ≤ length offs.now }
+        offs: UseOffsets<'o>,
+    ) -> Result<UseOffsets<'o>, AllocError>
+        requires { length (flat_map sets_of_method (methods_of members.now)) ≤ length offs }
         ensures collected { OnOk result (self.new
-            ≡ collect_methods self.old (parts_of_methods (methods_of members.now) offs.now)) }
+            ≡ collect_methods self.old (parts_of_methods (methods_of members.now) offs.entry)) }
         ensures left { IfOk result (λ rest.
-            rest.now ≡ drop (length (flat_map sets_of_method (methods_of members.now))) offs.now) }
+            rest ≡ drop (length (flat_map sets_of_method (methods_of members.now))) offs.entry) }
     {
         let mut rest = offs;
         for i in 0..members.method_count() {
@@ -139,18 +137,18 @@ impl Sets {
     fn collect_class<'o>(
         &mut self,
         class: &Class<'_>,
-        offs: &'o [u32],
-    ) -> Result<&'o [u32], AllocError>
-        requires { length (sets_of_class class.now) ≤ length offs.now }
+        offs: UseOffsets<'o>,
+    ) -> Result<UseOffsets<'o>, AllocError>
+        requires { length (sets_of_class class.now) ≤ length offs }
         ensures collected { OnOk result (self.new
-            ≡ collect_class self.old (parts_of_class class.now offs.now)) }
+            ≡ collect_class self.old (parts_of_class class.now offs.entry)) }
         ensures left { IfOk result (λ rest.
-            rest.now ≡ drop (length (sets_of_class class.now)) offs.now) }
+            rest ≡ drop (length (sets_of_class class.now)) offs.entry) }
     {
         let members = class.members();
         let (_, rest) = offs.split_at(1);
         let (fields, rest) = rest.split_at(members.field_count());
-        self.collect_own(offs[0], fields)?;
+        self.collect_own(offs.first(), fields)?;
         self.collect_methods(members, rest)
     }
 }
@@ -186,9 +184,9 @@ pub(crate) fn place_sets(
     ensures { IfOk result (PlacedSets AreSets input.now.classes.now annotations.now from) }
 {
     let written = encode_written(input, annotations.places().offsets(), from)?;
-    let uses = place_shared(input.alloc, input.numbers, written.places())?;
+    let offsets = Vec::from_slice(input.alloc, written.places().offsets())?;
     let mut sets = Sets::none(input.alloc, input.classes.len(), written)?;
-    let mut rest = uses.offsets();
+    let mut rest = UseOffsets::of(input.numbers, &offsets);
     for class in input.classes {
         rest = sets.collect_class(class, rest)?;
     }

@@ -17,12 +17,13 @@ use Rattle.dexval.specs.declared.set.AnnotationSet.{AnnotationSet as CodeSet}
 use Rattle.dexval.specs.Code.{set_of}
 use Rattle.dexval.specs.Numbered.{set_in, type_at, IsKnownSet}
 use Rattle.dexclass.specs.Numbered.{NumberedClass}
+use Rattle.dexlayout.specs.declared.data.Back.{Back}
 use Rattle.dexlayout.specs.declared.data.Data.{Data}
 use Rattle.dexlayout.specs.declared.sharing.Shared.{Shared}
 use Rattle.dexlayout.specs.declared.tables.Tables.{Tables}
 use Rattle.dexlayout.specs.Places.{ItemPlaces, EncodedItems, EncodedSharedItems, SetPlaces}
 use Rattle.dexlayout.specs.Laid.{ordered_of, file_end, AreWritable, AreLaidSo, AreLaidIn, AreAnnotations, AreCodes, AreClassData, AreDirectories, AreRefLists, AreSets, AreShared}
-use Rattle.dexlayout.specs.internal.Parts.{AreTables, AreData, entry_of, section_parts}
+use Rattle.dexlayout.specs.internal.Parts.{AreTables, AreBack, AreData, entry_of, section_parts}
 use Rattle.dexlayout.specs.internal.Encoding.{encode_use, encode_uses, list_bytes, no_items_from}
 
 -- ---- sections
@@ -80,6 +81,10 @@ abbrev pub PlacedDirectories : List NumberedClass → SetPlaces → EncodedItems
 PlacedDirectories cs sets lists p =
     (m : Mentions) → AreWritable m cs → AreSets m cs sets → AreRefLists m cs lists → AreDirectories m cs p
 
+-- they are placed so, after these sets
+abbrev pub PlacedBack : List NumberedClass → SetPlaces → Back → Type 0
+PlacedBack cs sets p = (m : Mentions) → AreWritable m cs → AreSets m cs sets → AreBack m cs p
+
 -- the texts from the offset on
 abbrev pub AreStringsFrom : ℕ → Mentions → ItemPlaces → Type 0
 AreStringsFrom from m =
@@ -87,10 +92,14 @@ AreStringsFrom from m =
 
 -- ---- the items of uses
 
+-- the offset of the item of each use, or 0 where it has none
+abbrev pub use_offsets : List (Option ℕ) → List ℕ → List ℕ
+use_offsets numbers written = map (λ n. option_map_or (slice_index written) n 0) numbers
+
 -- the offsets of the items that uses share, for each use
 abbrev pub shared_places : List (Option ℕ) → ItemPlaces → ItemPlaces
 shared_places numbers written = record {
-  offsets = map (λ n. option_map_or (slice_index written.offsets) n 0) numbers;
+  offsets = use_offsets numbers written.offsets;
   end = written.end;
 }
 

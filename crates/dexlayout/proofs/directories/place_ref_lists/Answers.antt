@@ -7,7 +7,7 @@ use Rattle.dexlayout.proofs.directories.place_ref_lists.Goals.{After-len}
 
 pub loop-class-init : goal.loop-class-init
 loop-class-init c =
-    let cs = c.args.input.now.classes.now in
+    let cs = c.args.classes.now in
     record {
       encoded = ap (λ offs. encode_uses 4 c.in_ok-items.items (offset_lists list_item (class_parameter_counts cs) offs)) c.parameters-rest.ensures
           ∙ ap (λ p. encode_uses 4 p (offset_lists list_item (class_parameter_counts cs) c.args.sets.now.parameters)) (c.in_ok-items.ensures ∙ ap no_items_from (c.end-from.ensures ∙ ap (λ (q : ItemPlaces). q.end) c.places.ensures ∙ ap (λ (q : EncodedItems). q.places.end) c.written.ensures));
@@ -16,19 +16,19 @@ loop-class-init c =
 
 pub loop-i-init : goal.loop-i-init
 loop-i-init c =
-    let counts = class_counts c.args.input.now.classes.now c.loop-class.class-index c.class-item.result c.loop-class-test.true (sym c.class-item.is)
-    ∙ ap (λ (x : NumberedMembers). parameter_counts (methods_of x) ++ class_parameter_counts (drop (c.loop-class.class-index + 1) c.args.input.now.classes.now)) (sym c.members-members.ensures) in
+    let counts = class_counts c.args.classes.now c.loop-class.class-index c.class-item.result c.loop-class-test.true (sym c.class-item.is)
+    ∙ ap (λ (x : NumberedMembers). parameter_counts (methods_of x) ++ class_parameter_counts (drop (c.loop-class.class-index + 1) c.args.classes.now)) (sym c.members-members.ensures) in
     record {
       encoded = ap (λ ns. encode_uses 4 c.loop-class.items (offset_lists list_item ns c.loop-class.rest.now)) (sym counts) ∙ c.loop-class.invariant.encoded;
       enough = omega (arith, ap total counts, c.loop-class.invariant.enough);
     }
 
 -- the number of parameters of the method is the next
-counts : (c : After-len) → parameter_counts (drop c.loop-i.i (methods_of c.members-members.result.now)) ++ class_parameter_counts (drop (c.loop-class.class-index + 1) c.args.input.now.classes.now)
-    ≡ c.len.result ∷ (parameter_counts (drop (c.loop-i.i + 1) (methods_of c.members-members.result.now)) ++ class_parameter_counts (drop (c.loop-class.class-index + 1) c.args.input.now.classes.now))
+counts : (c : After-len) → parameter_counts (drop c.loop-i.i (methods_of c.members-members.result.now)) ++ class_parameter_counts (drop (c.loop-class.class-index + 1) c.args.classes.now)
+    ≡ c.len.result ∷ (parameter_counts (drop (c.loop-i.i + 1) (methods_of c.members-members.result.now)) ++ class_parameter_counts (drop (c.loop-class.class-index + 1) c.args.classes.now))
 counts c =
     let many : c.len.result ≡ length c.method_at.result.parameter_annotations = c.len.ensures ∙ ap (λ (l : List NumberedSet). length l) c.parameter_annotations-parameters.ensures in
-    ap (λ ns. ns ++ class_parameter_counts (drop (c.loop-class.class-index + 1) c.args.input.now.classes.now))
+    ap (λ ns. ns ++ class_parameter_counts (drop (c.loop-class.class-index + 1) c.args.classes.now))
     (next_counts (λ (x : NumberedMethod). length x.parameter_annotations) (methods_of c.members-members.result.now) c.loop-i.i c.method_at.result c.len.result (omega (arith, c.loop-i-test.true, c.method_count-i-end.ensures)) (sym c.method_at.ensures) many)
 
 pub split_at-requires : goal.split_at-requires
@@ -37,7 +37,7 @@ split_at-requires c = list_enough c.loop-i.rest.now (counts (goal.at.split_at-re
 pub put_list-requires : goal.put_list-requires
 put_list-requires c =
     let next = next_list c.loop-i.rest.now (counts (goal.at.put_list-requires c).After-len) c.split_at.ensures.back list_item c.split_at.ensures.front in
-    omega (arith, use_fits 4 c.loop-i.items next c.loop-i.invariant.encoded, (ref_lists_laid c.requires.0 c.args.input.now.classes.now c.requires.2).places_are.end_is, (end_in_file (ordered_of c.requires.0 c.args.input.now.classes.now) c.requires.1.fits).ref_lists)
+    omega (arith, use_fits 4 c.loop-i.items next c.loop-i.invariant.encoded, (ref_lists_laid c.requires.0 c.args.classes.now c.requires.2).places_are.end_is, (end_in_file (ordered_of c.requires.0 c.args.classes.now) c.requires.1.fits).ref_lists)
 
 pub loop-i-preserved : goal.loop-i-preserved
 loop-i-preserved c =
@@ -49,7 +49,7 @@ loop-i-preserved c =
 
 pub loop-class-preserved : goal.loop-class-preserved
 loop-class-preserved c =
-    let ns = class_parameter_counts (drop (c.loop-class.class-index + 1) c.args.input.now.classes.now) in
+    let ns = class_parameter_counts (drop (c.loop-class.class-index + 1) c.args.classes.now) in
     let none = drop_all c.loop-i.i (methods_of c.members-members.result.now) (omega (arith, c.loop-i-test.false, c.method_count-i-end.ensures)) in
     record {
       encoded = ap (λ xs. encode_uses 4 c.loop-i.items (offset_lists list_item (parameter_counts xs ++ ns) c.loop-i.rest.now)) (sym none) ∙ c.loop-i.invariant.encoded;
@@ -58,5 +58,5 @@ loop-class-preserved c =
 
 pub returns : goal.returns
 returns c = λ m w sets.
-    let cs = c.args.input.now.classes.now in
+    let cs = c.args.classes.now in
     subst (AreRefLists m cs) (sym (all_encoded_by 4 (ap (λ ks. offset_lists list_item (class_parameter_counts ks) c.loop-class.rest.now) (drop_all c.loop-class.class-index cs c.loop-class-test.false)) c.loop-class.invariant.encoded)) (ref_lists_laid m cs sets)

@@ -4,14 +4,14 @@ use Rattle.dexlayout.proofs.directories.place_ref_lists.Given as goal
 -- encoding what is left gives the whole
 abbrev pub invariant-loop-class : goal.invariant-loop-class
 invariant-loop-class l = record {
-  encoded : encode_uses 4 l.items (offset_lists list_item (class_parameter_counts (drop l.class-index l.input.classes.now)) l.rest) ≡ encode_uses 4 (no_items_from l.sets.written.places.end) (offset_lists list_item (class_parameter_counts l.input.classes.now) l.sets.parameters);
-  enough : total (class_parameter_counts (drop l.class-index l.input.classes.now)) ≤ length l.rest;
+  encoded : encode_uses 4 l.items (offset_lists list_item (class_parameter_counts (drop l.class-index l.classes)) l.rest) ≡ encode_uses 4 (no_items_from l.sets.written.places.end) (offset_lists list_item (class_parameter_counts l.classes) l.sets.parameters);
+  enough : total (class_parameter_counts (drop l.class-index l.classes)) ≤ length l.rest;
 }
 
 -- what is left of a class, and the classes after it
 abbrev pub invariant-loop-i : goal.invariant-loop-i
 invariant-loop-i l = record {
-  encoded : encode_uses 4 l.items (offset_lists list_item (parameter_counts (drop l.i (methods_of l.members)) ++ class_parameter_counts (drop (l.class-index + 1) l.input.classes.now)) l.rest)
-      ≡ encode_uses 4 (no_items_from l.sets.written.places.end) (offset_lists list_item (class_parameter_counts l.input.classes.now) l.sets.parameters);
-  enough : total (parameter_counts (drop l.i (methods_of l.members)) ++ class_parameter_counts (drop (l.class-index + 1) l.input.classes.now)) ≤ length l.rest;
+  encoded : encode_uses 4 l.items (offset_lists list_item (parameter_counts (drop l.i (methods_of l.members)) ++ class_parameter_counts (drop (l.class-index + 1) l.classes)) l.rest)
+      ≡ encode_uses 4 (no_items_from l.sets.written.places.end) (offset_lists list_item (class_parameter_counts l.classes) l.sets.parameters);
+  enough : total (parameter_counts (drop l.i (methods_of l.members)) ++ class_parameter_counts (drop (l.class-index + 1) l.classes)) ≤ length l.rest;
 }

@@ -6,9 +6,12 @@ use Rattle.dexspec.specs.Debug.{Debug}
 use Rattle.dexspec.specs.Lists.{present}
 use Rattle.dexspec.specs.Mentions.{Mentions, mentions}
 use Rattle.dexspec.specs.Files.{Collection, definitions}
-use Rattle.dexspec.specs.Placing.{Ordered, EqualOnce, Placed, Items, section_bytes, end, uses_offsets, offsets, debug_uses}
+use Rattle.dexspec.specs.Placing.{Ordered, EqualOnce, Placed, Items, section_bytes, end, uses_offsets, offsets}
+use Rattle.dexspec.specs.Placing.{debug_uses}
 use Rattle.dexspec.specs.Spellings.{debug_bytes}
-use Rattle.dexspec.specs.Canonical.{type_list_section, annotation_section, array_section, string_section, debug_section, code_section, class_data_section, set_section, set_offsets, ref_list_section, directory_section, ordered}
+use Rattle.dexspec.specs.Canonical.{type_list_section, annotation_section, array_section, string_section, debug_section}
+use Rattle.dexspec.specs.Canonical.{code_section, class_data_section, set_section, set_offsets, ref_list_section}
+use Rattle.dexspec.specs.Canonical.{directory_section, ordered}
 use Rattle.dexhead.specs.Laid.{StatesLayout, map_start, map_list}
 use Rattle.dexpool.specs.Numberings.{IsNumbering}
 use Rattle.dexclass.specs.Numbered.{NumberedClass, definition_of}

@@ -1,5 +1,6 @@
 -- The classes of several files, compared by the digests of their copies. This project's rules.
-use Rattle.std.specs.Prelude.{◌≡◌, ◌≢◌, ◌↔◌, ℕ, suc, Bool, false, not, nat_lt, if◌then◌else◌, List, [], ◌∷◌, ◌++◌, map, filter, codes, slice_index_or, Option, Some, None}
+use Rattle.std.specs.Prelude.{◌≡◌, ◌≢◌, ◌↔◌, ℕ, suc, Bool, false, not, nat_lt, if◌then◌else◌, List, [], ◌∷◌, ◌++◌, map}
+use Rattle.std.specs.Prelude.{filter, codes, slice_index_or, Option, Some, None}
 use Rattle.std.specs.List.{flat_map, list_any, Contains}
 use Rattle.std.specs.List.Sorted.{IsStrictlySortedBy}
 use Rattle.dexspec.specs.Texts.{Text, text_cmp, same_text}
@@ -57,7 +58,10 @@ has_new old copies = list_any (λ copy. not (nat_lt copy.file old)) copies
 
 -- the line of a copy: the name of the class, the digest, and the name of the file
 unfoldable pub copy_line : NameForm → List (List ℕ) → Text → ClassCopy → List ℕ
-copy_line form files name copy = shown name ++ (codes "\t" ++ (hexadecimal copy.digest ++ (codes "\t" ++ named form (slice_index_or files copy.file []) (codes "\n"))))
+copy_line form files name copy =
+    shown name
+    ++ (codes "\t"
+    ++ (hexadecimal copy.digest ++ (codes "\t" ++ named form (slice_index_or files copy.file []) (codes "\n"))))
 
 -- the lines of a conflict: one for each copy of a class of which not all copies are equal, and none of another class
 abbrev pub conflict_lines : NameForm → List (List ℕ) → Text → List ClassCopy → List ℕ
@@ -95,7 +99,8 @@ class_lines (Changes old) files name copies = change_lines name (change_of old c
 
 -- These are the lines of the classes of the files: each class of which there is a copy is once among the names,
 -- which rise strictly, and has its own lines, of just its copies.
-pub record AreClassLines (Ks : List Collection) (lines_of : Text → List ClassCopy → List ℕ) (lines : List ℕ) : Type 0 where
+pub record AreClassLines (Ks : List Collection) (lines_of : Text → List ClassCopy → List ℕ) (lines : List ℕ) :
+    Type 0 where
   pub names : List Text
   pub rise : IsStrictlySortedBy text_cmp names
   pub are : (name : Text) → Contains names name ↔ (copies_of Ks name ≢ [])
@@ -107,7 +112,8 @@ compared_status [] = 0
 compared_status (first ∷ others) = 1
 
 -- each of the inputs was read, and of the lines of the classes of what is kept of them `Is` is so
-pub record AreCompared {R : Type 0} (reports : R → Type 0) (to_come : R → List ℕ) (inputs : List R) (is_stripped : Bool) (lines_of : Text → List ClassCopy → List ℕ) (Is : List ℕ → Type 0) : Type 0 where
+pub record AreCompared {R : Type 0} (reports : R → Type 0) (to_come : R → List ℕ) (inputs : List R) (is_stripped : Bool)
+    (lines_of : Text → List ClassCopy → List ℕ) (Is : List ℕ → Type 0) : Type 0 where
   pub collections : List Collection
   pub read : AreReadFrom reports to_come inputs collections
   pub lines : List ℕ
@@ -115,10 +121,14 @@ pub record AreCompared {R : Type 0} (reports : R → Type 0) (to_come : R → Li
   pub is : Is lines
 
 -- what a fault says of the inputs, and of what was written where the writer failed
-abbrev pub IsCompareFault : {R : Type 0} → (R → Type 0) → (R → List ℕ) → List R → Bool → (Text → List ClassCopy → List ℕ) → (List ℕ → Type 0) → RunFault → Type 0
-IsCompareFault reports to_come inputs is_stripped lines_of Written (run.Input i refusal) = IsRefusedAt reports to_come inputs i (λ b. IsRefused b refusal.number refusal.place)
+abbrev pub IsCompareFault : {R : Type 0} → (R → Type 0) → (R → List ℕ) → List R → Bool
+    → (Text → List ClassCopy → List ℕ) → (List ℕ → Type 0) → RunFault → Type 0
+IsCompareFault reports to_come inputs is_stripped lines_of Written (run.Input i refusal) =
+    IsRefusedAt reports to_come inputs i (λ b. IsRefused b refusal.number refusal.place)
 IsCompareFault reports to_come inputs is_stripped lines_of Written run.Plan = ⊥
 IsCompareFault reports to_come inputs is_stripped lines_of Written (run.Merge reported) = ⊥
-IsCompareFault reports to_come inputs is_stripped lines_of Written (run.Read i) = IsRefusedAt reports to_come inputs i (λ b. Unit {0})
-IsCompareFault reports to_come inputs is_stripped lines_of Written run.Write = AreCompared reports to_come inputs is_stripped lines_of Written
+IsCompareFault reports to_come inputs is_stripped lines_of Written (run.Read i) =
+    IsRefusedAt reports to_come inputs i (λ b. Unit {0})
+IsCompareFault reports to_come inputs is_stripped lines_of Written run.Write =
+    AreCompared reports to_come inputs is_stripped lines_of Written
 IsCompareFault reports to_come inputs is_stripped lines_of Written run.Memory = Unit {0}

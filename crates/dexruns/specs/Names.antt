@@ -1,5 +1,6 @@
 -- The names of files in lines. This project's rules.
-use Rattle.std.specs.Prelude.{◌≡◌, ◌<◌, ℕ, ◌==◌, ◌||◌, nat_lt, if◌then◌else◌, Bool, true, List, [], ◌∷◌, ◌++◌, length, take, slice_index}
+use Rattle.std.specs.Prelude.{◌≡◌, ◌<◌, ℕ, ◌==◌, ◌||◌, nat_lt, if◌then◌else◌, Bool, true, List, [], ◌∷◌, ◌++◌, length}
+use Rattle.std.specs.Prelude.{take, slice_index}
 use Rattle.std.specs.List.{flat_map}
 use Rattle.dexstr.specs.Escapes.{escaped}
 use Rattle.dexruns.specs.declared.names.NameForm.{NameForm}

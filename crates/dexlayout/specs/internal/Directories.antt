@@ -1,5 +1,6 @@
 -- The directories of classes, by the offsets of sets and of lists of sets.
-use Rattle.std.specs.Prelude.{ℕ, ◌+◌, ◌==◌, if◌then◌else◌, List, [], ◌∷◌, length, take, drop, slice_index, Option, Some, None}
+use Rattle.std.specs.Prelude.{ℕ, ◌+◌, ◌==◌, if◌then◌else◌, List, [], ◌∷◌, length, take, drop, slice_index, Option, Some}
+use Rattle.std.specs.Prelude.{None}
 use Rattle.dexmembers.specs.Numbered.{NumberedMembers, fields_of, methods_of}
 use Rattle.dexmembers.specs.DirectoryPut.{count_placed, numbered_directory_bytes}
 use Rattle.dexmembers.specs.declared.directory_put.DirectoryOffsets.{DirectoryOffsets}

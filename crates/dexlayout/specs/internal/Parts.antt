@@ -13,7 +13,8 @@ use Rattle.dexlayout.specs.declared.bodies.Bodies.{Bodies}
 use Rattle.dexlayout.specs.declared.data.Data.{Data}
 use Rattle.dexlayout.specs.declared.data.FirstSections.{FirstSections}
 use Rattle.dexlayout.specs.declared.tables.Tables.{Tables}
-use Rattle.dexlayout.specs.Laid.{ordered_of, AreLaidSo, AreTypeLists, AreAnnotations, AreDebugs, AreSets, AreStaticValues, AreCodes, AreClassData, AreRefLists, AreDirectories}
+use Rattle.dexlayout.specs.Laid.{ordered_of, AreLaidSo, AreTypeLists, AreAnnotations, AreDebugs, AreSets}
+use Rattle.dexlayout.specs.Laid.{AreStaticValues, AreCodes, AreClassData, AreRefLists, AreDirectories}
 
 -- a table of `size` rows, and where it begins if it is not empty
 abbrev pub rows_from : ℕ → ℕ → ℕ × ℕ

@@ -8,7 +8,8 @@ use Rattle.dexspec.specs.Texts.{string_data}
 use Rattle.dexspec.specs.Mentions.{Mentions}
 use Rattle.dexspec.specs.Sections.{Section, HeaderItem, MapList}
 use Rattle.dexspec.specs.Placing.{Ordered, offsets_from, end_from, end, Placed}
-use Rattle.dexspec.specs.Canonical.{data_start, type_list_items, set_items, debug_section, code_section, class_data_section, placed_tables, map_bytes}
+use Rattle.dexspec.specs.Canonical.{data_start, type_list_items, set_items, debug_section, code_section}
+use Rattle.dexspec.specs.Canonical.{class_data_section, placed_tables, map_bytes}
 use Rattle.dexhead.specs.declared.head.Head.{Head}
 use Rattle.dexhead.specs.declared.map_list.MapEntry.{MapEntry}
 use Rattle.dexhead.specs.Laid.{StatesLayout, map_start}
@@ -22,7 +23,8 @@ use Rattle.dexlayout.specs.declared.data.Data.{Data}
 use Rattle.dexlayout.specs.declared.sharing.Shared.{Shared}
 use Rattle.dexlayout.specs.declared.tables.Tables.{Tables}
 use Rattle.dexlayout.specs.Places.{ItemPlaces, EncodedItems, EncodedSharedItems, SetPlaces}
-use Rattle.dexlayout.specs.Laid.{ordered_of, file_end, AreWritable, AreLaidSo, AreLaidIn, AreAnnotations, AreCodes, AreClassData, AreDirectories, AreRefLists, AreSets, AreShared}
+use Rattle.dexlayout.specs.Laid.{ordered_of, file_end, AreWritable, AreLaidSo, AreLaidIn, AreAnnotations, AreCodes}
+use Rattle.dexlayout.specs.Laid.{AreClassData, AreDirectories, AreRefLists, AreSets, AreShared}
 use Rattle.dexlayout.specs.internal.Parts.{AreTables, AreBack, AreData, entry_of, section_parts}
 use Rattle.dexlayout.specs.internal.Encoding.{encode_use, encode_uses, list_bytes, no_items_from}
 

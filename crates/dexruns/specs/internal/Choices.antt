@@ -11,8 +11,8 @@ pub record IsFirstFalse (flags : List Bool) (i : ℕ) : Type 0 where
   pub before : All (λ flag. flag ≡ true) (take i flags)
   pub is : slice_index_or flags i true ≡ false
 
--- each name is that of a class, and the flags say of each class whether it has one of them; or this is the number of the
--- first name that no class has
+-- each name is that of a class, and the flags say of each class whether it has one of them; or this is the number of
+-- the first name that no class has
 abbrev pub IsChoice : List (List ℕ) → Collection → Choice → Type 0
 IsChoice names K (Classes flags) = AreClassNames names K × (flags.items ≡ map (is_among names) (printed_names K))
 IsChoice names K (NoClass i) = IsFirstUnknown names K i

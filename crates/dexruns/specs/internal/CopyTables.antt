@@ -30,7 +30,8 @@ abbrev pub HoldsCopies : List Collection → BTreeMap Text Copies → Type 0
 HoldsCopies Ks classes = (name : Text) → copies_at classes name ≡ copies_of Ks name
 
 -- each of the inputs was read, and the table has the copies of the classes of what is kept of them
-pub record HaveCopies {R : Type 0} (reports : R → Type 0) (to_come : R → List ℕ) (inputs : List R) (is_stripped : Bool) (classes : BTreeMap Text Copies) : Type 0 where
+pub record HaveCopies {R : Type 0} (reports : R → Type 0) (to_come : R → List ℕ) (inputs : List R) (is_stripped : Bool)
+    (classes : BTreeMap Text Copies) : Type 0 where
   pub collections : List Collection
   pub read : AreReadFrom reports to_come inputs collections
   pub copies : HoldsCopies (map (kept is_stripped) collections) classes

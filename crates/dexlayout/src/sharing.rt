@@ -129,8 +129,8 @@ impl<'o> UseOffsets<'o> {
     /// The first `count` of them, and the others.
     pub(crate) fn split_at(&self, count: usize) -> (UseOffsets<'o>, UseOffsets<'o>)
         requires { count ≤ length self.now }
-        ensures front { result.0 ≡ take count self.now }
-        ensures front_len { length result.0 ≡ count }
+        ensures first { result.0 ≡ take count self.now }
+        ensures first_len { length result.0 ≡ count }
         ensures back { result.1 ≡ drop count self.now }
     {
         let (numbers, others) = self.numbers.split_at(count);

@@ -8,7 +8,7 @@ split_at-sets-requires c =
     omega (arith, many, next_count (methods_of c.args.members.now) c.loop-i.i c.method_at.result (omega (arith, c.loop-i-test.true, c.method_count-i-end.ensures)) (sym c.method_at.ensures), c.loop-i.invariant.enough)
 
 pub collect_method-requires : goal.collect_method-requires
-collect_method-requires c = omega (arith, c.split_at-sets.ensures.front_len)
+collect_method-requires c = omega (arith, c.split_at-sets.ensures.first_len)
 
 pub loop-i-preserved : goal.loop-i-preserved
 loop-i-preserved c =
@@ -23,7 +23,7 @@ loop-i-preserved c =
     let many : c.len.result ≡ length x.parameter_annotations = c.len.ensures ∙ ap (λ (l : List NumberedSet). length l) c.parameter_annotations-parameters.ensures in
     let lt : i < length xs = omega (arith, c.loop-i-test.true, c.method_count-i-end.ensures) in
     let count : 1 + c.len.result ≡ n = omega (arith, many) in
-    let first_sections : c.split_at-sets.result.0 ≡ take n rest = c.split_at-sets.ensures.front ∙ ap (λ j. take j rest) count in
+    let first_sections : c.split_at-sets.result.0 ≡ take n rest = c.split_at-sets.ensures.first ∙ ap (λ j. take j rest) count in
     let back : c.split_at-sets.result.1 ≡ drop n rest = c.split_at-sets.ensures.back ∙ ap (λ j. drop j rest) count in
     let self : c.collect_method.new.self ≡ collect_method c.loop-i.self (take n rest) = c.in_ok-collect_method.ensures ∙ ap (collect_method c.loop-i.self) first_sections in
     let counts : n + k ≡ length (flat_map sets_of_method (drop i xs)) = sym (next_count xs i x lt (sym c.method_at.ensures)) in

@@ -18,7 +18,7 @@ use crate::caps::Caps;
 use crate::faults::MergeFault;
 use crate::fitting::first_exceeded;
 use dexclass::{Program, same_law};
-use dexorder::{HasParents, Hierarchy, class_of_type, classes_by_type, first_without_depth};
+use dexorder::{HasParents, class_of_type, classes_by_type, depths_of, first_without_depth};
 use dexpool::{Numbering, Remap, SymbolKind};
 use dexstr::Name;
 use std::alloc::{AllocError, Global};
@@ -87,7 +87,7 @@ pub(crate) fn class_depths(
     ensures fault { IfErr result (OnceReports numbering.now classes.now) }
 {
     let types = numbering.count(SymbolKind::Typ);
-    let depths = Hierarchy::of(alloc, classes, types)?.depths(alloc)?;
+    let depths = depths_of(alloc, classes, types)?;
     match first_without_depth(&depths) {
         Some(i) => Err(MergeFault::Cycle(Name::of(alloc, numbering.typ(classes[i].name()))?)),
         None => Ok(depths),

@@ -1,6 +1,8 @@
 -- For each type the class that it names, and the parents of a class, one element at a time.
-use Rattle.dexorder.proofs.Common.{◌≡◌, ℕ, ◌+◌, ◌<◌, List, [], ◌∷◌, ◌++◌, length, get_or, take, refl, sym, ap, ◌∙◌, subst, arith, inl, inr, length-take, map, Option, Some, None, IsSome, slice_set, cases_eq, cases_lt, get_or-set_same, get_or-set_other, take_more, length_push, get_or_append_left, get_or_push, append_assoc, map-append, length-map, present, same_Some, present-append}
-use Rattle.dexorder.specs.{AreByType, classes_of_types}
+use Rattle.dexorder.proofs.Common.{◌≡◌, ℕ, ◌+◌, ◌<◌, List, [], ◌∷◌, ◌++◌, length, get_or, take, refl, sym, ap, ◌∙◌, subst, arith, inl, inr, length-take, map, Option, Some, None, IsSome, slice_set, cases_eq, cases_lt, get_or-set_same, get_or-set_other, take_more, length_push, get_or_append_left, get_or_push, map-append, length-map, present, same_Some, zero, suc, Contains, Contains-get_or, get_or-map}
+use Rattle.dexspec.proofs.sharing.Sharing.{present_source}
+use Rattle.dexorder.specs.{AreByType, AreWithin, classes_of_types, parent_types}
+use Rattle.dexorder.specs.internal.Searching.{AreParentsWithin, parents_in, parents_of_all}
 
 -- ---- one more class
 
@@ -50,14 +52,65 @@ by_type_next name_of cs by_type i name d lt h e less =
     let all : map name_of (take (i + 1) cs) ≡ before ++ name ∷ [] = ap (map name_of) (take_more cs i d lt) ∙ map-append name_of (take i cs) (get_or cs i d ∷ []) ∙ ap (λ (n : ℕ). before ++ n ∷ []) (sym e) in
     subst (λ (l : List ℕ). AreByType l (slice_set by_type name (Some i))) (sym all) (subst (λ (k : ℕ). AreByType (before ++ name ∷ []) (slice_set by_type name (Some k))) count (by_type_more before by_type name h less))
 
--- ---- one more parent
+-- ---- the parents of classes
 
-pub parents_next : (by_type : List (Option ℕ)) (before types : List ℕ) (k d : ℕ) → k < length types → (old new : List ℕ) → old ≡ classes_of_types by_type (before ++ take k types) → new ≡ old ++ classes_of_types by_type (get_or types k d ∷ [])
-    → new ≡ classes_of_types by_type (before ++ take (k + 1) types)
-parents_next by_type before types k d lt old new e pushed =
-    let f : ℕ → Option ℕ = λ t. get_or by_type t None in
-    let all : before ++ take (k + 1) types ≡ (before ++ take k types) ++ get_or types k d ∷ [] = ap (λ (l : List ℕ). before ++ l) (take_more types k d lt) ∙ sym (append_assoc before (take k types) (get_or types k d ∷ [])) in
-    pushed ∙ ap (λ (l : List ℕ). l ++ present (f (get_or types k d) ∷ [])) e
-    ∙ sym (present-append (map f (before ++ take k types)) (f (get_or types k d) ∷ []))
-    ∙ ap present (sym (map-append f (before ++ take k types) (get_or types k d ∷ [])))
-    ∙ ap (λ (l : List ℕ). present (map f l)) (sym all)
+-- without the types that are no classes they are those of the types
+pub parents_present : (by_type : List (Option ℕ)) (superclass : Option ℕ) (interfaces : List ℕ) → present (parents_in by_type superclass interfaces) ≡ classes_of_types by_type (parent_types superclass interfaces)
+parents_present by_type None interfaces = refl
+parents_present by_type (Some t) interfaces = refl
+
+pub parents_length : (by_type : List (Option ℕ)) (superclass : Option ℕ) (interfaces : List ℕ) → length (parents_in by_type superclass interfaces) ≡ length interfaces + 1
+parents_length by_type None interfaces = omega (arith, length-map interfaces (λ t. get_or by_type t None))
+parents_length by_type (Some t) interfaces = omega (arith, length-map interfaces (λ t. get_or by_type t None))
+
+-- the superclass
+pub parent_first : (by_type : List (Option ℕ)) (t : ℕ) (interfaces : List ℕ) → get_or (parents_in by_type (Some t) interfaces) 0 None ≡ get_or by_type t None
+parent_first by_type t interfaces = refl
+
+-- an interface
+pub parent_later : (by_type : List (Option ℕ)) (superclass : Option ℕ) (interfaces : List ℕ) (j k d : ℕ) → k ≡ suc j → j < length interfaces → get_or (parents_in by_type superclass interfaces) k None ≡ get_or by_type (get_or interfaces j d) None
+parent_later by_type None interfaces j k d e lt = ap (λ (n : ℕ). get_or (parents_in by_type None interfaces) n None) e ∙ get_or-map (λ t. get_or by_type t None) interfaces j d None lt
+parent_later by_type (Some s) interfaces j k d e lt = ap (λ (n : ℕ). get_or (parents_in by_type (Some s) interfaces) n None) e ∙ get_or-map (λ t. get_or by_type t None) interfaces j d None lt
+
+-- a class among the parents is that of a type
+mapped_type : (by_type : List (Option ℕ)) (types : List ℕ) (k p : ℕ) → get_or (map (λ t. get_or by_type t None) types) k None ≡ Some p → (t : ℕ) × (get_or by_type t None ≡ Some p)
+mapped_type by_type [] k p e = absurd cc
+mapped_type by_type (t ∷ types) zero p e = (t, e)
+mapped_type by_type (t ∷ types) (suc k) p e = mapped_type by_type types k p e
+
+pub parent_type : (by_type : List (Option ℕ)) (superclass : Option ℕ) (interfaces : List ℕ) (k p : ℕ) → get_or (parents_in by_type superclass interfaces) k None ≡ Some p → (t : ℕ) × (get_or by_type t None ≡ Some p)
+parent_type by_type None interfaces zero p e = absurd cc
+parent_type by_type None interfaces (suc k) p e = mapped_type by_type interfaces k p e
+parent_type by_type (Some t) interfaces zero p e = (t, e)
+parent_type by_type (Some t) interfaces (suc k) p e = mapped_type by_type interfaces k p e
+
+module _ {C : Type 0} (by_type : List (Option ℕ)) (superclass_of : C → Option ℕ) (interfaces_of : C → List ℕ) where
+  pub all_present : (cs : List C) → map present (parents_of_all by_type superclass_of interfaces_of cs) ≡ map (λ c. classes_of_types by_type (parent_types (superclass_of c) (interfaces_of c))) cs
+  all_present [] = refl
+  all_present (c ∷ cs) = λ i. (parents_present by_type (superclass_of c) (interfaces_of c)) i ∷ (all_present cs) i
+
+  type_of_any : (cs : List C) (i k p : ℕ) → get_or (get_or (parents_of_all by_type superclass_of interfaces_of cs) i []) k None ≡ Some p → (t : ℕ) × (get_or by_type t None ≡ Some p)
+  type_of_any [] i k p e = absurd cc
+  type_of_any (c ∷ cs) zero k p e = parent_type by_type (superclass_of c) (interfaces_of c) k p e
+  type_of_any (c ∷ cs) (suc i) k p e = type_of_any cs i k p e
+
+  -- each of them is a class
+  pub parents_within : (cs : List C) → AreParentsWithin by_type (length cs) → AreWithin (map present (parents_of_all by_type superclass_of interfaces_of cs))
+  parents_within cs h i d lt k e less =
+      let parents = parents_of_all by_type superclass_of interfaces_of cs in
+      let few : i < length parents = omega (arith, lt, length-map parents present) in
+      let at : get_or (map present parents) i d ≡ present (get_or parents i []) = get_or-map present parents i [] d few in
+      let p = get_or (get_or (map present parents) i d) k e in
+      let s = present_source (get_or parents i []) p (subst (λ (l : List ℕ). Contains l p) at (Contains-get_or (get_or (map present parents) i d) k e less)) in
+      let t = type_of_any cs i s.0 p s.2 in
+      omega (arith, h t.0 p t.1, length-map parents present, length-map cs (λ c. parents_in by_type (superclass_of c) (interfaces_of c)))
+
+  -- the parents of one class
+  pub parents_of_one : (cs : List C) (i : ℕ) (c : C) → i < length cs → c ≡ get_or cs i c → get_or (parents_of_all by_type superclass_of interfaces_of cs) i [] ≡ parents_in by_type (superclass_of c) (interfaces_of c)
+  parents_of_one cs i c lt e = get_or-map (λ c. parents_in by_type (superclass_of c) (interfaces_of c)) cs i c [] lt ∙ ap (λ (c : C). parents_in by_type (superclass_of c) (interfaces_of c)) (sym e)
+
+  -- they are some, of which the superclass is one
+  pub parents_some : (cs : List C) (i : ℕ) → i < length cs → 0 < length (get_or (parents_of_all by_type superclass_of interfaces_of cs) i [])
+  parents_some [] i lt = absurd (omega arith)
+  parents_some (c ∷ cs) zero lt = omega (arith, parents_length by_type (superclass_of c) (interfaces_of c))
+  parents_some (c ∷ cs) (suc i) lt = parents_some cs i (omega arith)

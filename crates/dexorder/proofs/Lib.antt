@@ -3,7 +3,6 @@ pub mod ByType
 pub mod DefinitionDepths
 pub mod DefinitionOrder
 pub mod DepthLaws
-pub mod Parts
 pub mod PlaceLaws
 pub mod SearchLaws
-pub mod InOrder
+pub mod Passing

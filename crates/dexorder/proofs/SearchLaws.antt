@@ -1,23 +1,37 @@
 -- The steps of a search for depths.
-use Rattle.dexorder.proofs.Common.{◌≡◌, ◌≢◌, ◌⊎◌, ℕ, zero, suc, ◌+◌, ◌<◌, ◌≤◌, Bool, true, false, ◌&&◌, cond, max, List, [], ◌∷◌, ◌++◌, length, get_or, None, Some, refl, sym, ap, ◌∙◌, subst, arith, inl, inr, All, append_assoc, append-nil, length-append, length-set, get_or-set_same, get_or-set_other, set, AllPairs, Contains, list_all, get_or-append_seam, cases_lt, cases_eq, All-push, All-contains, Contains-append_left, Contains-append_right, Contains-append_cases, sum_by_push, Contains-nil, Contains-first, Contains-cons_cases, list_all-member, list_all-from_members, false_from_ne_true, list_all-append, same_Some}
+use Rattle.dexorder.proofs.Common.{◌≡◌, ◌≢◌, ◌⊎◌, ℕ, zero, suc, ◌+◌, ◌<◌, ◌≤◌, Bool, true, false, ◌&&◌, cond, max, List, [], ◌∷◌, ◌++◌, length, get_or, None, Some, refl, sym, ap, ◌∙◌, subst, arith, inl, inr, All, length-append, length-set, get_or-set_same, get_or-set_other, set, AllPairs, Contains, list_all, get_or-append_seam, cases_lt, cases_eq, All-push, All-contains, Contains-append_left, Contains-append_right, Contains-append_cases, sum_by_push, Contains-nil, Contains-first, Contains-cons_cases, list_all-member, list_all-from_members, false_from_ne_true, list_all-append, same_Some, ◌-◌, Option, map, present, get_or-map, length-map, take, take_all}
+use Rattle.dexspec.proofs.sharing.Sharing.{present_has}
 use Rattle.std.proofs.Math.ListN.{get_or-append}
 use Rattle.std.proofs.lemmas.List.Quantifiers.{all_pairs_push}
 use Rattle.dexorder.specs.declared.depths.Visit.{Visit}
 use Rattle.dexorder.specs.declared.depths.Search.{Search}
-use Rattle.dexorder.specs.{parents_of, is_under, AreWithin, IsDepth, HasNone}
-use Rattle.dexorder.specs.internal.Searching.{is_under_all, IsVisit, IsWaitingFor, IsOn, IsSearch, work_left, work_unseen}
-use Rattle.dexorder.proofs.DepthLaws.{list_all-fails, is_under-suc, is_under-later, parent_within}
+use Rattle.dexorder.specs.{parents_of, is_under, AreDepths, AreWithin, IsDepth, IsDepthOrNone, HasNone}
+use Rattle.dexorder.specs.internal.Searching.{is_under_all, AreBelow, HasDepthBelow, IsWaiting, IsVisit, IsWaitingFor, IsOn, IsSearch, IsDepthBelow, IsBegun, parents_at, work_left, work_unseen}
+use Rattle.std.proofs.lemmas.List.{get_or_past}
+use Rattle.dexorder.proofs.DepthLaws.{list_all-fails, is_under-suc, is_under-later, parent_within, depth_less}
 
 -- after a class is seen, the bound no longer counts its steps
-pub work_unseen-set : (classes : List (List ℕ)) (seen : List Bool) (i : ℕ) → i < length classes → length seen ≡ length classes → get_or seen i false ≡ false → work_unseen classes (set seen i true) + (2 + length (parents_of classes i)) ≡ work_unseen classes seen
-work_unseen-set (ps ∷ classes) (s ∷ seen) zero lt same fresh =
+work_unseen-set : (parents : List (List (Option ℕ))) (seen : List Bool) (i : ℕ) → i < length parents → length seen ≡ length parents → get_or seen i false ≡ false → work_unseen parents (set seen i true) + (2 + length (parents_at parents i)) ≡ work_unseen parents seen
+work_unseen-set (ps ∷ parents) (s ∷ seen) zero lt same fresh =
     omega (arith, ap (λ b. cond b 0 (2 + length ps)) fresh)
-work_unseen-set (ps ∷ classes) (s ∷ seen) (suc i) lt same fresh = omega (arith, work_unseen-set classes seen i (omega arith) (omega arith) fresh)
+work_unseen-set (ps ∷ parents) (s ∷ seen) (suc i) lt same fresh = omega (arith, work_unseen-set parents seen i (omega arith) (omega arith) fresh)
 work_unseen-set _ _ i lt same fresh = absurd (omega arith)
 
+-- one more visit
+work_push : (parents : List (List (Option ℕ))) (path : List Visit) (v : Visit) → work_left parents (path ++ v ∷ []) ≡ work_left parents path + (1 + (length (parents_at parents v.class) - v.passed))
+work_push parents path v = sum_by_push (λ (u : Visit). 1 + (length (parents_at parents u.class) - u.passed)) path v
+
 -- so the first visit of a class takes fewer steps than were left
-pub begun_nearer : (classes : List (List ℕ)) (seen now : List Bool) (path visits : List Visit) (v : Visit) (i : ℕ) → i < length classes → length seen ≡ length classes → get_or seen i false ≡ false → now ≡ set seen i true → visits ≡ path ++ v ∷ [] → v.left.now ≡ parents_of classes i → work_unseen classes now + work_left visits < work_unseen classes seen + work_left path
-begun_nearer classes seen now path visits v i lt same fresh written grown rest = omega (arith, ap (work_unseen classes) written, work_unseen-set classes seen i lt same fresh, ap work_left grown ∙ sum_by_push (λ (u : Visit). 1 + length u.left.now) path v, ap length rest)
+pub begun_nearer : (parents : List (List (Option ℕ))) (s t : Search) (i : ℕ) → IsBegun s i t → i < length parents → length s.is_seen.items ≡ length parents → get_or s.is_seen.items i false ≡ false → work_unseen parents t.is_seen.items + work_left parents t.path.items < work_unseen parents s.is_seen.items + work_left parents s.path.items
+begun_nearer parents s t i b lt same fresh = omega (arith, ap (work_unseen parents) b.seen, work_unseen-set parents s.is_seen.items i lt same fresh, ap (work_left parents) b.path ∙ work_push parents s.path.items (record { class = i; passed = 0; depth = 0 }))
+
+-- a visit that goes on takes no more steps
+pub later_nearer : (parents : List (List (Option ℕ))) (path : List Visit) (v w : Visit) → w.class ≡ v.class → v.passed ≤ w.passed → work_left parents (path ++ w ∷ []) ≤ work_left parents (path ++ v ∷ [])
+later_nearer parents path v w same later = omega (arith, work_push parents path v, work_push parents path w, ap (λ c. length (parents_at parents c)) same, later)
+
+-- and without it there are fewer
+pub ended_nearer : (parents : List (List (Option ℕ))) (path : List Visit) (v : Visit) → work_left parents path < work_left parents (path ++ v ∷ [])
+ended_nearer parents path v = omega (arith, work_push parents path v)
 
 module _ (classes : List (List ℕ)) where
   -- a class is under n if its parents are
@@ -47,34 +61,64 @@ module _ (classes : List (List ℕ)) where
     | inr ge ↦ let z : n ≡ m = omega arith in subst (λ j. is_under_all classes j (ps ++ p ∷ []) ≡ false) z (more_parents n ps (p ∷ []) h)
   ]
 
-  module _ (s : Search) (path : List Visit) (v : Visit) (h : IsSearch classes s (path ++ v ∷ [])) where
+-- ---- the state of a search
+
+module _ (parents : List (List (Option ℕ))) where
+  -- the parents of a class are those that are classes
+  parents_are : (i : ℕ) → i < length parents → parents_of (map present parents) i ≡ present (parents_at parents i)
+  parents_are i lt = get_or-map present parents i [] [] lt
+
+  -- the visit of a class begins
+  pub search_begun : (s t : Search) (i : ℕ) → IsBegun s i t → IsSearch parents s s.path.items → i < length parents → 0 < length (parents_at parents i) → All (IsWaitingFor (map present parents) i) s.path.items → IsSearch parents t t.path.items
+  search_begun s t i b h lt some waits =
+      let v : Visit = record { class = i; passed = 0; depth = 0 } in
+      let path = s.path.items in
+      let within : i < length s.is_seen.items = omega (arith, lt, h.seen_count) in
+      let same_count : length (set s.is_seen.items i true) ≡ length s.is_seen.items = simp length-set in
+      let begun : IsVisit parents v = record { within = lt; passed = some; below = record { under = refl; not_under = refl } } in
+      subst (IsSearch parents t) (sym b.path) (record {
+        depth_count = ap length b.depths ∙ h.depth_count;
+        seen_count = ap length b.seen ∙ same_count ∙ h.seen_count;
+        known = λ j k g. h.known j k (sym (ap (λ ds. get_or ds j None) b.depths) ∙ g);
+        unknown = λ j seen g. elim (cases_eq j i) [
+          | inl same ↦ inl (v, Contains-append_right path (v ∷ []) v (Contains-first v []), sym same)
+          | inr ne ↦ elim (h.unknown j (sym (ap (λ bs. get_or bs j false) b.seen ∙ get_or-set_other s.is_seen.items i j true false ne) ∙ seen) (sym (ap (λ ds. get_or ds j None) b.depths) ∙ g)) [
+            | inl on ↦ inl (on.0, Contains-append_left path (v ∷ []) on.0 on.1, on.2)
+            | inr none ↦ inr none
+          ]
+        ];
+        visits = All-push (IsVisit parents) path v h.visits begun;
+        waiting = all_pairs_push (λ u x. IsWaitingFor (map present parents) x.class u) path v h.waiting waits;
+      })
+
+  module _ (s : Search) (path : List Visit) (v : Visit) (h : IsSearch parents s (path ++ v ∷ [])) where
     -- the last visit
-    last_visit : IsVisit classes v
-    last_visit = subst (IsVisit classes) (get_or-append_seam path v [] v) (h.visits (length path) v (omega (arith, length-append path (v ∷ []))))
+    pub last_visit : IsVisit parents v
+    last_visit = subst (IsVisit parents) (get_or-append_seam path v [] v) (h.visits (length path) v (omega (arith, length-append path (v ∷ []))))
 
     -- the visits before it
-    prefix_visits : All (IsVisit classes) path
-    prefix_visits k d lt = subst (IsVisit classes) (get_or-append path (v ∷ []) d k lt) (h.visits k d (omega (arith, length-append path (v ∷ []))))
+    prefix_visits : All (IsVisit parents) path
+    prefix_visits k d lt = subst (IsVisit parents) (get_or-append path (v ∷ []) d k lt) (h.visits k d (omega (arith, length-append path (v ∷ []))))
 
-    prefix_waiting : AllPairs (λ u w. IsWaitingFor classes w.class u) path
+    prefix_waiting : AllPairs (λ u w. IsWaitingFor (map present parents) w.class u) path
     prefix_waiting i j d ij lt =
         let less : i < length path = omega arith in
-        subst (λ w. IsWaitingFor classes w.class (get_or path i d)) (get_or-append path (v ∷ []) d j lt) (subst (IsWaitingFor classes (get_or (path ++ v ∷ []) j d).class) (get_or-append path (v ∷ []) d i less) (h.waiting i j d ij (omega (arith, length-append path (v ∷ [])))))
+        subst (λ w. IsWaitingFor (map present parents) w.class (get_or path i d)) (get_or-append path (v ∷ []) d j lt) (subst (IsWaitingFor (map present parents) (get_or (path ++ v ∷ []) j d).class) (get_or-append path (v ∷ []) d i less) (h.waiting i j d ij (omega (arith, length-append path (v ∷ [])))))
 
     -- each of them waits for the last
-    waits_last : All (IsWaitingFor classes v.class) path
+    waits_last : All (IsWaitingFor (map present parents) v.class) path
     waits_last k d lt =
-        subst (λ w. IsWaitingFor classes w.class (get_or path k d)) (get_or-append_seam path v [] d) (subst (IsWaitingFor classes (get_or (path ++ v ∷ []) (length path) d).class) (get_or-append path (v ∷ []) d k lt) (h.waiting k (length path) d lt (omega (arith, length-append path (v ∷ [])))))
+        subst (λ w. IsWaitingFor (map present parents) w.class (get_or path k d)) (get_or-append_seam path v [] d) (subst (IsWaitingFor (map present parents) (get_or (path ++ v ∷ []) (length path) d).class) (get_or-append path (v ∷ []) d k lt) (h.waiting k (length path) d lt (omega (arith, length-append path (v ∷ [])))))
 
     -- ---- the last visit has no parent left
 
     -- its class has the depth
-    finished : v.left.now ≡ [] → IsDepth classes v.class v.depth
-    finished e =
-        let same : parents_of classes v.class ≡ last_visit.passed = last_visit.parents ∙ ap (λ ps. last_visit.passed ++ ps) e ∙ append-nil last_visit.passed in
+    finished : (d : ℕ) → IsDepthBelow (map present parents) (present (parents_at parents v.class)) d → IsDepth (map present parents) v.class d
+    finished d below =
+        let same = parents_are v.class last_visit.within in
         record {
-          under = ap (is_under_all classes (suc v.depth)) same ∙ last_visit.under;
-          not_under = under_parents v.depth v.class ∙ ap (is_under_all classes v.depth) same ∙ last_visit.not_under;
+          under = ap (is_under_all (map present parents) (suc d)) same ∙ below.under;
+          not_under = under_parents (map present parents) d v.class ∙ ap (is_under_all (map present parents) d) same ∙ below.not_under;
         }
 
     -- a class on the path is before the last visit, or is its class
@@ -84,22 +128,22 @@ module _ (classes : List (List ℕ)) where
       | inr r ↦ elim (Contains-cons_cases v u [] r) [ inl f ↦ inr (ap (λ (w : Visit). w.class) f ∙ e) | inr l ↦ absurd (Contains-nil u l) ]
     ]
 
-    pub search_finished : (t : Search) → t.depths.items ≡ set s.depths.items v.class (Some v.depth) → t.is_seen.items ≡ s.is_seen.items → v.left.now ≡ [] → IsSearch classes t path
-    search_finished t d f e =
+    pub search_finished : (t : Search) (e : ℕ) → IsDepthBelow (map present parents) (present (parents_at parents v.class)) e → t.depths.items ≡ set s.depths.items v.class (Some e) → t.is_seen.items ≡ s.is_seen.items → IsSearch parents t path
+    search_finished t e below d f =
         let within : v.class < length s.depths.items = omega (arith, last_visit.within, h.depth_count) in
-        let here : get_or t.depths.items v.class None ≡ Some v.depth = ap (λ ds. get_or ds v.class None) d ∙ get_or-set_same s.depths.items v.class (Some v.depth) None within in
-        let same_count : length (set s.depths.items v.class (Some v.depth)) ≡ length s.depths.items = simp length-set in
-        let other : (i : ℕ) → i ≢ v.class → get_or t.depths.items i None ≡ get_or s.depths.items i None = λ i ne. ap (λ ds. get_or ds i None) d ∙ get_or-set_other s.depths.items v.class i (Some v.depth) None ne in
+        let here : get_or t.depths.items v.class None ≡ Some e = ap (λ ds. get_or ds v.class None) d ∙ get_or-set_same s.depths.items v.class (Some e) None within in
+        let same_count : length (set s.depths.items v.class (Some e)) ≡ length s.depths.items = simp length-set in
+        let other : (i : ℕ) → i ≢ v.class → get_or t.depths.items i None ≡ get_or s.depths.items i None = λ i ne. ap (λ ds. get_or ds i None) d ∙ get_or-set_other s.depths.items v.class i (Some e) None ne in
         record {
           depth_count = ap length d ∙ same_count ∙ h.depth_count;
           seen_count = ap length f ∙ h.seen_count;
           known = λ i k g. elim (cases_eq i v.class) [
             | inl same ↦
-                subst (IsDepth classes i) (same_Some v.depth k (sym here ∙ ap (λ j. get_or t.depths.items j None) (sym same) ∙ g)) (subst (λ j. IsDepth classes j v.depth) (sym same) (finished e))
+                subst (IsDepth (map present parents) i) (same_Some e k (sym here ∙ ap (λ j. get_or t.depths.items j None) (sym same) ∙ g)) (subst (λ j. IsDepth (map present parents) j e) (sym same) (finished e below))
             | inr ne ↦ h.known i k (sym (other i ne) ∙ g)
           ];
           unknown = λ i seen g. elim (cases_eq i v.class) [
-            | inl same ↦ absurd (let z : Some v.depth ≡ None = sym here ∙ ap (λ j. get_or t.depths.items j None) (sym same) ∙ g in cc)
+            | inl same ↦ absurd (let z : Some e ≡ None = sym here ∙ ap (λ j. get_or t.depths.items j None) (sym same) ∙ g in cc)
             | inr ne ↦ elim (h.unknown i (sym (ap (λ bs. get_or bs i false) f) ∙ seen) (sym (other i ne) ∙ g)) [
               | inl on ↦ elim (on_cases i on) [ inl before ↦ inl before | inr same ↦ absurd (ne (sym same)) ]
               | inr none ↦ inr none
@@ -109,69 +153,72 @@ module _ (classes : List (List ℕ)) where
           waiting = prefix_waiting;
         }
 
-    module _ (p : ℕ) (left : List ℕ) (next : v.left.now ≡ p ∷ left) where
+    -- ---- what the last visit comes to
+
+    pub reached_depth : (d : ℕ) → HasDepthBelow (parents_at parents v.class) s.depths.items v (length (parents_at parents v.class)) d → IsDepthBelow (map present parents) (present (parents_at parents v.class)) d
+    reached_depth d h' = subst (λ (l : List (Option ℕ)). IsDepthBelow (map present parents) (present l) d) (take_all (length (parents_at parents v.class)) (parents_at parents v.class) (omega arith)) (h' (map present parents) h.known last_visit.below)
+
+    pub reached_visit : (w : Visit) (p : ℕ) → IsWaiting (parents_at parents v.class) s.depths.items v w p → IsVisit parents w
+    reached_visit w p is =
+        let same : parents_at parents v.class ≡ parents_at parents w.class = ap (parents_at parents) (sym is.class) in
+        record {
+          within = omega (arith, is.class, last_visit.within);
+          passed = subst (λ (l : List (Option ℕ)). w.passed < length l) same is.within;
+          below = subst (λ (l : List (Option ℕ)). IsDepthBelow (map present parents) (present (take w.passed l)) w.depth) same (is.below (map present parents) h.known last_visit.below);
+        }
+
+    -- ---- the last visit goes on
+
+    pub search_later : (w : Visit) (t : Search) (all : List Visit) → w.class ≡ v.class → IsVisit parents w → t.depths.items ≡ s.depths.items → t.is_seen.items ≡ s.is_seen.items → all ≡ path ++ w ∷ [] → IsSearch parents t all
+    search_later w t all class is same seen grown =
+        subst (IsSearch parents t) (sym grown) (record {
+          depth_count = ap length same ∙ h.depth_count;
+          seen_count = ap length seen ∙ h.seen_count;
+          known = λ i k g. h.known i k (sym (ap (λ ds. get_or ds i None) same) ∙ g);
+          unknown = λ i b g. elim (h.unknown i (sym (ap (λ bs. get_or bs i false) seen) ∙ b) (sym (ap (λ ds. get_or ds i None) same) ∙ g)) [
+            | inl on ↦ inl (elim (on_cases i on) [
+              | inl before ↦ (before.0, Contains-append_left path (w ∷ []) before.0 before.1, before.2)
+              | inr here ↦ (w, Contains-append_right path (w ∷ []) w (Contains-first w []), class ∙ here)
+            ])
+            | inr none ↦ inr none
+          ];
+          visits = All-push (IsVisit parents) path w prefix_visits is;
+          waiting = all_pairs_push (λ u x. IsWaitingFor (map present parents) x.class u) path w prefix_waiting (λ k e lt. subst (λ c. IsWaitingFor (map present parents) c (get_or path k e)) (sym class) (waits_last k e lt));
+        })
+
+    module _ (p k : ℕ) (few : k < length (parents_at parents v.class)) (next : get_or (parents_at parents v.class) k None ≡ Some p) where
       -- ---- the last visit waits for a parent
 
-      is_parent : Contains (parents_of classes v.class) p
-      is_parent = subst (λ ps. Contains ps p) (sym (last_visit.parents ∙ ap (λ ps. last_visit.passed ++ ps) next)) (Contains-append_right last_visit.passed (p ∷ left) p (Contains-first p left))
+      is_parent : Contains (parents_of (map present parents) v.class) p
+      is_parent = subst (λ ps. Contains ps p) (sym (parents_are v.class last_visit.within)) (present_has (parents_at parents v.class) k p few next)
 
-      pub next_within : AreWithin classes → p < length classes
-      next_within within = parent_within classes within v.class p last_visit.within is_parent
+      pub next_within : AreWithin (map present parents) → p < length parents
+      next_within within = omega (arith, length-map parents present, parent_within (map present parents) within v.class p (omega (arith, last_visit.within, length-map parents present)) is_parent)
 
-      waits_next : IsWaitingFor classes p v
+      waits_next : IsWaitingFor (map present parents) p v
       waits_next zero e = absurd cc
-      waits_next (suc n) e = is_under-suc classes n p (list_all-member (is_under classes n) (parents_of classes v.class) p e is_parent)
+      waits_next (suc n) e = is_under-suc (map present parents) n p (list_all-member (is_under (map present parents) n) (parents_of (map present parents) v.class) p e is_parent)
 
-      -- all wait for that parent
-      pub all_wait_next : All (IsWaitingFor classes p) (path ++ v ∷ [])
-      all_wait_next = All-push (IsWaitingFor classes p) path v (λ k d lt n e. waits_next n (waits_last k d lt n e)) waits_next
-
-      -- ---- the parent has a depth
-
-      deeper : (d : ℕ) (w : Visit) → IsDepth classes p d → w.class ≡ v.class → w.left.now ≡ left → w.depth ≡ max v.depth (suc d) → IsVisit classes w
-      deeper d w k class rest depth =
-          let ps = last_visit.passed in
-          record {
-            within = omega (arith, class, last_visit.within);
-            passed = ps ++ p ∷ [];
-            parents = ap (parents_of classes) class ∙ last_visit.parents ∙ ap (λ qs. ps ++ qs) (next ∙ ap (λ qs. p ∷ qs) (sym rest)) ∙ sym (append_assoc ps (p ∷ []) w.left.now);
-            under = deeper_under w.depth v.depth d p ps (omega (arith, depth)) (omega (arith, depth)) last_visit.under k;
-            not_under = deeper_not_under w.depth v.depth d p ps depth last_visit.not_under k;
-          }
-
-      pub search_deeper : (d : ℕ) (w : Visit) (t : Search) (all : List Visit) → get_or s.depths.items p None ≡ Some d → w.class ≡ v.class → w.left.now ≡ left → w.depth ≡ max v.depth (suc d) → t.depths.items ≡ s.depths.items → t.is_seen.items ≡ s.is_seen.items → all ≡ path ++ w ∷ [] → IsSearch classes t all
-      search_deeper d w t all known class rest depth same seen grown =
-          subst (IsSearch classes t) (sym grown) (record {
-            depth_count = ap length same ∙ h.depth_count;
-            seen_count = ap length seen ∙ h.seen_count;
-            known = λ i k g. h.known i k (sym (ap (λ ds. get_or ds i None) same) ∙ g);
-            unknown = λ i b g. elim (h.unknown i (sym (ap (λ bs. get_or bs i false) seen) ∙ b) (sym (ap (λ ds. get_or ds i None) same) ∙ g)) [
-              | inl on ↦ inl (elim (on_cases i on) [
-                | inl before ↦ (before.0, Contains-append_left path (w ∷ []) before.0 before.1, before.2)
-                | inr here ↦ (w, Contains-append_right path (w ∷ []) w (Contains-first w []), class ∙ here)
-              ])
-              | inr none ↦ inr none
-            ];
-            visits = All-push (IsVisit classes) path w prefix_visits (deeper d w (h.known p d known) class rest depth);
-            waiting = all_pairs_push (λ u x. IsWaitingFor classes x.class u) path w prefix_waiting (λ k e lt. subst (λ c. IsWaitingFor classes c (get_or path k e)) (sym class) (waits_last k e lt));
-          })
+      -- all wait for that parent, also where the last visit goes on
+      pub all_wait_next : (w : Visit) → w.class ≡ v.class → All (IsWaitingFor (map present parents) p) (path ++ w ∷ [])
+      all_wait_next w same = All-push (IsWaitingFor (map present parents) p) path w (λ k d lt n e. waits_next n (waits_last k d lt n e)) (λ n e. waits_next n (subst (λ c. is_under (map present parents) n c ≡ true) same e))
 
       -- ---- the parent has no depth, and was seen
 
       -- a class on the path that the last visit waits for makes a cycle
-      cyclic : (n : ℕ) → (i : ℕ) → ((m : ℕ) → is_under classes m p ≡ true → is_under classes m v.class ≡ true) → is_under classes n v.class ≡ true → ⊥
+      cyclic : (n : ℕ) → (i : ℕ) → ((m : ℕ) → is_under (map present parents) m p ≡ true → is_under (map present parents) m v.class ≡ true) → is_under (map present parents) n v.class ≡ true → ⊥
       cyclic zero i back e = absurd cc
-      cyclic (suc n) i back e = cyclic n i back (back n (list_all-member (is_under classes n) (parents_of classes v.class) p e is_parent))
+      cyclic (suc n) i back e = cyclic n i back (back n (list_all-member (is_under (map present parents) n) (parents_of (map present parents) v.class) p e is_parent))
 
-      none_last : IsOn (path ++ v ∷ []) p ⊎ HasNone classes p → HasNone classes v.class
-      none_last (inl on) n = false_from_ne_true (is_under classes n v.class) (cyclic n 0 (elim (on_cases p on) [
-        | inl before ↦ λ m e. All-contains (IsWaitingFor classes v.class) path before.0 waits_last before.1 m (ap (is_under classes m) before.2 ∙ e)
-        | inr same ↦ λ m e. ap (is_under classes m) same ∙ e
+      none_last : IsOn (path ++ v ∷ []) p ⊎ HasNone (map present parents) p → HasNone (map present parents) v.class
+      none_last (inl on) n = false_from_ne_true (is_under (map present parents) n v.class) (cyclic n 0 (elim (on_cases p on) [
+        | inl before ↦ λ m e. All-contains (IsWaitingFor (map present parents) v.class) path before.0 waits_last before.1 m (ap (is_under (map present parents) m) before.2 ∙ e)
+        | inr same ↦ λ m e. ap (is_under (map present parents) m) same ∙ e
       ]))
       none_last (inr none) zero = refl
-      none_last (inr none) (suc n) = list_all-fails (is_under classes n) (parents_of classes v.class) p is_parent (none n)
+      none_last (inr none) (suc n) = list_all-fails (is_under (map present parents) n) (parents_of (map present parents) v.class) p is_parent (none n)
 
-      pub search_cut : get_or s.is_seen.items p false ≡ true → get_or s.depths.items p None ≡ None → IsSearch classes s path
+      pub search_cut : get_or s.is_seen.items p false ≡ true → get_or s.depths.items p None ≡ None → IsSearch parents s path
       search_cut seen known = record {
         depth_count = h.depth_count;
         seen_count = h.seen_count;
@@ -179,10 +226,40 @@ module _ (classes : List (List ℕ)) where
         unknown = λ i b g. elim (h.unknown i b g) [
           | inl on ↦ elim (on_cases i on) [
             | inl before ↦ inl before
-            | inr same ↦ inr (subst (HasNone classes) same (none_last (h.unknown p seen known)))
+            | inr same ↦ inr (subst (HasNone (map present parents)) same (none_last (h.unknown p seen known)))
           ]
           | inr none ↦ inr none
         ];
         visits = prefix_visits;
         waiting = prefix_waiting;
       }
+
+-- ---- the depths that are known
+
+-- are less than the number of classes
+pub known_below : (parents : List (List (Option ℕ))) (s : Search) (path : List Visit) → IsSearch parents s path → AreWithin (map present parents) → AreBelow (length s.depths.items) s.depths.items
+known_below parents s path h within i d e = elim (cases_lt i (length s.depths.items)) [
+  | inl lt ↦ omega (arith, depth_less (map present parents) within i d (omega (arith, lt, h.depth_count, length-map parents present)) (h.known i d e), h.depth_count, length-map parents present)
+  | inr ge ↦ absurd (let n : None ≡ Some d = sym (get_or_past s.depths.items i None (omega (arith, ge))) ∙ e in cc)
+]
+
+-- are those of all classes once each was seen and no visit is left
+pub all_depths : (parents : List (List (Option ℕ))) (s : Search) → IsSearch parents s [] → ((k : ℕ) → k < length parents → get_or s.is_seen.items k false ≡ true) → AreDepths (map present parents) s.depths.items
+all_depths parents s h seen = record {
+  count = h.depth_count ∙ sym (length-map parents present);
+  is_depth = λ i lt. depth_or_none i (get_or s.depths.items i None) refl (omega (arith, lt, length-map parents present));
+} where
+  depth_or_none : (i : ℕ) (o : Option ℕ) → get_or s.depths.items i None ≡ o → i < length parents → IsDepthOrNone (map present parents) i (get_or s.depths.items i None)
+  depth_or_none i (Some d) e lt = subst (IsDepthOrNone (map present parents) i) (sym e) (h.known i d e)
+  depth_or_none i None e lt = subst (IsDepthOrNone (map present parents) i) (sym e) (elim (h.unknown i (seen i lt) e) [
+    | inl on ↦ absurd (Contains-nil on.0 on.1)
+    | inr none ↦ none
+  ])
+
+-- ---- a visit that has begun
+
+pub begun_seen : (s t : Search) (i : ℕ) → IsBegun s i t → i < length s.is_seen.items → get_or t.is_seen.items i false ≡ true
+begun_seen s t i b lt = ap (λ bs. get_or bs i false) b.seen ∙ get_or-set_same s.is_seen.items i true false lt
+
+pub before_seen : (s t : Search) (i k : ℕ) → IsBegun s i t → k < i → get_or s.is_seen.items k false ≡ true → get_or t.is_seen.items k false ≡ true
+before_seen s t i k b lt e = ap (λ bs. get_or bs k false) b.seen ∙ get_or-set_other s.is_seen.items i k true false (λ same. omega (arith, same, lt)) ∙ e

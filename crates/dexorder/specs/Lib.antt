@@ -2,10 +2,8 @@ pub mod Definitions
 pub mod Depths
 pub mod Parents
 pub mod Places
-pub mod Spans
 pub mod internal
 unfoldable pub use Definitions.*
 unfoldable pub use Depths.*
 unfoldable pub use Parents.*
 unfoldable pub use Places.*
-unfoldable pub use Spans.*

@@ -18,11 +18,6 @@ parent_types superclass interfaces = option_to_list superclass ++ interfaces
 abbrev pub classes_of_types : List (Option ℕ) → List ℕ → List ℕ
 classes_of_types by_type types = present (map (λ t. slice_index_or by_type t None) types)
 
--- the classes of the superclass and the interfaces of a class
-abbrev pub AreParentsOf : {C : Type 0} → List (Option ℕ) → (C → Option ℕ) → (C → List ℕ) → C → List ℕ → Type 0
-AreParentsOf by_type superclass_of interfaces_of c classes =
-    classes ≡ classes_of_types by_type (parent_types (superclass_of c) (interfaces_of c))
-
 -- the classes of these names and parents: for each class the parents that are classes
 pub record IsHierarchyOf (names : List ℕ) (parents : List (List ℕ)) (classes : List (List ℕ)) : Type 0 where
   pub by_type : List (Option ℕ)

@@ -1,3 +1,2 @@
 -- Words of the contracts of private functions: no public contract reaches them.
 pub mod Searching
-pub mod InOrder

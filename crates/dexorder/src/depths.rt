@@ -1,50 +1,97 @@
 //! The depths of classes: a search along the parents of each class, which visits each class once.
 
-ghost use Rattle.std.specs.Prelude.{◌≡◌, ◌<◌, ◌+◌, ◌++◌, [], ◌∷◌, length, slice_index_or, true, false, All, IfOk, OnOk, MatchOption};
-ghost use Rattle.dexorder.specs.Depths.{AreWithin, AreDepths};
-ghost use Rattle.dexorder.specs.Parents.{AllHaveDepths, IsFirstWithout};
-ghost use Rattle.dexorder.specs.internal.Searching.{IsSearch, IsWaitingFor, AreStillSeen, IsNearer, IsNearerFrom};
+ghost use Rattle.std.specs.Prelude.{◌≡◌, ◌≤◌, ◌<◌, ◌++◌, [], ◌∷◌, length, slice_index_or, All, IfOk, OnOk, MatchOption};
+ghost use Rattle.dexorder.specs.Parents.{AllHaveDepths, AreDepthsOfClasses, IsFirstWithout};
+ghost use Rattle.dexorder.specs.internal.Searching.{AreBelow, AreStillSeen, HasReached, IsBegun, IsNearerFrom, IsSearch, AreParentsWithin, parents_in, parents_of_all};
 
-use crate::hierarchy::Hierarchy;
+use crate::parents::{HasParents, class_of_type, classes_by_type};
 use std::alloc::{AllocError, Global};
 
-/// The visit of a class. It waits for the depth of each parent in turn.
+/// The visit of a class. It waits for the depth of each parent in turn: of its superclass, then of its interfaces.
 #[derive(Clone, Copy)]
-struct Visit<'a> {
+struct Visit {
     class: usize,
-    /// The parent that it waits for, and the parents after it.
-    left: &'a [usize],
-    /// One more than the greatest depth of the parents before, or 0 if there are none.
+    /// The number of parents that it waits for no longer.
+    passed: usize,
+    /// One more than the greatest depth of these parents, or 0 if none of them is a class.
     depth: usize,
+}
+
+/// What a visit comes to.
+enum Reached {
+    /// The depth of its class.
+    Depth(usize),
+    /// A parent whose depth is not known, for which the visit waits.
+    Waiting(Visit, usize),
 }
 
 /// The state of a search.
 #[derive(Drop)]
-struct Search<'a> {
+struct Search {
     /// The depths that are known.
     depths: Vec<Option<usize>>,
     /// The classes whose visit began.
     is_seen: Vec<bool>,
     /// The visits that are not over. Each visit but the last waits for the class of the next.
-    path: Vec<Visit<'a>>,
+    path: Vec<Visit>,
 }
 
-impl<'a> Search<'a> {
-    /// Begins the visit of a class that each visit waits for.
-    fn begin(&mut self, classes: &'a Hierarchy, class: usize) -> Result<(), AllocError>
-        requires search { IsSearch classes.now self.old self.old.path.items }
-        requires within { class < length classes.now }
-        requires waits { All (IsWaitingFor classes.now class) self.old.path.items }
-        requires fresh { slice_index_or self.old.is_seen.items class false ≡ false }
-        ensures search { OnOk result (IsSearch classes.now self.new self.new.path.items) }
-        ensures seen { OnOk result (AreStillSeen self.old self.new) }
-        ensures begun { OnOk result (slice_index_or self.new.is_seen.items class false ≡ true) }
-        ensures nearer { OnOk result (IsNearer classes.now self.old self.old.path.items self.new) }
+// Parent `k` of a class, if it is a class: its superclass for 0, then its interfaces.
+fn parent<C: HasParents>(by_type: &[Option<usize>], class: &C, k: usize) -> Option<usize>
+    requires { k ≤ length (C.interfaces_of class.now) }
+    ensures { result ≡ slice_index_or
+        (parents_in by_type.now (C.superclass_of class.now) (C.interfaces_of class.now)) k None }
+{
+    let typ = match k.checked_sub(1) {
+        Some(interface) => class.interface(interface),
+        None => class.superclass()?,
+    };
+    class_of_type(by_type, typ)
+}
+
+// What the visit of a class comes to by the depths that are known.
+fn continued<C: HasParents>(
+    by_type: &[Option<usize>],
+    depths: &[Option<usize>],
+    class: &C,
+    visit: Visit,
+) -> Reached
+    requires passed { visit.passed ≤ length (C.interfaces_of class.now) }
+    requires within { AreParentsWithin by_type.now (length depths.now) }
+    requires below { AreBelow (length depths.now) depths.now }
+    ensures { HasReached
+        (parents_in by_type.now (C.superclass_of class.now) (C.interfaces_of class.now))
+        depths.now visit result }
+{
+    let mut depth = visit.depth;
+    for k in visit.passed..=class.interface_count() {
+        if let Some(parent) = parent(by_type, class, k) {
+            let Some(above) = depths[parent] else {
+                return Reached::Waiting(
+                    Visit {
+                        passed: k,
+                        depth,
+                        ..visit
+                    },
+                    parent,
+                );
+            };
+            depth = depth.max(above + 1);
+        }
+    }
+    Reached::Depth(depth)
+}
+
+impl Search {
+    /// Begins the visit of a class.
+    fn begin(&mut self, class: usize) -> Result<(), AllocError>
+        requires { class < length self.old.is_seen.items }
+        ensures { OnOk result (IsBegun self.old class self.new) }
     {
         self.is_seen[class] = true;
         self.path.push(Visit {
             class,
-            left: classes.parents(class),
+            passed: 0,
             depth: 0,
         })?;
         Ok(())
@@ -53,60 +100,70 @@ impl<'a> Search<'a> {
     /// Continues the last visit of the path. The visit is over if all its parents have a depth: its class then has one
     /// too. It is also over if it waits for a class that was seen and has no depth: its class is then above itself, or
     /// below a class that is.
-    fn step(&mut self, classes: &'a Hierarchy, visit: Visit<'a>) -> Result<(), AllocError>
-        requires within { AreWithin classes.now }
-        requires search { IsSearch classes.now self.old (self.old.path.items ++ visit ∷ []) }
-        ensures search { OnOk result (IsSearch classes.now self.new self.new.path.items) }
+    fn step<C: HasParents>(
+        &mut self,
+        by_type: &[Option<usize>],
+        classes: &[C],
+        visit: Visit,
+    ) -> Result<(), AllocError>
+        requires within { AreParentsWithin by_type.now (length classes.now) }
+        requires search { IsSearch
+            (parents_of_all by_type.now C.superclass_of C.interfaces_of classes.now) self.old
+            (self.old.path.items ++ visit ∷ []) }
+        ensures search { OnOk result (IsSearch
+            (parents_of_all by_type.now C.superclass_of C.interfaces_of classes.now) self.new
+            self.new.path.items) }
         ensures seen { OnOk result (AreStillSeen self.old self.new) }
-        ensures nearer { OnOk result (IsNearerFrom classes.now visit.entry self.old self.new) }
+        ensures nearer { OnOk result (IsNearerFrom
+            (parents_of_all by_type.now C.superclass_of C.interfaces_of classes.now) visit
+            self.old self.new) }
     {
-        let Some((parent, left)) = visit.left.split_first() else {
-            self.depths[visit.class] = Some(visit.depth);
-            return Ok(());
-        };
-        if let Some(depth) = self.depths[*parent] {
-            let depth = visit.depth.max(depth + 1);
-            self.path.push(Visit {
-                left,
-                depth,
-                ..visit
-            })?;
-        } else if !self.is_seen[*parent] {
-            self.path.push(visit)?;
-            self.begin(classes, *parent)?;
+        match continued(by_type, &self.depths, &classes[visit.class], visit) {
+            Reached::Depth(depth) => self.depths[visit.class] = Some(depth),
+            Reached::Waiting(visit, parent) => {
+                if !self.is_seen[parent] {
+                    self.path.push(visit)?;
+                    self.begin(parent)?;
+                }
+            }
         }
         Ok(())
     }
 }
 
-impl Hierarchy {
-    /// The depth of each class, or none if the class is above itself or below a class that is. A class without parents
-    /// has depth 0. The depth of another class is one more than the greatest depth of its parents.
-    ///
-    /// Condition: each parent is the number of a class. The time is linear in the number of classes and parents.
-    pub fn depths(&self, alloc: Global) -> Result<Vec<Option<usize>>, AllocError>
-        requires { AreWithin self.now }
-        ensures { IfOk result (λ depths. AreDepths self.now depths.items) }
-    {
-        let count = self.len();
-        let mut search = Search {
-            depths: vec![in alloc; None; count]?,
-            is_seen: vec![in alloc; false; count]?,
-            path: Vec::new(alloc),
-        };
-        for class in 0..count {
-            if !search.is_seen[class] {
-                search.begin(self, class)?;
-                while let Some(visit) = search.path.pop() {
-                    search.step(self, visit)?;
-                }
+/// The depth of each class, or none if the class is above itself or below a class that is. A class without parents
+/// among the classes has depth 0. The depth of another class is one more than the greatest depth of its parents.
+///
+/// Condition: the name of each class is below `types`, the number of types. The time is linear in the number of types,
+/// classes and parents; no parents are copied.
+pub fn depths_of<C: HasParents>(
+    alloc: Global,
+    classes: &[C],
+    types: usize,
+) -> Result<Vec<Option<usize>>, AllocError>
+    requires { All (λ c. C.name_of c < types) classes.now }
+    ensures { IfOk result (λ depths.
+        AreDepthsOfClasses C.name_of C.superclass_of C.interfaces_of classes.now depths.items) }
+{
+    let by_type = classes_by_type(alloc, classes, types)?;
+    let count = classes.len();
+    let mut search = Search {
+        depths: vec![in alloc; None; count]?,
+        is_seen: vec![in alloc; false; count]?,
+        path: Vec::new(alloc),
+    };
+    for class in 0..count {
+        if !search.is_seen[class] {
+            search.begin(class)?;
+            while let Some(visit) = search.path.pop() {
+                search.step(&by_type, classes, visit)?;
             }
         }
-        Ok(search.depths)
     }
+    Ok(search.depths)
 }
 
-/// The first class without a depth in the result of [`Hierarchy::depths`], if there is one.
+/// The first class without a depth in the result of [`depths_of`], if there is one.
 pub fn first_without_depth(depths: &[Option<usize>]) -> Option<usize>
     ensures { MatchOption result (AllHaveDepths depths.now) (IsFirstWithout depths.now) }
 {

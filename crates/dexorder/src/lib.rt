@@ -9,15 +9,11 @@
 #![tactic(auto)]
 
 mod depths;
-mod hierarchy;
-mod in_order;
 mod laws;
 mod order;
 mod parents;
 
-pub use depths::first_without_depth;
-pub use hierarchy::Hierarchy;
-pub use in_order::depths_of;
+pub use depths::{depths_of, first_without_depth};
 pub use laws::{
     classes_of_definitions, depths_of_classes, depths_of_definitions, order_of_definitions,
 };

@@ -1,23 +1,82 @@
 -- A search for the depths of classes along their parents.
-use Rattle.std.specs.Prelude.{◌≡◌, ◌⊎◌, ℕ, zero, suc, ◌+◌, ◌<◌, Bool, true, false, cond, List, [], ◌∷◌, ◌++◌, length}
-use Rattle.std.specs.Prelude.{All, None, Some, slice_index_or}
+use Rattle.std.specs.Prelude.{◌≡◌, ◌⊎◌, ℕ, zero, suc, ◌+◌, ◌-◌, ◌<◌, ◌≤◌, Bool, true, false, cond, List, [], ◌∷◌, ◌++◌}
+use Rattle.std.specs.Prelude.{length, map, take, All, Option, None, Some, slice_index_or, slice_set}
 use Rattle.std.specs.List.{AllPairs, Contains, list_all, sum_by}
+use Rattle.dexspec.specs.Lists.{present}
 use Rattle.dexorder.specs.declared.depths.Visit.{Visit}
 use Rattle.dexorder.specs.declared.depths.Search.{Search}
-use Rattle.dexorder.specs.Depths.{parents_of, is_under, IsDepth, HasNone}
+use Rattle.dexorder.specs.declared.depths.Reached.{Reached}
+use Rattle.dexorder.specs.declared.depths.Reached.TheVariants.{Depth, Waiting}
+use Rattle.dexorder.specs.Depths.{is_under, IsDepth, HasNone}
+
+-- ---- parents
+
+-- each parent of a class, its superclass and then its interfaces, if it is a class
+abbrev pub parents_in : List (Option ℕ) → Option ℕ → List ℕ → List (Option ℕ)
+parents_in by_type None interfaces = None ∷ map (λ t. slice_index_or by_type t None) interfaces
+parents_in by_type (Some t) interfaces =
+    slice_index_or by_type t None ∷ map (λ t. slice_index_or by_type t None) interfaces
+
+-- those of each class
+abbrev pub parents_of_all : {C : Type 0} → List (Option ℕ) → (C → Option ℕ) → (C → List ℕ) → List C
+    → List (List (Option ℕ))
+parents_of_all by_type superclass_of interfaces_of cs =
+    map (λ c. parents_in by_type (superclass_of c) (interfaces_of c)) cs
+
+-- those of class i
+abbrev pub parents_at : List (List (Option ℕ)) → ℕ → List (Option ℕ)
+parents_at parents i = slice_index_or parents i []
+
+-- the class of each type is less than n
+abbrev pub AreParentsWithin : List (Option ℕ) → ℕ → Type 0
+AreParentsWithin by_type n = (t i : ℕ) → slice_index_or by_type t None ≡ Some i → i < n
+
+-- ---- depths
+
+-- each depth that is known is less than n
+abbrev pub AreBelow : ℕ → List (Option ℕ) → Type 0
+AreBelow n depths = (i d : ℕ) → slice_index_or depths i None ≡ Some d → d < n
+
+-- the depths that are known are those of the classes
+abbrev pub AreKnownDepths : List (List ℕ) → List (Option ℕ) → Type 0
+AreKnownDepths classes depths = (i d : ℕ) → slice_index_or depths i None ≡ Some d → IsDepth classes i d
 
 -- a class with these parents has a depth less than n
 abbrev pub is_under_all : List (List ℕ) → ℕ → List ℕ → Bool
 is_under_all classes zero parents = false
 is_under_all classes (suc n) parents = list_all (is_under classes n) parents
 
--- the depth is that of a class with the parents before the ones that are left
-pub record IsVisit (classes : List (List ℕ)) (v : Visit) : Type 0 where
-  pub within : v.class < length classes
-  pub passed : List ℕ
-  pub parents : parents_of classes v.class ≡ passed ++ v.left.now
-  pub under : is_under_all classes (suc v.depth) passed ≡ true
-  pub not_under : is_under_all classes v.depth passed ≡ false
+-- a class with these parents has the depth
+pub record IsDepthBelow (classes : List (List ℕ)) (parents : List ℕ) (d : ℕ) : Type 0 where
+  pub under : is_under_all classes (suc d) parents ≡ true
+  pub not_under : is_under_all classes d parents ≡ false
+
+-- so it has, if the visit's depth is that below the parents that it passed
+abbrev pub HasDepthBelow : List (Option ℕ) → List (Option ℕ) → Visit → ℕ → ℕ → Type 0
+HasDepthBelow parents depths v k d = (classes : List (List ℕ)) → AreKnownDepths classes depths
+    → IsDepthBelow classes (present (take v.passed parents)) v.depth → IsDepthBelow classes (present (take k parents)) d
+
+-- the visit of this class waits for parent p
+pub record IsWaiting (parents depths : List (Option ℕ)) (v w : Visit) (p : ℕ) : Type 0 where
+  pub class : w.class ≡ v.class
+  pub later : v.passed ≤ w.passed
+  pub within : w.passed < length parents
+  pub is : slice_index_or parents w.passed None ≡ Some p
+  pub unknown : slice_index_or depths p None ≡ None
+  pub below : HasDepthBelow parents depths v w.passed w.depth
+
+-- what the visit comes to by the depths that are known
+abbrev pub HasReached : List (Option ℕ) → List (Option ℕ) → Visit → Reached → Type 0
+HasReached parents depths v (Depth d) = HasDepthBelow parents depths v (length parents) d
+HasReached parents depths v (Waiting w p) = IsWaiting parents depths v w p
+
+-- ---- the search
+
+-- the depth is that below the parents that the visit passed
+pub record IsVisit (parents : List (List (Option ℕ))) (v : Visit) : Type 0 where
+  pub within : v.class < length parents
+  pub passed : v.passed < length (parents_at parents v.class)
+  pub below : IsDepthBelow (map present parents) (present (take v.passed (parents_at parents v.class))) v.depth
 
 -- the depth of class i is at most that of the visit's class, if that has one
 abbrev pub IsWaitingFor : List (List ℕ) → ℕ → Visit → Type 0
@@ -28,14 +87,20 @@ abbrev pub IsOn : List Visit → ℕ → Type 0
 IsOn path i = (v : Visit) × Contains path v × (v.class ≡ i)
 
 -- the state of a search that has these visits on its path
-pub record IsSearch (classes : List (List ℕ)) (s : Search) (path : List Visit) : Type 0 where
-  pub depth_count : length s.depths.items ≡ length classes
-  pub seen_count : length s.is_seen.items ≡ length classes
-  pub known : (i d : ℕ) → slice_index_or s.depths.items i None ≡ Some d → IsDepth classes i d
+pub record IsSearch (parents : List (List (Option ℕ))) (s : Search) (path : List Visit) : Type 0 where
+  pub depth_count : length s.depths.items ≡ length parents
+  pub seen_count : length s.is_seen.items ≡ length parents
+  pub known : AreKnownDepths (map present parents) s.depths.items
   pub unknown : (i : ℕ) → slice_index_or s.is_seen.items i false ≡ true → slice_index_or s.depths.items i None ≡ None
-      → IsOn path i ⊎ HasNone classes i
-  pub visits : All (IsVisit classes) path
-  pub waiting : AllPairs (λ v w. IsWaitingFor classes w.class v) path
+      → IsOn path i ⊎ HasNone (map present parents) i
+  pub visits : All (IsVisit parents) path
+  pub waiting : AllPairs (λ v w. IsWaitingFor (map present parents) w.class v) path
+
+-- the visit of a class has begun
+pub record IsBegun (s : Search) (i : ℕ) (t : Search) : Type 0 where
+  pub depths : t.depths.items ≡ s.depths.items
+  pub seen : t.is_seen.items ≡ slice_set s.is_seen.items i true
+  pub path : t.path.items ≡ s.path.items ++ record { class = i; passed = 0; depth = 0 } ∷ []
 
 -- seen classes stay seen
 abbrev pub AreStillSeen : Search → Search → Type 0
@@ -43,23 +108,23 @@ AreStillSeen s t =
     (i : ℕ) → slice_index_or s.is_seen.items i false ≡ true → slice_index_or t.is_seen.items i false ≡ true
 
 -- two steps for each class that was not seen, and one step for each of its parents
-abbrev pub work_unseen : List (List ℕ) → List Bool → ℕ
+abbrev pub work_unseen : List (List (Option ℕ)) → List Bool → ℕ
 work_unseen [] seen = 0
-work_unseen (parents ∷ classes) [] = 0
-work_unseen (parents ∷ classes) (s ∷ seen) = cond s 0 (2 + length parents) + work_unseen classes seen
+work_unseen (ps ∷ parents) [] = 0
+work_unseen (ps ∷ parents) (s ∷ seen) = cond s 0 (2 + length ps) + work_unseen parents seen
 
--- one step for a visit, and one step for each parent that is left
-abbrev pub work_left : List Visit → ℕ
-work_left path = sum_by (λ v. 1 + length v.left.now) path
+-- one step for a visit, and one step for each parent that it has not passed
+abbrev pub work_left : List (List (Option ℕ)) → List Visit → ℕ
+work_left parents path = sum_by (λ v. 1 + (length (parents_at parents v.class) - v.passed)) path
 
 -- an upper bound on the steps to the end of a search that has these visits on its path
-abbrev pub work : List (List ℕ) → Search → List Visit → ℕ
-work classes s path = work_unseen classes s.is_seen.items + work_left path
+abbrev pub work : List (List (Option ℕ)) → Search → List Visit → ℕ
+work parents s path = work_unseen parents s.is_seen.items + work_left parents path
 
 -- less work is left for the second search than for the first with these visits on its path
-abbrev pub IsNearer : List (List ℕ) → Search → List Visit → Search → Type 0
-IsNearer classes s path t = work classes t t.path.items < work classes s path
+abbrev pub IsNearer : List (List (Option ℕ)) → Search → List Visit → Search → Type 0
+IsNearer parents s path t = work parents t t.path.items < work parents s path
 
 -- so it is where this visit was the last on the path
-abbrev pub IsNearerFrom : List (List ℕ) → Visit → Search → Search → Type 0
-IsNearerFrom classes visit s t = IsNearer classes s (s.path.items ++ visit ∷ []) t
+abbrev pub IsNearerFrom : List (List (Option ℕ)) → Visit → Search → Search → Type 0
+IsNearerFrom parents visit s t = IsNearer parents s (s.path.items ++ visit ∷ []) t

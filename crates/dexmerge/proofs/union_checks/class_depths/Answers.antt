@@ -7,18 +7,15 @@ use Rattle.dexmerge.proofs.MergeLaws.{once_cycle}
 use Rattle.dexmerge.proofs.union_checks.class_depths.Goals as goal
 use Rattle.dexmerge.proofs.union_checks.class_depths.Goals.{In-Some}
 
-pub of-requires : goal.of-requires
-of-requires c =
+pub depths_of-requires : goal.depths_of-requires
+depths_of-requires c =
     let cs = classes_of c.args.classes.now in
     names_below c.args.classes.now c.count-types.result (λ i d lt. subst (λ (n : ℕ). (get_or cs i d).name < n) (sym c.count-types.ensures) (kept_below c.args.numbering.now cs c.requires.1.kept i d lt))
 
-pub depths-requires : goal.depths-requires
-depths-requires c = (numbered c.args.numbering.now (classes_of c.args.classes.now) c.requires.1.kept c.in_ok-of.field-0 (hierarchy_of c.args.classes.now c.in_ok-of.field-0 c.in_ok-of.ensures)).within
-
 -- the first class without a depth
 first : (c : In-Some) → IsFirstCycle c.args.numbering.now (classes_of c.args.classes.now) c.in-Some.i
-first c = first_is c.args.numbering.now (classes_of c.args.classes.now) c.requires.1.kept c.in_ok-of.field-0 (hierarchy_of c.args.classes.now c.in_ok-of.field-0 c.in_ok-of.ensures) c.deref.result.now
-    (subst (AreDepths c.in_ok-of.field-0) (sym c.deref.ensures.value) c.in_ok-depths.ensures) c.in-Some.i c.in-Some.ensures
+first c = first_is c.args.numbering.now (classes_of c.args.classes.now) c.requires.1.kept c.in_ok-depths.ensures.classes (hierarchy_of c.args.classes.now c.in_ok-depths.ensures.classes c.in_ok-depths.ensures.are) c.deref.result.now
+    (subst (AreDepths c.in_ok-depths.ensures.classes) (sym c.deref.ensures.value) c.in_ok-depths.ensures.found) c.in-Some.i c.in-Some.ensures
 
 pub bounds-classes-i : goal.bounds-classes-i
 bounds-classes-i c = omega (arith, (first (goal.at.bounds-classes-i c).In-Some).within, count_classes c.args.classes.now)
@@ -36,5 +33,5 @@ returns-in_ok-of-in-Some-clause-fault c = λ caps D h.
 
 pub returns-in-None-clause-depths : goal.returns-in-None-clause-depths
 returns-in-None-clause-depths c = λ m kept. subst (HaveDepths m (classes_of c.args.classes.now)) c.deref.ensures.value
-    (depths_are m (classes_of c.args.classes.now) kept c.in_ok-of.field-0 (hierarchy_of c.args.classes.now c.in_ok-of.field-0 c.in_ok-of.ensures) c.deref.result.now
-    (subst (AreDepths c.in_ok-of.field-0) (sym c.deref.ensures.value) c.in_ok-depths.ensures) c.in-None.ensures)
+    (depths_are m (classes_of c.args.classes.now) kept c.in_ok-depths.ensures.classes (hierarchy_of c.args.classes.now c.in_ok-depths.ensures.classes c.in_ok-depths.ensures.are) c.deref.result.now
+    (subst (AreDepths c.in_ok-depths.ensures.classes) (sym c.deref.ensures.value) c.in_ok-depths.ensures.found) c.in-None.ensures)

@@ -1,0 +1,24 @@
+-- The depth below the parents of a class, one parent after the other.
+use Rattle.dexorder.proofs.Common.{◌≡◌, ℕ, suc, ◌+◌, ◌<◌, max, List, [], ◌∷◌, ◌++◌, length, get_or, take, Option, None, Some, sym, subst, arith, append-nil, take_more, present, present-append}
+use Rattle.dexorder.specs.declared.depths.Visit.{Visit}
+use Rattle.dexorder.specs.internal.Searching.{IsDepthBelow, AreKnownDepths, HasDepthBelow}
+use Rattle.dexorder.proofs.SearchLaws.{deeper_under, deeper_not_under}
+
+module _ (parents depths : List (Option ℕ)) (v : Visit) (k depth d : ℕ) (lt : k < length parents) (h : HasDepthBelow parents depths v k depth) where
+  -- the depth is that below the parents before it and this one, if it is a class
+  one_more : ((classes : List (List ℕ)) → AreKnownDepths classes depths → IsDepthBelow classes (present (take k parents)) depth → IsDepthBelow classes (present (take k parents) ++ present (get_or parents k None ∷ [])) d) → HasDepthBelow parents depths v (k + 1) d
+  one_more more classes known below =
+      subst (λ (l : List (Option ℕ)). IsDepthBelow classes (present l) d) (sym (take_more parents k None lt))
+      (subst (λ (l : List ℕ). IsDepthBelow classes l d) (sym (present-append (take k parents) (get_or parents k None ∷ []))) (more classes known (h classes known below)))
+
+  pub passed_none : get_or parents k None ≡ None → d ≡ depth → HasDepthBelow parents depths v (k + 1) d
+  passed_none none same = one_more (λ classes known below.
+      subst (λ (o : Option ℕ). IsDepthBelow classes (present (take k parents) ++ present (o ∷ [])) d) (sym none)
+      (subst (λ (l : List ℕ). IsDepthBelow classes l d) (sym (append-nil (present (take k parents)))) (subst (IsDepthBelow classes (present (take k parents))) (sym same) below)))
+
+  pub passed_class : (p e : ℕ) → get_or parents k None ≡ Some p → get_or depths p None ≡ Some e → d ≡ max depth (suc e) → HasDepthBelow parents depths v (k + 1) d
+  passed_class p e is at deeper = one_more (λ classes known below.
+      subst (λ (o : Option ℕ). IsDepthBelow classes (present (take k parents) ++ present (o ∷ [])) d) (sym is) (record {
+        under = deeper_under classes d depth e p (present (take k parents)) (omega (arith, deeper)) (omega (arith, deeper)) below.under (known p e at);
+        not_under = deeper_not_under classes d depth e p (present (take k parents)) deeper below.not_under (known p e at);
+      }))

@@ -6,6 +6,8 @@ from typing import Iterator, List, NamedTuple, Tuple
 NO_CODE = re.compile(r'"(?:[^"\\]|\\.)*"|\'(?:[^\'\\\n]|\\(?:x[0-9a-f]{2}|u\{[0-9a-f]+\}|.))\'|//[^\n]*', re.S | re.I)
 OWNER = re.compile(r"^[ \t]*(?:pub(?:\([^)]*\))? )?(?:impl\b|trait \w)", re.M)
 FUNCTION = re.compile(r'^[ \t]*(pub(?:\([^)]*\))? )?(?:const |extern +(?:"C")? *)?fn (\w+)', re.M)
+# What is after a brace that ends a part of a pattern, and not the arm before it.
+PATTERN_GOES_ON = re.compile(r"\s*(?:\||if\b|$)")
 CLAUSE = re.compile(r"\s*(requires|ensures)\b\s*([^{]*?)\s*(?=\{)")
 
 
@@ -95,9 +97,19 @@ def functions(text: str) -> Iterator[Function]:
         yield Function(owner, (found[1] or "").strip(), found[2], signature, clauses, found.start(), (body, end))
 
 
-def arms(code: str) -> Iterator[Tuple[str, int, int]]:
-    """Yields the pattern of each arm of a match, so far as it is in the line of its `=>`, and where its value begins and ends."""
+def arm_start(code: str, arrow: int) -> int:
+    """Returns where the arm begins whose `=>` is at a place: after the arm or the brace before it."""
+    depth = 0
+    for at in range(arrow - 1, -1, -1):
+        is_end_of_arm = code[at] == "}" and not PATTERN_GOES_ON.match(code, at + 1, arrow)
+        if depth == 0 and (code[at] in "{([," or is_end_of_arm):
+            return at + 1
+        depth += (code[at] in ")]}") - (code[at] in "([{")
+    return 0
+
+
+def arms(code: str) -> Iterator[Tuple[int, int, int]]:
+    """Yields of each arm of a match where its pattern and its value begin, and where this ends."""
     for arrow in re.finditer(r"=>(?=\s*(\{?))", code):
-        line = code.rfind("\n", 0, arrow.start()) + 1
         end = block_end(code, arrow.start(1)) if arrow[1] else ends_at(code, arrow.end(), ",)]}")
-        yield code[line : arrow.start()], arrow.end(), end
+        yield arm_start(code, arrow.start()), arrow.end(), end

@@ -1,9 +1,10 @@
 //! Checking a whole file.
 
-ghost use Rattle.std.specs.Prelude.{◌<◌, All, IfOk, IfErr};
+ghost use Rattle.std.specs.Prelude.{◌≡◌, ◌<◌, All, IfOk, IfErr};
 ghost use Rattle.dexspec.specs.Header.{ClassDefs, table_size};
-ghost use Rattle.dexspec.specs.Accepted.{HoldBelow};
+ghost use Rattle.dexspec.specs.Accepted.{HoldBelow, IsFrame};
 ghost use Rattle.dexpool.specs.Pools.{ArePools};
+ghost use Rattle.dexids.specs.declared.faults.ReadFault.TheVariants.{Memory};
 ghost use Rattle.dexclass.specs.Programs.{IsFaultOf};
 ghost use Rattle.dexclass.specs.Checking.{HaveBodiesOf, IsCheckedAs};
 
@@ -19,12 +20,13 @@ use std::alloc::Global;
 /// Checks a file, and returns the number of its class definitions: that of the program that [`read`](crate::read)
 /// returns. What a class row declares is not kept once the row is checked.
 ///
-/// Error: as of [`read`](crate::read).
+/// Error: as of [`read`](crate::read), also that it is not `Memory` for a file whose header or map is refused.
 ///
 /// Source: "Dalvik Executable format".
 pub fn check(alloc: Global, bytes: &[u8]) -> Result<usize, ReadFault>
     ensures accepted { IfOk result (IsCheckedAs bytes.now) }
     ensures refused { IfErr result (IsFaultOf bytes.now) }
+    ensures memory { IfErr result (λ fault. fault ≡ Memory → IsFrame bytes.now) }
 {
     let frame = Frame::open(bytes)?;
     check_frame(alloc, &frame)

@@ -2,10 +2,10 @@
 
 ghost use Rattle.std.specs.Prelude.{◌≡◌, ◌+◌, ◌*◌, ◌<◌, ◌≤◌, All, length, IfOk, IfErr, MatchOption};
 ghost use Rattle.dexspec.specs.Header.{ClassDefs, table_size};
-ghost use Rattle.dexspec.specs.Accepted.{HoldBelow};
+ghost use Rattle.dexspec.specs.Accepted.{HoldBelow, IsFrame};
 ghost use Rattle.dexspec.specs.Weight.{most_weight};
 ghost use Rattle.dexpool.specs.Pools.{ArePools};
-ghost use Rattle.dexids.specs.declared.faults.ReadFault.TheVariants.{Refused};
+ghost use Rattle.dexids.specs.declared.faults.ReadFault.TheVariants.{Refused, Memory};
 ghost use Rattle.dexclass.specs.internal.Rows.{HasInterfaceList, interface_indices};
 ghost use Rattle.dexclass.specs.internal.Checked.{IsFaultAtRow};
 ghost use Rattle.dexclass.specs.Programs.{IsReadAs, IsFaultOf};
@@ -30,12 +30,13 @@ pub(crate) const MOST_WEIGHT: u64 = 1 << 30;
 /// at most four times the file's size and 65,536.
 ///
 /// Error: `Refused` with the number of a condition and the row at which it fails, as [`ReadFault`] says; `Memory` if an
-/// allocation failed. Nothing is kept then.
+/// allocation failed, and never for a file whose header or map is refused. Nothing is kept then.
 ///
 /// Source: "Dalvik Executable format".
 pub fn read<'a>(alloc: Global, bytes: &'a [u8]) -> Result<Program<'a>, ReadFault>
     ensures accepted { IfOk result (IsReadAs bytes.now) }
     ensures refused { IfErr result (IsFaultOf bytes.now) }
+    ensures memory { IfErr result (λ fault. fault ≡ Memory → IsFrame bytes.now) }
 {
     let frame = Frame::open(bytes)?;
     let pools = Pools::read(alloc, &frame)?;

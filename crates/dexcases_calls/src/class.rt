@@ -72,7 +72,7 @@ fn renumbered_text(
     let (kept, remap) = numbering.keep(alloc, &marks)?;
     class.members().numbers_fit();
     let mut copy = class.copy()?;
-    renumber(&mut copy, &remap);
+    renumber(&mut copy, &remap)?;
     text_of(alloc, &kept, &copy)
 }
 

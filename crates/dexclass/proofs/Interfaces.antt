@@ -1,14 +1,13 @@
 -- Lists of interfaces.
 use Rattle.std.specs.Prelude.{◌/◌}
-use Rattle.dexclass.proofs.Common.{◌≡◌, ◌≢◌, ℕ, ◌+◌, ◌-◌, ◌*◌, ◌<◌, ◌≤◌, ◌↔◌, List, [], ◌∷◌, length, drop, refl, sym, ap, ◌∙◌, subst, arith, inl, inr, All, AllZip, ne_eqb, All-cons, All-tail, uint_at, ushort_at, ushorts_at, Text, IsClass, TypeRow, type_indices, OrNone, ClassListAt, interfaces_off, IsDefinedBefore, ushort_at_rest, IsClassDef, ClassDef, length-ushorts_at}
+use Rattle.dexclass.proofs.Common.{◌≡◌, ◌≢◌, ℕ, ◌+◌, ◌-◌, ◌*◌, ◌<◌, ◌≤◌, ◌↔◌, List, [], ◌∷◌, length, take, drop, nil_from_length, refl, sym, ap, ◌∙◌, subst, arith, inl, inr, All, AllZip, ne_eqb, All-cons, All-tail, uint_at, ushort_at, ushorts_at, Text, IsClass, TypeRow, type_indices, OrNone, ClassListAt, interfaces_off, IsDefinedBefore, IsClassDef, ClassDef, length-ushorts_at}
 use Rattle.dexrows.proofs.Shorts.{short_of}
-use Rattle.dexids.specs.Reading.{HasRoom}
+use Rattle.std.proofs.lemmas.List.{drop-drop}
+use Rattle.dexids.specs.Reading.{HasRoom, HasSpan, file_numbers}
+use Rattle.dexids.specs.declared.rows.Span.{Span}
+use Rattle.dexids.proofs.FileLists.{bytes_of_part, part_of_file}
 use Rattle.dexclass.specs.internal.Checked.{AreInterfacesIn}
 use Rattle.dexclass.specs.internal.Rows.{IsClassIndex, IsInterfaceIndex, interface_indices, HasInterfaceList, HasInterfaces}
-
--- an index that is read from the rest of the file
-pub index_is : (b list : List ℕ) (off k m n : ℕ) → n ≡ m → m ≡ ushort_at list (4 + 2 * k) → list ≡ drop off b → n ≡ ushort_at b (off + 4 + 2 * k)
-index_is b list off k m n e read is = e ∙ read ∙ ushort_at_rest b list off (4 + 2 * k) (off + 4 + 2 * k) is (omega arith)
 
 module _ (b : List ℕ) (off count : ℕ) (room : HasRoom b off count) where
   -- what holds of each index holds of all
@@ -105,6 +104,27 @@ module _ (b : List ℕ) (off count : ℕ) (list : HasInterfaceList b off) (count
     | inl none ↦
         ap (ushorts_at b (off + 4)) (counted ∙ ap (λ (o : ℕ). length (interface_indices b o)) none.0) ∙ sym (ap (interface_indices b) none.0)
     | inr there ↦ ap (ushorts_at b (off + 4)) (counted_room there.0).count ∙ sym (listed_interfaces b off there.0)
+  ]
+
+  -- the list is in the file, if it is not empty
+  pub listed_within : count ≢ 0 → off + 4 + 2 * count ≤ length b
+  listed_within some = let last : count - 1 < count = omega (arith, some) in omega (arith, index_within (count - 1) last)
+
+  -- an empty list has no indices
+  pub none_listed : count ≡ 0 → [] ≡ interface_indices b off
+  none_listed none = sym (nil_from_length (interface_indices b off) (sym counted ∙ none))
+
+  -- and its bytes encode them
+  pub listed_bytes : (part : List ℕ) → count ≢ 0 → part ≡ take (2 * count) (drop 4 (drop off b)) → ushorts_at part 0 (length part / 2) ≡ interface_indices b off
+  listed_bytes part some e = elim list.1 [
+    | inl none ↦ absurd (some (counted ∙ ap (λ (o : ℕ). length (interface_indices b o)) none.0))
+    | inr there ↦
+        let room = counted_room there.0 in
+        let s : Span = record { start = off / 2 + 2; end = off / 2 + 2 + count } in
+        let within : HasSpan (file_numbers b) s = record { ordered = omega arith; within = omega (arith, room.aligned, listed_within some, length-ushorts_at b 0 (length b / 2)) } in
+        let start : off + 4 ≡ 2 * (off / 2 + 2) = omega (arith, room.aligned) in
+        let many : count ≡ off / 2 + 2 + count - (off / 2 + 2) = omega arith in
+        bytes_of_part b part s within (e ∙ ap (take (2 * count)) (drop-drop 4 off b) ∙ (λ k. take (2 * many k) (drop (start k) b))) ∙ part_of_file b s within ∙ sym (λ k. ushorts_at b (start k) (many k)) ∙ counted_indices
   ]
 
 module _ (b : List ℕ) (r off count : ℕ) (some : off ≢ 0) (room : HasRoom b off count) where

@@ -27,3 +27,4 @@ pub mod ProgramClasses
 pub mod EmptyPrograms
 pub mod ProgramsOf
 pub mod PartsOf
+pub mod SharedLists

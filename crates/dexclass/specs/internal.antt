@@ -1,5 +1,7 @@
 -- Words of the contracts of private functions: no public contract reaches them.
 pub mod Rows
+pub mod Listed
+pub mod Wholes
 pub mod Checked
 pub mod Ordered
 pub mod Reading

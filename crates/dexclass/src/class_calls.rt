@@ -9,6 +9,7 @@ ghost use Rattle.dexclass.specs.Renumbering.{renumbered, remapped_types};
 use crate::classes::Class;
 use crate::renumbering::{optional_text_number, optional_type_number, type_number};
 use dexpool::Remap;
+use dexrows::TypeNumbers;
 use std::alloc::AllocError;
 
 impl<'a> Class<'a> {
@@ -23,12 +24,13 @@ impl<'a> Class<'a> {
         self.weight
     }
 
-    /// The same class, with lists of its own. The units of code are borrowed as before.
+    /// The same class, with lists of its own. The units of code, and the interfaces that a file lists, are borrowed as
+    /// before.
     pub fn copy(&self) -> Result<Class<'a>, AllocError>
         ensures { IfOk result (λ copy. copy ≡ self.now) }
     {
         Ok(Class {
-            interfaces: Vec::from_slice(*self.interfaces.allocator(), &self.interfaces)?,
+            interfaces: self.interfaces.copy()?,
             members: self.members.copy()?,
             ..*self
         })
@@ -45,13 +47,18 @@ impl<'a> Class<'a> {
             && self.weight == other.weight
             && optional_type_number(mine, self.superclass) == superclass
             && optional_text_number(mine, self.source) == optional_text_number(theirs, other.source)
-            && eq_mapped(mine, &self.interfaces, theirs, &other.interfaces)
+            && eq_mapped(mine, &self.interfaces(), theirs, &other.interfaces())
             && self.members.same_mapped(mine, &other.members, theirs)
     }
 }
 
 // Returns whether two lists of types are mapped to the same numbers.
-fn eq_mapped(mine: &Remap, numbers: &[usize], theirs: &Remap, others: &[usize]) -> bool
+fn eq_mapped(
+    mine: &Remap,
+    numbers: &TypeNumbers<'_>,
+    theirs: &Remap,
+    others: &TypeNumbers<'_>,
+) -> bool
     ensures { IsTrue result
         ↔ (remapped_types mine.now numbers.now ≡ remapped_types theirs.now others.now) }
 {
@@ -59,7 +66,7 @@ fn eq_mapped(mine: &Remap, numbers: &[usize], theirs: &Remap, others: &[usize]) 
         return false;
     }
     for k in 0..numbers.len() {
-        if type_number(mine, numbers[k]) != type_number(theirs, others[k]) {
+        if type_number(mine, numbers.at(k)) != type_number(theirs, others.at(k)) {
             return false;
         }
     }

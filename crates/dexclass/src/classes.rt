@@ -1,14 +1,13 @@
 //! Class definitions with numbers instead of symbols.
 
-ghost use Rattle.std.specs.Prelude.{◌≡◌, length, IfOk};
-ghost use Rattle.dexclass.specs.internal.Rows.{interface_indices, HasInterfaceList};
+ghost use Rattle.std.specs.Prelude.{◌≡◌};
 ghost use Rattle.dexclass.specs.Numbered.{number_of};
 
+use crate::interface_lists::Interfaces;
 use dexflags::ClassFlags;
-use dexhead::{Frame, u16_at};
 use dexmembers::Members;
 use dexorder::HasParents;
-use std::alloc::{AllocError, Global};
+use dexrows::TypeNumbers;
 use std::marker::Model;
 
 /// The index that names nothing.
@@ -23,7 +22,7 @@ pub struct Class<'a> {
     pub(crate) name: usize,
     pub(crate) flags: u32,
     pub(crate) superclass: Option<usize>,
-    pub(crate) interfaces: Vec<usize>,
+    pub(crate) interfaces: Interfaces<'a>,
     pub(crate) source: Option<usize>,
     pub(crate) members: Members<'a>,
     // What the class weighs without the symbols that it names, found once, as it is read.
@@ -54,7 +53,7 @@ impl<'a> Model for Class<'a> {
 
     ghost coded = { Prim.hlevel (codes, elements_code, values_code) };
 
-    ghost view = { λ c. record { name = c.name; flags = c.flags; superclass = c.superclass; interfaces = c.interfaces.items; source = c.source; members = c.members; weight = c.weight } };
+    ghost view = { λ c. record { name = c.name; flags = c.flags; superclass = c.superclass; interfaces = c.interfaces; source = c.source; members = c.members; weight = c.weight } };
 }
 
 impl<'a> Class<'a> {
@@ -82,10 +81,12 @@ impl<'a> Class<'a> {
     }
 
     /// The numbers of the interfaces' types, in their order.
-    pub fn interfaces(&self) -> &[usize]
-        ensures { result.now ≡ self.now.interfaces }
+    ///
+    /// Source: "class_def_item", the field `interfaces_off`, and "type_list".
+    pub fn interfaces(&self) -> TypeNumbers<'_>
+        ensures { result ≡ self.now.interfaces }
     {
-        &self.interfaces
+        self.interfaces.numbers()
     }
 
     /// The number of the source name's text, if there is one.
@@ -121,11 +122,11 @@ impl<'a> HasParents for Class<'a> {
     }
 
     fn interface_count(&self) -> usize {
-        self.interfaces.len()
+        self.interfaces.numbers().len()
     }
 
     fn interface(&self, k: usize) -> usize {
-        self.interfaces[k]
+        self.interfaces.numbers().at(k)
     }
 }
 
@@ -134,27 +135,4 @@ pub(crate) fn number_of(index: u32) -> Option<usize>
     ensures { result ≡ number_of index }
 {
     (index != NO_INDEX).then_some(index as usize)
-}
-
-/// The indices of the `count` interfaces that are listed at an offset.
-///
-/// Error: the allocation failed.
-///
-/// Source: "class_def_item", the field `interfaces_off`, and "type_list".
-pub(crate) fn interfaces_at(
-    alloc: Global,
-    frame: &Frame<'_>,
-    off: u32,
-    count: u32,
-) -> Result<Vec<usize>, AllocError>
-    requires list { HasInterfaceList frame.now off }
-    requires count { count ≡ length (interface_indices frame.now off) }
-    ensures { IfOk result (λ interfaces. interfaces.items ≡ interface_indices frame.now off) }
-{
-    let mut interfaces = Vec::with_capacity(alloc, count as usize)?;
-    let list = frame.rest(off);
-    for k in 0..count {
-        interfaces.push(usize::from(u16_at(list, 4 + 2 * k as usize)))?;
-    }
-    Ok(interfaces)
 }

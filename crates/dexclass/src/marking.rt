@@ -2,10 +2,11 @@
 
 ghost use Rattle.std.specs.Prelude.{All, map};
 ghost use Rattle.dexpool.specs.Uses.{HasMark, AreMarkedToo};
-ghost use Rattle.dexclass.specs.Uses.{use_of, class_uses};
+ghost use Rattle.dexclass.specs.Uses.{use_of, type_use, class_uses};
 
 use crate::classes::Class;
 use dexpool::{Marks, SymbolKind};
+use dexrows::TypeNumbers;
 
 // Marks symbols of a kind.
 fn mark_all(kind: SymbolKind, numbers: &[usize], marks: &mut Marks)
@@ -14,6 +15,16 @@ fn mark_all(kind: SymbolKind, numbers: &[usize], marks: &mut Marks)
 {
     for number in numbers {
         marks.mark(kind, *number);
+    }
+}
+
+// Marks types.
+fn mark_types(types: &TypeNumbers<'_>, marks: &mut Marks)
+    requires { All (HasMark marks.old) (map type_use types.now) }
+    ensures { AreMarkedToo (map type_use types.now) marks.old marks.new }
+{
+    for k in 0..types.len() {
+        marks.mark(SymbolKind::Typ, types.at(k));
     }
 }
 
@@ -30,7 +41,7 @@ impl<'a> Class<'a> {
     {
         marks.mark(SymbolKind::Typ, self.name);
         mark_all(SymbolKind::Typ, self.superclass.as_slice(), marks);
-        mark_all(SymbolKind::Typ, &self.interfaces, marks);
+        mark_types(&self.interfaces.numbers(), marks);
         mark_all(SymbolKind::Text, self.source.as_slice(), marks);
         self.members.mark(marks);
     }

@@ -14,7 +14,8 @@ ghost use Rattle.dexclass.specs.internal.ReadWithin.{IsFaultWithin};
 
 use crate::checking::check_rows;
 use crate::class_checks::check_classes;
-use crate::classes::{Class, interfaces_at, number_of};
+use crate::classes::{Class, number_of};
+use crate::interface_lists::Interfaces;
 use crate::programs::Program;
 use crate::trimming::into_trimmed;
 use dexhead::{Condition, Frame, Refusal, Table};
@@ -124,7 +125,7 @@ fn read_bodies_within<'a>(
             return Err(too_heavy(r));
         }
         let body = own + u64::from(weight);
-        let interfaces = interfaces_at(alloc, frame, row.interfaces_off, count)?;
+        let interfaces = Interfaces::listed(alloc, frame, row.interfaces_off, count);
         let class = Class {
             name: row.class_idx as usize,
             flags: row.access_flags,

@@ -1,11 +1,13 @@
 //! Classes whose numbers are mapped to those of another numbering.
 
-ghost use Rattle.std.specs.Prelude.{◌≡◌, map};
+ghost use Rattle.std.specs.Prelude.{◌≡◌, OnOk, OnErr};
 ghost use Rattle.std.specs.Option.{option_map};
 ghost use Rattle.dexclass.specs.Renumbering.{remapped, renumbered, ClassHasPlaces};
+ghost use Rattle.dexclass.specs.internal.Listed.{others_renumbered};
 
 use crate::classes::Class;
 use dexpool::{Remap, SymbolKind};
+use std::alloc::AllocError;
 
 /// The image of the number of a type, or the number itself if it has none.
 pub(crate) fn type_number(remap: &Remap, i: usize) -> usize
@@ -35,37 +37,42 @@ pub(crate) fn optional_text_number(remap: &Remap, i: Option<usize>) -> Option<us
     i.map(|i| text_number(remap, i))
 }
 
-// Remaps numbers of types.
-fn renumber_types(remap: &Remap, numbers: &mut Vec<usize>)
-    ensures { numbers.new.items ≡ map (remapped remap.now.types) numbers.old.items }
-{
-    for k in 0..numbers.len() {
-        numbers[k] = type_number(remap, numbers[k]);
-    }
-}
-
 impl<'a> Class<'a> {
     /// Remaps each number of the class. A number of a type of its own, of its text, of a member, of a value or of an
     /// annotation that has no image stays.
     ///
     /// Condition: each number in what the class declares maps to one that fits its place, as
-    /// [`dexmembers::Members::renumber`] asks.
-    pub fn renumber(&mut self, remap: &Remap)
+    /// [`dexmembers::Members::renumber`] asks. Error: the allocation of the numbers of the interfaces failed; the class
+    /// is as it was.
+    pub fn renumber(&mut self, remap: &Remap) -> Result<(), AllocError>
         requires { ClassHasPlaces remap.now self.old }
-        ensures { self.new ≡ renumbered remap.now self.old }
+        ensures renumbered { OnOk result (self.new ≡ renumbered remap.now self.old) }
+        ensures unchanged { OnErr result (self.new ≡ self.old) }
+    {
+        self.interfaces.renumber(remap)?;
+        self.renumber_others(remap);
+        Ok(())
+    }
+
+    /// Remaps each number but those of the interfaces.
+    ///
+    /// Condition: as of [`Class::renumber`].
+    pub(crate) fn renumber_others(&mut self, remap: &Remap)
+        requires { ClassHasPlaces remap.now self.old }
+        ensures { self.new ≡ others_renumbered remap.now self.old }
     {
         self.name = type_number(remap, self.name);
         self.superclass = optional_type_number(remap, self.superclass);
         self.source = optional_text_number(remap, self.source);
-        renumber_types(remap, &mut self.interfaces);
         self.members.renumber(remap);
     }
 }
 
 /// The same as [`Class::renumber`].
-pub fn renumber(class: &mut Class<'_>, remap: &Remap)
+pub fn renumber(class: &mut Class<'_>, remap: &Remap) -> Result<(), AllocError>
     requires { ClassHasPlaces remap.now class.old }
-    ensures { class.new ≡ renumbered remap.now class.old }
+    ensures renumbered { OnOk result (class.new ≡ renumbered remap.now class.old) }
+    ensures unchanged { OnErr result (class.new ≡ class.old) }
 {
-    class.renumber(remap);
+    class.renumber(remap)
 }

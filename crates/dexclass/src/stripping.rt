@@ -21,7 +21,7 @@ fn strip_class(class: &mut Class<'_>)
 {
     class.source = None;
     class.members.drop_debug();
-    let interfaces = class.interfaces.len() as u64;
+    let interfaces = class.interfaces.numbers().len() as u64;
     let row = 2u64.saturating_mul(interfaces).saturating_add(96);
     class.weight = row.saturating_add(class.members.weight());
 }

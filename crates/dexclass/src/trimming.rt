@@ -1,6 +1,6 @@
 //! Classes over a numbering of just what they mention.
 
-ghost use Rattle.std.specs.Prelude.{◌≡◌, All, IfOk, map};
+ghost use Rattle.std.specs.Prelude.{◌≡◌, All, IfOk, OnOk, map};
 ghost use Rattle.dexpool.specs.Orderly.{MapsDown};
 ghost use Rattle.dexclass.specs.Numbered.{definition_of};
 ghost use Rattle.dexclass.specs.Uses.{IsKnownClass};
@@ -9,6 +9,7 @@ ghost use Rattle.dexclass.specs.Renumbering.{renumbered, IsMappedClass};
 
 use crate::classes::Class;
 use crate::laws::{renumbering_law, uses_law};
+use crate::shared_renumbering::Renumbering;
 use dexmembers::members_cut_law;
 use dexpool::{Marks, Numbering, Remap};
 use std::alloc::{AllocError, Global};
@@ -32,16 +33,18 @@ fn marked(
 }
 
 // Remaps the numbers of the classes to those of a part of their numbering.
-fn cut_all(remap: &Remap, classes: &mut Vec<Class<'_>>)
+fn cut_all<'a>(alloc: Global, remap: &Remap, classes: &mut Vec<Class<'a>>) -> Result<(), AllocError>
     requires down { MapsDown remap.now }
     requires remapped { All (IsMappedClass remap.now) classes.old.items }
-    ensures { classes.new.items ≡ map (renumbered remap.now) classes.old.items }
+    ensures { OnOk result (classes.new.items ≡ map (renumbered remap.now) classes.old.items) }
 {
     members_cut_law();
+    let renumbering = Renumbering::of(alloc, remap, classes)?;
     for i in 0..classes.len() {
         classes[i].members().numbers_fit();
-        classes[i].renumber(remap);
+        renumbering.renumber(&mut classes[i])?;
     }
+    Ok(())
 }
 
 /// The numbering of just what the classes mention, to which their numbers are remapped.
@@ -61,7 +64,7 @@ pub(crate) fn trim<'a>(
     numbering.is_numbering();
     let marks = marked(alloc, numbering, classes)?;
     let (trimmed, remap) = numbering.keep(alloc, &marks)?;
-    cut_all(&remap, classes);
+    cut_all(alloc, &remap, classes)?;
     Ok(trimmed)
 }
 
@@ -84,7 +87,7 @@ pub(crate) fn into_trimmed<'a>(
     let marks = marked(alloc, &numbering, classes)?;
     let (trimmed, remap) = numbering.into_kept(alloc, &marks)?;
     if let Some(remap) = remap {
-        cut_all(&remap, classes);
+        cut_all(alloc, &remap, classes)?;
     }
     Ok(trimmed)
 }

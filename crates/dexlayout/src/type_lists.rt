@@ -43,7 +43,7 @@ impl<'p> Sharing<ListKey<'p>> {
             classes.now }
     {
         for i in 0..classes.len() {
-            self.add_list(TypeNumbers::words(classes[i].interfaces()))?;
+            self.add_list(classes[i].interfaces())?;
         }
         Ok(())
     }

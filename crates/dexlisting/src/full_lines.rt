@@ -163,7 +163,7 @@ pub(crate) fn encode_full_class<O: Output>(
     ensures { O.gives (full_class_lines (definition_of numbering.now class.now)) out.old out.new }
 {
     encode_own_line(numbering, class, out);
-    encode_interfaces(numbering, class.interfaces(), out);
+    encode_interfaces(numbering, &class.interfaces(), out);
     encode_source(numbering, class.source(), out);
     let members = class.members();
     encode_set(numbering, b"  ", members.annotations(), out);

@@ -17,6 +17,7 @@ use dexhead::{Encode, Output};
 use dexmembers::{Field, Fields, Method, Methods};
 use dexout::encode_quoted;
 use dexpool::Numbering;
+use dexrows::TypeNumbers;
 
 // Writes the line of a field, after these words.
 #[tactic(auto, unfolding(crate::specs::Listing::field_line))]
@@ -130,15 +131,15 @@ fn encode_interface<O: Output>(numbering: &Numbering<'_>, interface: usize, out:
 /// Writes the lines of interfaces.
 pub(crate) fn encode_interfaces<O: Output>(
     numbering: &Numbering<'_>,
-    interfaces: &[usize],
+    interfaces: &TypeNumbers<'_>,
     out: &mut O,
 )
     requires { All (λ i. i < length numbering.now.types) interfaces.now }
     ensures { O.gives (flat_map (λ i. interface_line (type_at numbering.now i)) interfaces.now)
         out.old out.new }
 {
-    for interface in interfaces {
-        encode_interface(numbering, *interface, out);
+    for k in 0..interfaces.len() {
+        encode_interface(numbering, interfaces.at(k), out);
     }
 }
 
@@ -165,7 +166,7 @@ pub(crate) fn encode_class<O: Output>(numbering: &Numbering<'_>, class: &Class<'
     ensures { O.gives (class_lines (definition_of numbering.now class.now)) out.old out.new }
 {
     encode_own_line(numbering, class, out);
-    encode_interfaces(numbering, class.interfaces(), out);
+    encode_interfaces(numbering, &class.interfaces(), out);
     encode_source(numbering, class.source(), out);
     let members = class.members();
     encode_fields(numbering, b"  static-field ", &members.static_fields(), out);

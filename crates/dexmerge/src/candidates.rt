@@ -68,8 +68,8 @@ impl<'a, 'b> HasParents for Candidate<'a, 'b> {
     }
 
     fn interface(&self, k: usize) -> usize {
-        self.remap
-            .or_same(SymbolKind::Typ, self.class.interfaces()[k])
+        let interface = self.class.interfaces().at(k);
+        self.remap.or_same(SymbolKind::Typ, interface)
     }
 }
 

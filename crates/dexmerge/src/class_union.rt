@@ -9,7 +9,7 @@ ghost use Rattle.dexclass.specs.Renumbering.{ClassHasPlaces, remapped, renumbere
 ghost use Rattle.dexmerge.specs.internal.Collecting.{IsPartOf, HasCollected, HasMarks, HasPushed, HasMarked};
 ghost use Rattle.dexmerge.specs.internal.Collecting.{HasPlaces, CollectsPart, AreMergeable, HasOneOfEach};
 
-use dexclass::{Class, Program, renumbering_law};
+use dexclass::{Class, Program, Renumbering, renumbering_law};
 use dexinsn::joined_places_law;
 use dexmembers::members_joined_law;
 use dexpool::{Remap, SymbolKind};
@@ -57,15 +57,19 @@ impl<'a> Collected<'a> {
     }
 
     // Adds a class of a part, with its numbers remapped.
-    fn push(&mut self, mut class: Class<'a>, remap: &Remap) -> Result<(), AllocError>
-        requires places { ClassHasPlaces remap.now class }
-        requires name { remapped remap.now.types class.name < length self.old.is_name.items }
+    fn push(
+        &mut self,
+        mut class: Class<'a>,
+        renumbering: &Renumbering<'_, 'a>,
+    ) -> Result<(), AllocError>
+        requires places { ClassHasPlaces renumbering.now class }
+        requires name { remapped renumbering.now.types class.name < length self.old.is_name.items }
         ensures classes { OnOk result
-            (HasPushed (renumbered remap.now class.entry) self.old self.new) }
+            (HasPushed (renumbered renumbering.now class.entry) self.old self.new) }
         ensures names { OnOk result
-            (HasMarked (remapped remap.now.types class.entry.name) self.old self.new) }
+            (HasMarked (remapped renumbering.now.types class.entry.name) self.old self.new) }
     {
-        class.renumber(remap);
+        renumbering.renumber(&mut class)?;
         self.is_name[class.name()] = true;
         self.classes.push(class)?;
         Ok(())
@@ -81,9 +85,11 @@ impl<'a> Collected<'a> {
         renumbering_law();
         places_law();
         part.is_good();
-        for class in part.into_classes() {
+        let classes = part.into_classes();
+        let renumbering = Renumbering::of(*self.classes.allocator(), remap, &classes)?;
+        for class in classes {
             if !self.has_name_of(&class, remap) {
-                self.push(class, remap)?;
+                self.push(class, &renumbering)?;
             }
         }
         Ok(())
@@ -99,9 +105,11 @@ impl<'a> Collected<'a> {
         renumbering_law();
         places_law();
         part.is_good();
-        for class in part.classes() {
+        let classes = part.classes();
+        let renumbering = Renumbering::of(*self.classes.allocator(), remap, classes)?;
+        for class in classes {
             if !self.has_name_of(class, remap) {
-                self.push(class.copy()?, remap)?;
+                self.push(class.copy()?, &renumbering)?;
             }
         }
         Ok(())

@@ -18,9 +18,13 @@ module _ (f g : ℕ → ℕ) where
 pub returns-then-type_number : goal.returns-then-type_number
 returns-then-type_number c = (
   λ e. absurd (false≢true e),
-  λ e. absurd (c.if-type_number.true (c.type_number.ensures
-      ∙ equivalent_at (remapped c.args.mine.now.types) (remapped c.args.theirs.now.types) c.args.numbers.now c.args.others.now c.loop-k.k e c.loop-k-test.true ∙ sym c.type_number-in-loop-k.ensures)),
+  λ e. absurd (c.if-type_number.true (c.type_number.ensures ∙ ap (remapped c.args.mine.now.types) c.at.ensures
+      ∙ equivalent_at (remapped c.args.mine.now.types) (remapped c.args.theirs.now.types) c.args.numbers.now c.args.others.now c.loop-k.k e (omega (arith, c.loop-k-test.true, c.len-k-end.ensures)) ∙ sym (c.type_number-in-loop-k.ensures ∙ ap (remapped c.args.theirs.now.types) c.at-in-loop-k.ensures))),
 )
 
 pub returns : goal.returns
-returns c = (λ e. equivalent (remapped c.args.mine.now.types) (remapped c.args.theirs.now.types) c.args.numbers.now c.args.others.now c.if-numbers-others.false (λ k lt. c.loop-k.invariant k (omega (arith, lt, c.loop-k-test.false))), λ e. refl)
+returns c =
+    let xs = c.args.numbers.now in
+    let ys = c.args.others.now in
+    let same : length xs ≡ length ys = omega (arith, c.if-len.false, c.len.ensures, c.len-2.ensures) in
+    (λ e. equivalent (remapped c.args.mine.now.types) (remapped c.args.theirs.now.types) xs ys same (λ k lt. c.loop-k.invariant k (omega (arith, lt, c.loop-k-test.false, c.len-k-end.ensures))), λ e. refl)

@@ -18,8 +18,8 @@ interface_count-count-requires c =
     let lt : c.loop-r.r < table_size c.args.frame.now ClassDefs = omega (arith, c.loop-r-test.true, c.size-rows.ensures) in
     subst (HasInterfaceList c.args.frame.now) c.at-row.ensures.interfaces_are (c.requires.before Condition.Classes (omega arith) c.loop-r.r lt).interfaces
 
-pub interfaces_at-requires-clause-list : goal.interfaces_at-requires-clause-list
-interfaces_at-requires-clause-list c =
+pub listed-interfaces-requires-clause-list : goal.listed-interfaces-requires-clause-list
+listed-interfaces-requires-clause-list c =
     let lt : c.loop-r.r < table_size c.args.frame.now ClassDefs = omega (arith, c.loop-r-test.true, c.size-rows.ensures) in
     subst (HasInterfaceList c.args.frame.now) c.at-row.ensures.interfaces_are (c.requires.before Condition.Classes (omega arith) c.loop-r.r lt).interfaces
 
@@ -49,7 +49,7 @@ loop-r-preserved c =
     let row = c.at-row.ensures in
     let read = c.in-Ok.ensures.read c.loop-r.r row c.requires.pools (c.requires.before Condition.Classes (omega arith) c.loop-r.r lt) in
     let superclass = c.number_of.ensures ∙ ap number_of (sym row.superclass_is) in
-    let interfaces = c.in_ok-interfaces.ensures ∙ ap (interface_indices b) (sym row.interfaces_are) in
+    let interfaces = c.listed-interfaces.ensures ∙ ap (interface_indices b) (sym row.interfaces_are) in
     let source = c.number_of-in-loop-r.ensures ∙ ap number_of (sym row.source_is) in
     let class : _ ≡ class_of_row b c.loop-r.r c.in-Ok.found.0 w =
     λ i. record { name = sym row.class_is i; flags = sym row.flags_are i; superclass = superclass i; interfaces = interfaces i; source = source i; members = c.in-Ok.found.0; weight = w } in

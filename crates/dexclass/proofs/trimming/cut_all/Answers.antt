@@ -1,6 +1,6 @@
-use Rattle.dexclass.proofs.Common.{◌<◌, ◌≡◌, ◌∙◌, length, sym, ap, subst, arith, get_or_default}
+use Rattle.dexclass.proofs.Common.{◌<◌, ◌≡◌, ◌∙◌, length, sym, ap, subst, arith, get_or_default, Maps}
 use Rattle.dexmembers.specs.Fitting.{NumbersFit}
-use Rattle.dexclass.specs.{NumberedClass, renumbered, IsMappedClass}
+use Rattle.dexclass.specs.{NumberedClass, renumbered, ClassHasPlaces, IsMappedClass}
 use Rattle.dexclass.proofs.Renumbered.{next_is, remapped_more}
 use Rattle.dexclass.proofs.SameClasses.{members_mapped}
 use Rattle.dexclass.proofs.trimming.cut_all.Goals as goal
@@ -15,9 +15,9 @@ renumber-requires c =
     let mapped = subst (IsMappedClass r) (sym is) (c.requires.remapped c.loop-i.i d lt) in
     let same : c.index.result.now ≡ d = c.index.ensures ∙ get_or_default xs c.loop-i.i c.index.result.now d (omega (arith, lt, c.loop-i.invariant.len)) ∙ sym c.index_mut.ensures.value in
     let fit = subst (λ (y : NumberedClass). NumbersFit y.members) same (subst NumbersFit c.members.ensures c.numbers_fit.ensures) in
-    c.members_cut_law.ensures r d.members c.requires.down fit (members_mapped r d mapped)
+    subst (λ (m : Maps). ClassHasPlaces m d) (sym c.in_ok-renumbering.ensures) (c.members_cut_law.ensures r d.members c.requires.down fit (members_mapped r d mapped))
 
 pub loop-i-preserved : goal.loop-i-preserved
 loop-i-preserved c =
-    remapped_more (renumbered c.args.remap.now) c.loop-i.classes.items c.args.classes.now.items c.loop-i.i c.index_mut.result.now (omega (arith, c.loop-i-test.true, c.loop-i.invariant.len)) c.loop-i.invariant c.renumber.new.self
-    (c.renumber.ensures ∙ ap (renumbered c.args.remap.now) c.index_mut.ensures.value)
+    remapped_more (renumbered c.args.remap.now) c.loop-i.classes.items c.args.classes.now.items c.loop-i.i c.index_mut.result.now (omega (arith, c.loop-i-test.true, c.loop-i.invariant.len)) c.loop-i.invariant c.renumber.new.class
+    (c.in_ok-renumber.ensures.renumbered ∙ (λ k. renumbered (c.in_ok-renumbering.ensures k) c.index_mut.result.now) ∙ ap (renumbered c.args.remap.now) c.index_mut.ensures.value)

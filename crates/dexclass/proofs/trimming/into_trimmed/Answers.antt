@@ -3,7 +3,7 @@ use Rattle.dexclass.specs.{NumberedClass, definition_of, IsKnownClass, IsMappedC
 use Rattle.dexclass.specs.internal.Trimming.{MarkClasses}
 use Rattle.dexclass.proofs.Trimmed.{all_map_to, trimmed}
 use Rattle.dexclass.proofs.trimming.into_trimmed.Goals as goal
-use Rattle.dexclass.proofs.trimming.into_trimmed.Goals.{In_ok-trimmed, in-Some, in_default}
+use Rattle.dexclass.proofs.trimming.into_trimmed.Goals.{In_ok-trimmed, in-Some+in_ok-cut_all, in_default}
 
 -- the marks are those of the classes in their vector
 marks_of : (c : In_ok-trimmed) → MarkClasses c.args.numbering c.args.classes.now.items c.in_ok-marks.marks
@@ -28,10 +28,10 @@ returns c =
     let k = (goal.at.returns c).In_ok-trimmed in
     let is = c.in_ok-trimmed.ensures.kept ∙ (marks_of k).mentioned in
     elim c.match-remap.branch [
-      | in-Some w ↦
+      | in-Some+in_ok-cut_all w ↦
           let r = w.in-Some.remap in
           let maps = subst (λ (o : Option Maps). IfSome o (AllMapTo m n)) w.in-Some.is c.in_ok-trimmed.ensures.map in
-          trimmed m n r cs _ (λ class. c.renumbering_law.ensures.same m n r class maps) (mapped k r (subst (λ (o : Option Maps). IfSome o (MapsMarked c.in_ok-marks.marks)) w.in-Some.is c.in_ok-trimmed.ensures.marked)) c.requires (ap (λ v. v.items) w.classes-is ∙ w.cut_all.ensures) is
+          trimmed m n r cs _ (λ class. c.renumbering_law.ensures.same m n r class maps) (mapped k r (subst (λ (o : Option Maps). IfSome o (MapsMarked c.in_ok-marks.marks)) w.in-Some.is c.in_ok-trimmed.ensures.marked)) c.requires (ap (λ v. v.items) w.classes-is ∙ w.in_ok-cut_all.ensures) is
       | in_default w ↦
           let whole : n ≡ m = subst (λ (o : Option Maps). IfNone o (n ≡ m)) w.in_default.is c.in_ok-trimmed.ensures.whole in
           rw w.classes-is (record {

@@ -25,4 +25,4 @@ returns c =
     let m = c.args.numbering.now in
     let n = c.in_ok-trimmed.trimmed in
     let k = (goal.at.returns c).In_ok-trimmed in
-    trimmed m n c.in_ok-trimmed.remap c.args.classes.now.items c.cut_all.new.classes.items (λ class. c.renumbering_law.ensures.same m n c.in_ok-trimmed.remap class c.in_ok-trimmed.ensures.map) (mapped k) c.requires c.cut_all.ensures (c.in_ok-trimmed.ensures.kept ∙ (marks_of k).mentioned)
+    trimmed m n c.in_ok-trimmed.remap c.args.classes.now.items c.cut_all.new.classes.items (λ class. c.renumbering_law.ensures.same m n c.in_ok-trimmed.remap class c.in_ok-trimmed.ensures.map) (mapped k) c.requires c.in_ok-cut_all.ensures (c.in_ok-trimmed.ensures.kept ∙ (marks_of k).mentioned)

@@ -4,5 +4,5 @@ use Rattle.dexlisting.specs.Listing.{interface_line}
 use Rattle.dexclass.specs.Numbered.{type_at}
 use Rattle.dexlisting.proofs.lines.encode_interfaces.Given as goal
 
-abbrev pub invariant-loop-interface : goal.invariant-loop-interface
-invariant-loop-interface g l = g.O.Output.gives (flat_map (λ i. interface_line (type_at l.numbering i)) (take l.interface-index l.interfaces)) l.initial.out l.out
+abbrev pub invariant-loop-k : goal.invariant-loop-k
+invariant-loop-k g l = g.O.Output.gives (flat_map (λ i. interface_line (type_at l.numbering i)) (take l.k l.interfaces)) l.initial.out l.out

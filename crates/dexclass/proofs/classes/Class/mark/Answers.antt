@@ -22,30 +22,30 @@ mark_all-requires c =
     subst (λ (l : List ℕ). All (HasMark c.mark.new.self) (map type_use l)) (sym (lent c.self.inside.superclass c.as_slice.result.now c.as_slice.ensures))
     (all_prefix (HasMark c.mark.new.self) (map type_use (option_to_list c.self.inside.superclass)) _ (rest_marked (type_use c.self.inside.name ∷ []) _ c.args.marks.now _ c.mark.ensures (has_all c.args.marks.now _ _ c.self.view_is c.requires)))
 
+pub mark_types-requires : goal.mark_types-requires
+mark_types-requires c =
+    let s = c.self.inside in
+    let second = subst (λ (l : List ℕ). AreMarkedToo (map type_use l) c.mark.new.self c.mark_all.new.marks) (lent s.superclass c.as_slice.result.now c.as_slice.ensures) c.mark_all.ensures in
+    subst (λ (l : List ℕ). All (HasMark c.mark_all.new.marks) (map type_use l)) (sym c.numbers.ensures)
+    (all_prefix (HasMark c.mark_all.new.marks) (map type_use s.interfaces) _ (rest_marked (map type_use (option_to_list s.superclass)) _ c.mark.new.self _ second
+    (rest_marked (type_use s.name ∷ []) _ c.args.marks.now _ c.mark.ensures (has_all c.args.marks.now _ _ c.self.view_is c.requires))))
+
 pub mark_all-requires-2 : goal.mark_all-requires-2
 mark_all-requires-2 c =
     let s = c.self.inside in
     let second = subst (λ (l : List ℕ). AreMarkedToo (map type_use l) c.mark.new.self c.mark_all.new.marks) (lent s.superclass c.as_slice.result.now c.as_slice.ensures) c.mark_all.ensures in
-    subst (λ (l : List ℕ). All (HasMark c.mark_all.new.marks) (map type_use l)) (sym c.deref.ensures.value)
-    (all_prefix (HasMark c.mark_all.new.marks) (map type_use s.interfaces.items) _ (rest_marked (map type_use (option_to_list s.superclass)) _ c.mark.new.self _ second
-    (rest_marked (type_use s.name ∷ []) _ c.args.marks.now _ c.mark.ensures (has_all c.args.marks.now _ _ c.self.view_is c.requires))))
-
-pub mark_all-requires-3 : goal.mark_all-requires-3
-mark_all-requires-3 c =
-    let s = c.self.inside in
-    let second = subst (λ (l : List ℕ). AreMarkedToo (map type_use l) c.mark.new.self c.mark_all.new.marks) (lent s.superclass c.as_slice.result.now c.as_slice.ensures) c.mark_all.ensures in
-    let third = subst (λ (l : List ℕ). AreMarkedToo (map type_use l) c.mark_all.new.marks c.mark_all-2.new.marks) c.deref.ensures.value c.mark_all-2.ensures in
-    subst (λ (l : List ℕ). All (HasMark c.mark_all-2.new.marks) (map text_use l)) (sym (lent s.source c.as_slice-2.result.now c.as_slice-2.ensures))
-    (all_prefix (HasMark c.mark_all-2.new.marks) (map text_use (option_to_list s.source)) _ (rest_marked (map type_use s.interfaces.items) _ c.mark_all.new.marks _ third
+    let third = subst (λ (l : List ℕ). AreMarkedToo (map type_use l) c.mark_all.new.marks c.mark_types.new.marks) c.numbers.ensures c.mark_types.ensures in
+    subst (λ (l : List ℕ). All (HasMark c.mark_types.new.marks) (map text_use l)) (sym (lent s.source c.as_slice-2.result.now c.as_slice-2.ensures))
+    (all_prefix (HasMark c.mark_types.new.marks) (map text_use (option_to_list s.source)) _ (rest_marked (map type_use s.interfaces) _ c.mark_all.new.marks _ third
     (rest_marked (map type_use (option_to_list s.superclass)) _ c.mark.new.self _ second (rest_marked (type_use s.name ∷ []) _ c.args.marks.now _ c.mark.ensures (has_all c.args.marks.now _ _ c.self.view_is c.requires)))))
 
 pub mark-requires-2 : goal.mark-requires-2
 mark-requires-2 c =
     let s = c.self.inside in
     let second = subst (λ (l : List ℕ). AreMarkedToo (map type_use l) c.mark.new.self c.mark_all.new.marks) (lent s.superclass c.as_slice.result.now c.as_slice.ensures) c.mark_all.ensures in
-    let third = subst (λ (l : List ℕ). AreMarkedToo (map type_use l) c.mark_all.new.marks c.mark_all-2.new.marks) c.deref.ensures.value c.mark_all-2.ensures in
-    let fourth = subst (λ (l : List ℕ). AreMarkedToo (map text_use l) c.mark_all-2.new.marks c.mark_all-3.new.marks) (lent s.source c.as_slice-2.result.now c.as_slice-2.ensures) c.mark_all-3.ensures in
-    rest_marked (map text_use (option_to_list s.source)) _ c.mark_all-2.new.marks _ fourth (rest_marked (map type_use s.interfaces.items) _ c.mark_all.new.marks _ third
+    let third = subst (λ (l : List ℕ). AreMarkedToo (map type_use l) c.mark_all.new.marks c.mark_types.new.marks) c.numbers.ensures c.mark_types.ensures in
+    let fourth = subst (λ (l : List ℕ). AreMarkedToo (map text_use l) c.mark_types.new.marks c.mark_all-2.new.marks) (lent s.source c.as_slice-2.result.now c.as_slice-2.ensures) c.mark_all-2.ensures in
+    rest_marked (map text_use (option_to_list s.source)) _ c.mark_types.new.marks _ fourth (rest_marked (map type_use s.interfaces) _ c.mark_all.new.marks _ third
     (rest_marked (map type_use (option_to_list s.superclass)) _ c.mark.new.self _ second (rest_marked (type_use s.name ∷ []) _ c.args.marks.now _ c.mark.ensures (has_all c.args.marks.now _ _ c.self.view_is c.requires))))
 
 pub returns : goal.returns
@@ -54,9 +54,9 @@ returns c =
     let source = map text_use (option_to_list s.source) in
     let others = source ++ members_uses s.members in
     let second = subst (λ (l : List ℕ). AreMarkedToo (map type_use l) c.mark.new.self c.mark_all.new.marks) (lent s.superclass c.as_slice.result.now c.as_slice.ensures) c.mark_all.ensures in
-    let third = subst (λ (l : List ℕ). AreMarkedToo (map type_use l) c.mark_all.new.marks c.mark_all-2.new.marks) c.deref.ensures.value c.mark_all-2.ensures in
-    let fourth = subst (λ (l : List ℕ). AreMarkedToo (map text_use l) c.mark_all-2.new.marks c.mark_all-3.new.marks) (lent s.source c.as_slice-2.result.now c.as_slice-2.ensures) c.mark_all-3.ensures in
+    let third = subst (λ (l : List ℕ). AreMarkedToo (map type_use l) c.mark_all.new.marks c.mark_types.new.marks) c.numbers.ensures c.mark_types.ensures in
+    let fourth = subst (λ (l : List ℕ). AreMarkedToo (map text_use l) c.mark_types.new.marks c.mark_all-2.new.marks) (lent s.source c.as_slice-2.result.now c.as_slice-2.ensures) c.mark_all-2.ensures in
     let end = c.mark-2.new.marks in
-    subst (λ us. AreMarkedToo us c.args.marks.now end) (parts_are s.name s.superclass s.interfaces.items others ∙ ap class_uses c.self.view_is)
+    subst (λ us. AreMarkedToo us c.args.marks.now end) (parts_are s.name s.superclass s.interfaces others ∙ ap class_uses c.self.view_is)
     (marked_both (type_use s.name ∷ []) _ c.args.marks.now c.mark.new.self end c.mark.ensures (marked_both (map type_use (option_to_list s.superclass)) _ c.mark.new.self c.mark_all.new.marks end second
-    (marked_both (map type_use s.interfaces.items) others c.mark_all.new.marks c.mark_all-2.new.marks end third (marked_both source (members_uses s.members) c.mark_all-2.new.marks c.mark_all-3.new.marks end fourth c.mark-2.ensures))))
+    (marked_both (map type_use s.interfaces) others c.mark_all.new.marks c.mark_types.new.marks end third (marked_both source (members_uses s.members) c.mark_types.new.marks c.mark_all-2.new.marks end fourth c.mark-2.ensures))))

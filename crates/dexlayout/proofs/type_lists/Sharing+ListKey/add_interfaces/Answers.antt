@@ -10,7 +10,7 @@ loop-i-preserved c = λ m uses known h.
     let x = c.index-classes-i.result in
     let here : IsKnownClass m x = subst (IsKnownClass m) (sym c.index-classes-i.is) (known i x c.loop-i-test.true) in
     let interfaces = all_back (λ n. n < length m.types) (option_to_list x.superclass) x.interfaces (All-tail (λ n. n < length m.types) x.name (option_to_list x.superclass ++ x.interfaces) here.types_in) in
-    let means : c.words.result ≡ x.interfaces = c.words.ensures ∙ c.interfaces.ensures in
+    let means : c.interfaces.result ≡ x.interfaces = c.interfaces.ensures in
     subst (λ us. SharesLists m us c.add_list.new.self.items.keys c.add_list.new.self.numbers.items)
     (ap (λ ns. (uses ++ map (interfaces_use m) (take i cs)) ++ unless_empty (map (type_at m) ns) ∷ []) means ∙ uses_next (interfaces_use m) uses cs i x c.loop-i-test.true (sym c.index-classes-i.is))
     (c.in_ok-add_list.ensures m (uses ++ map (interfaces_use m) (take i cs)) (subst (AreTypes m) (sym means) interfaces) (c.loop-i.invariant m uses known h))

@@ -6,5 +6,5 @@ abbrev pub invariant-loop-class : goal.invariant-loop-class
 invariant-loop-class l = record {
   count : length l.self.is_name.items ≡ length l.fn.self.is_name.items;
   collected : (m : Mentions) (D : List Definition) → IsPartOf m l.part l.remap → AreCollected m D l.fn.self.classes.items l.fn.self.is_name.items
-      → AreCollected m (D ++ map (definition_of (mentions (definitions l.part))) (take l.class-index l.class-items)) l.self.classes.items l.self.is_name.items;
+      → AreCollected m (D ++ map (definition_of (mentions (definitions l.part))) (take l.class-index l.classes)) l.self.classes.items l.self.is_name.items;
 }

@@ -1,0 +1,253 @@
+//! The interfaces of a class: a list in the bytes of a file, or numbers of its own.
+
+ghost use Rattle.std.specs.Prelude.{◌≡◌, ◌/◌, [], length, map, IfOk, IsTrue, OnOk, OnErr};
+ghost use Rattle.dexspec.specs.Bytes.{ushorts_at};
+ghost use Rattle.dexclass.specs.internal.Rows.{interface_indices, HasInterfaceList};
+ghost use Rattle.dexclass.specs.Renumbering.{remapped};
+
+use crate::list_parts::{ListPlace, SharedPart};
+use crate::renumbering::type_number;
+use dexhead::{Frame, u32_at};
+use dexpool::Remap;
+use dexrows::TypeNumbers;
+use std::alloc::{AllocError, Global};
+use std::marker::Model;
+
+/// A list in a file.
+#[derive(Clone, Copy)]
+pub(crate) struct FileList<'a> {
+    /// The bytes of the list, two for each number.
+    bytes: &'a [u8],
+    /// The file, and where the list is in it, for those who ask which lists overlap. No clause speaks of them.
+    file: &'a [u8],
+    start: usize,
+}
+
+/// How the numbers are kept.
+#[derive(Drop)]
+pub(crate) enum Kept<'a> {
+    /// In the bytes of a file.
+    File(FileList<'a>),
+    /// Each number by itself.
+    Own(Vec<usize>),
+    /// In a list of which other lists are parts too.
+    Shared(SharedPart),
+}
+
+/// The numbers of the types of a class's interfaces. Those of a file stay in its bytes, which are borrowed, until they
+/// are renumbered. Contracts see a list.
+///
+/// Source: "type_list".
+#[derive(Drop)]
+pub(crate) struct Interfaces<'a> {
+    alloc: Global,
+    kept: Kept<'a>,
+}
+
+impl<'a> Model for Interfaces<'a> {
+    ghost use Rattle.std.specs.Prelude.{ℕ, List};
+    ghost use Rattle.dexclass.specs.internal.Listed.{numbers_in};
+
+    ghost Value = { List ℕ };
+
+    ghost view = { λ interfaces. numbers_in interfaces.kept };
+}
+
+// The `len` bytes from an offset on, or none where there are less.
+fn bytes_from(file: &[u8], start: usize, len: usize) -> &[u8] {
+    if start > file.len() {
+        return &[];
+    }
+    let (_, rest) = file.split_at(start);
+    if len > rest.len() {
+        return &[];
+    }
+    rest.split_at(len).0
+}
+
+// Which file this is: 16 bytes of the signature in its header, or 0 where there are less.
+fn source_of(file: &[u8]) -> u128 {
+    let signature = bytes_from(file, 12, 16);
+    if signature.len() < 16 {
+        return 0;
+    }
+    let mut source = 0;
+    for k in 0..4 {
+        source = (source << 32) | u128::from(u32_at(signature, 4 * k));
+    }
+    source
+}
+
+// The bytes of the `count` numbers that are listed at an offset, two for each.
+fn listed_bytes<'a>(frame: &Frame<'a>, off: u32, count: u32) -> &'a [u8]
+    requires list { HasInterfaceList frame.now off }
+    requires count { count ≡ length (interface_indices frame.now off) }
+    ensures { ushorts_at result.now 0 (length result.now / 2) ≡ interface_indices frame.now off }
+{
+    if count == 0 {
+        return &[];
+    }
+    let (_, list) = frame.rest(off).split_at(4);
+    let (numbers, _) = list.split_at(2 * count as usize);
+    numbers
+}
+
+// Returns whether the numbers of types are their own images.
+fn are_unchanged(remap: &Remap, numbers: &TypeNumbers<'_>) -> bool
+    ensures { IsTrue result → map (remapped remap.now.types) numbers.now ≡ numbers.now }
+{
+    for k in 0..numbers.len() {
+        let number = numbers.at(k);
+        if type_number(remap, number) != number {
+            return false;
+        }
+    }
+    true
+}
+
+/// The images of the numbers of types, each by itself.
+pub(crate) fn remapped_types(
+    alloc: Global,
+    remap: &Remap,
+    numbers: &TypeNumbers<'_>,
+) -> Result<Vec<usize>, AllocError>
+    ensures { IfOk result (λ images.
+        images.items ≡ map (remapped remap.now.types) numbers.now) }
+{
+    let mut images = Vec::with_capacity(alloc, numbers.len())?;
+    for k in 0..numbers.len() {
+        images.push(type_number(remap, numbers.at(k)))?;
+    }
+    Ok(images)
+}
+
+impl<'a> Interfaces<'a> {
+    /// The `count` interfaces that are listed at the offset of a class row.
+    ///
+    /// Source: "class_def_item", the field `interfaces_off`, and "type_list".
+    pub(crate) fn listed(alloc: Global, frame: &Frame<'a>, off: u32, count: u32) -> Interfaces<'a>
+        requires list { HasInterfaceList frame.now off }
+        requires count { count ≡ length (interface_indices frame.now off) }
+        ensures { result ≡ interface_indices frame.now off }
+    {
+        let list = FileList {
+            bytes: listed_bytes(frame, off, count),
+            file: frame.bytes(),
+            start: off as usize + 4,
+        };
+        Interfaces {
+            alloc,
+            kept: Kept::File(list),
+        }
+    }
+
+    /// No numbers.
+    pub(crate) fn none(alloc: Global) -> Interfaces<'a>
+        ensures { result ≡ [] }
+    {
+        Interfaces {
+            alloc,
+            kept: Kept::Own(Vec::new(alloc)),
+        }
+    }
+
+    /// The numbers, in their order.
+    pub(crate) fn numbers(&self) -> TypeNumbers<'_>
+        ensures { result ≡ self.now }
+    {
+        if let Kept::File(list) = &self.kept {
+            return TypeNumbers::shorts(list.bytes);
+        }
+        if let Kept::Own(numbers) = &self.kept {
+            return TypeNumbers::words(numbers);
+        }
+        if let Kept::Shared(part) = &self.kept {
+            return TypeNumbers::words(part.numbers());
+        }
+        TypeNumbers::words(&[])
+    }
+
+    /// The same list: the bytes of a file are borrowed as before.
+    pub(crate) fn copy(&self) -> Result<Interfaces<'a>, AllocError>
+        ensures { IfOk result (λ copy. copy ≡ self.now) }
+    {
+        match &self.kept {
+            Kept::File(list) => Ok(Interfaces {
+                alloc: self.alloc,
+                kept: Kept::File(*list),
+            }),
+            Kept::Own(numbers) => Ok(Interfaces {
+                alloc: self.alloc,
+                kept: Kept::Own(numbers.clone()?),
+            }),
+            Kept::Shared(part) => Ok(Interfaces {
+                alloc: self.alloc,
+                kept: Kept::Shared(part.copy()?),
+            }),
+        }
+    }
+
+    /// Where the list is in the file that it comes from, or `None` if it is a part of nothing, or is empty.
+    pub(crate) fn place(&self) -> Option<ListPlace> {
+        if self.numbers().len() == 0 {
+            return None;
+        }
+        match &self.kept {
+            Kept::File(list) => Some(ListPlace {
+                source: source_of(list.file),
+                start: list.start / 2,
+            }),
+            Kept::Own(_) => None,
+            Kept::Shared(part) => Some(part.place()),
+        }
+    }
+
+    /// The `len` numbers of a place in the file, out of those of which this is a part, or nothing where these lack
+    /// some.
+    pub(crate) fn beside(&self, place: usize, len: usize) -> Result<Interfaces<'a>, AllocError> {
+        match &self.kept {
+            Kept::File(list) => {
+                let start = place.saturating_mul(2);
+                let bytes = bytes_from(list.file, start, len.saturating_mul(2));
+                let kept = Kept::File(FileList {
+                    bytes,
+                    start,
+                    ..*list
+                });
+                Ok(Interfaces {
+                    alloc: self.alloc,
+                    kept,
+                })
+            }
+            Kept::Own(_) => Ok(Interfaces::none(self.alloc)),
+            Kept::Shared(part) => match part.beside(place, len)? {
+                Some(part) => Ok(Interfaces {
+                    alloc: self.alloc,
+                    kept: Kept::Shared(part),
+                }),
+                None => Ok(Interfaces::none(self.alloc)),
+            },
+        }
+    }
+
+    /// Replaces the list by a part of others.
+    pub(crate) fn share(&mut self, part: SharedPart)
+        ensures { self.new ≡ part }
+    {
+        self.kept = Kept::Shared(part);
+    }
+
+    /// Remaps each number. One that has no image stays. If the allocation fails, all stay. If all stay, nothing is
+    /// allocated.
+    pub(crate) fn renumber(&mut self, remap: &Remap) -> Result<(), AllocError>
+        ensures remapped { OnOk result (self.new ≡ map (remapped remap.now.types) self.old) }
+        ensures unchanged { OnErr result (self.new ≡ self.old) }
+    {
+        if are_unchanged(remap, &self.numbers()) {
+            return Ok(());
+        }
+        let images = remapped_types(self.alloc, remap, &self.numbers())?;
+        self.kept = Kept::Own(images);
+        Ok(())
+    }
+}

@@ -38,7 +38,7 @@ pub use Rattle.dexval.specs.Directories.{ArePairsAt, HasMembers, HasPair, IsInde
 pub use Rattle.dexval.specs.DirectoryCache.{AreCached, AreHeld, HaveOffsets, IsNamedOf, IsNoted}
 pub use Rattle.dexval.specs.Equality.{annotation_input, elements_input, equal_sets, set_decides, value_input, values_input}
 pub use Rattle.dexval.specs.Items.{HasOffsets, IsItemAt, IsRefusal, NoItemAt, NoSetAt, Refuses}
-pub use Rattle.dexval.specs.Nesting.{AreElementsReadAt, AreReadAt, HasPools, IsAnnotationReadAt, IsElementReadAt, NoAnnotationAt, NoArrayAt, NoElementAt, NoElementsAt}
+pub use Rattle.dexval.specs.Nesting.{AreElementsReadAt, AreReadAt, AreValuesReadAt, HasPools, IsAnnotationReadAt, IsElementReadAt, NoAnnotationAt, NoArrayAt, NoElementAt, NoElementsAt, NoValuesAt}
 pub use Rattle.dexval.specs.Numbered.{Annotated, AreKnown, Array, BooleanLiteral, ByteLiteral, CharLiteral, Denote, Denotes, DenotesAnnotation, DenotesSet, DoubleLiteral, EnumReference, FieldReference, FloatLiteral, HaveKnown, IntLiteral, IsKnown, IsKnownAnnotation, IsKnownSet, Literal, LongLiteral, MethodReference, Named, NoElement, NoValue, NullLiteral, NumberedAnnotation, NumberedDirectory, NumberedElements, NumberedSet, NumberedValue, NumberedValues, Plain, Reference, ShortLiteral, StringReference, ThenNamed, ThenNext, TypeReference, annotation_in, directory_in, elements_in, elements_of_list, field_at, kind_of_reference, method_at, named_value, plain_value, set_in, text_at, type_at, value_in, values_in, values_of_list}
 pub use Rattle.dexval.specs.Reading.{EncodedValueAt, IsDirectoryAt, IsDirectoryFault, IsDirectoryFaultWithin, IsSetAt, IsSetFault}
 pub use Rattle.dexval.specs.Renumbering.{AnnotationHasPlaces, ElementHasPlaces, ElementsHavePlaces, HasPlaces, HavePlaces, MapsNarrow, SetHasPlaces, remapped, renumbered, renumbered_annotation, renumbered_element, renumbered_elements, renumbered_set, renumbered_values}

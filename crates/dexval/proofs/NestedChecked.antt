@@ -2,7 +2,7 @@
 use Rattle.dexval.proofs.Common.{◌≡◌, ◌≢◌, ℕ, ◌+◌, ◌-◌, ◌<◌, ◌≤◌, List, [], ◌∷◌, ◌++◌, length, refl, ap, arith, slice_index, Uleb128At, value_depth, Mentions, ArePools, HasValue, HasArray, HasElement, HasElements, HasAnnotation, HasPools, NoArrayAt, NoElementsAt, NoElementAt, NumberedValue, Array, Annotated, values_of_list, elements_of_list, value_in, NoValueAt, IsReadAt, numbered_weight, numbered_values_weight, numbered_elements_weight}
 use Rattle.dexval.proofs.ElementsRead.{HaveReadOf, no_element_read, one_element_more, no_next_element, all_elements_read, annotation_read, array_encoded, annotation_encoded}
 use Rattle.dexval.proofs.Members.{count_of_list}
-use Rattle.dexval.proofs.ValuesRead.{HaveRead, none_read, one_more, no_next, no_values, all_read}
+use Rattle.dexval.proofs.ValuesRead.{HaveRead, none_read, one_more, no_next, no_values, all_read, array_read}
 
 -- a value that holds no other value weighs 9
 flat_weight : (m : Mentions) (x : NumberedValue) → value_depth (value_in m x) ≤ 0 → numbered_weight x ≡ 9
@@ -53,7 +53,7 @@ no_value_next b m o depth count head i k weight number lt h none = no_values b m
 pub values_checked : (b : List ℕ) (m : Mentions) (o depth count head i k weight : ℕ) → Uleb128At b o count head → i ≡ count → ValuesChecked b (o + head) m depth count i k weight → HasArray b o m depth count (head + k) weight
 values_checked b m o depth count head i k weight number all h = record {
   values = values_of_list h.values;
-  read = all_read b m o depth count i head h.values k number all h.so_far;
+  read = array_read b m o depth count head (values_of_list h.values) k number (all_read b m (o + head) depth count i h.values k all h.so_far);
   counted = omega (arith, count_of_list h.values, h.so_far.number, all);
   weighs = h.weighed;
 }

@@ -1,6 +1,6 @@
 -- Values that are read one after the other: the values that were read are in the file, and the other values come after
 -- them.
-use Rattle.dexval.proofs.Common.{◌≡◌, ℕ, ◌+◌, ◌-◌, ◌<◌, ◌≤◌, max, List, [], ◌∷◌, ◌++◌, length, refl, subst, arith, length-append, Uleb128At, Values, NoValues, ThenValue, ValueAt, ValuesAt, value_depth, values_depth, count_values, Mentions, one_uleb128, one_value, NumberedValue, AreKnown, IsKnown, values_in, value_in, values_of_list, NoValueAt, IsReadAt, NoArrayAt, AreReadAt}
+use Rattle.dexval.proofs.Common.{◌≡◌, ◌∙◌, ℕ, ◌+◌, ◌-◌, ◌<◌, ◌≤◌, max, List, [], ◌∷◌, ◌++◌, length, refl, sym, subst, arith, length-append, Uleb128At, Values, NoValues, ThenValue, ValueAt, ValuesAt, value_depth, values_depth, count_values, Mentions, one_uleb128, one_value, NumberedValue, NumberedValues, AreKnown, IsKnown, values_in, value_in, values_of_list, NoValueAt, IsReadAt, NoArrayAt, AreReadAt, NoValuesAt, AreValuesReadAt}
 use Rattle.dexspec.specs.Values.{Value}
 
 -- `count` values are at the offset, and nest at most `depth` deep
@@ -81,22 +81,25 @@ module _ (b : List ℕ) (m : Mentions) where
         subst (λ (c : ℕ). Rest b (o + (k + j)) depth c) left (subst (λ (p : ℕ). Rest b p depth (count - i - 1)) place n.following);
   }
 
-  -- the next bytes are no value
-  pub no_next : (o depth count i : ℕ) (xs : List NumberedValue) (k : ℕ) → i < count → HaveRead b o m depth count i xs k → NoValueAt b (o + k) depth → Rest b o depth count → ⊥
-  no_next o depth count i xs k lt h none all = let n = next (o + k) depth (count - i) (omega arith) (h.rest all) in none n.value n.size n.encodes n.shallow
+  -- if the next bytes are no value, there are no `count` values
+  pub no_next : (o depth count i : ℕ) (xs : List NumberedValue) (k : ℕ) → i < count → HaveRead b o m depth count i xs k → NoValueAt b (o + k) depth → NoValuesAt b o depth count
+  no_next o depth count i xs k lt h none vs n are_encoded number shallow =
+      let all : Rest b o depth count = record { values = vs; size = n; are_encoded = are_encoded; number = number; shallow = shallow } in
+      let x = next (o + k) depth (count - i) (omega arith) (h.rest all) in none x.value x.size x.encodes x.shallow
+
+  -- all of them were read
+  pub all_read : (o depth count i : ℕ) (xs : List NumberedValue) (k : ℕ) → i ≡ count → HaveRead b o m depth count i xs k → AreValuesReadAt b o m depth count (values_of_list xs) k
+  all_read o depth count i xs k e h = record { known = h.known; encodes = h.are_encoded; number = count_is xs ∙ h.number ∙ e; shallow = h.shallow }
 
   -- without a count there is no array
   pub no_count : (o depth : ℕ) → ((count i : ℕ) → Uleb128At b o count i → ⊥) → NoArrayAt b o depth
   no_count o depth none vs n h shallow = none (count_values vs) h.0 h.2
 
   -- without `count` values after the count there is no array
-  pub no_values : (o depth count head : ℕ) → Uleb128At b o count head → (Rest b (o + head) depth count → ⊥) → NoArrayAt b o depth
+  pub no_values : (o depth count head : ℕ) → Uleb128At b o count head → NoValuesAt b (o + head) depth count → NoArrayAt b o depth
   no_values o depth count head u none vs n h shallow =
-      let same = one_uleb128 b o (count_values vs) count h.0 head h.2 u in
-      none (record { values = vs; size = h.1; are_encoded = subst (λ (i : ℕ). ValuesAt b (o + i) vs h.1) same.1 h.3; number = same.0; shallow = shallow })
+      let same = one_uleb128 b o (count_values vs) count h.0 head h.2 u in none vs h.1 (subst (λ (i : ℕ). ValuesAt b (o + i) vs h.1) same.1 h.3) same.0 shallow
 
-  -- all of them were read
-  pub all_read : (o depth count i head : ℕ) (xs : List NumberedValue) (k : ℕ) → Uleb128At b o count head → i ≡ count → HaveRead b (o + head) m depth count i xs k → AreReadAt b o m depth (values_of_list xs) (head + k)
-  all_read o depth count i head xs k u e h =
-      let all : count ≡ count_values (values_in m (values_of_list xs)) = omega (arith, count_is xs, h.number, e) in
-      record { known = h.known; encodes = (head, k, subst (λ (c : ℕ). Uleb128At b o c head) all u, h.are_encoded, refl); shallow = h.shallow }
+  -- a count and the values after it
+  pub array_read : (o depth count head : ℕ) (xs : NumberedValues) (k : ℕ) → Uleb128At b o count head → AreValuesReadAt b (o + head) m depth count xs k → AreReadAt b o m depth xs (head + k)
+  array_read o depth count head xs k u r = record { known = r.known; encodes = (head, k, subst (λ (c : ℕ). Uleb128At b o c head) (sym r.number) u, r.encodes, refl); shallow = r.shallow }

@@ -4,8 +4,8 @@ use Rattle.dexspec.specs.Lists.{rises}
 use Rattle.dexspec.specs.Numbers.{Uleb128At}
 use Rattle.dexspec.specs.Texts.{Text, text_cmp}
 use Rattle.dexspec.specs.Rows.{StringRow}
-use Rattle.dexspec.specs.Values.{Value, Values, Elements, ValueAt, ElementsAt, EncodedArrayAt, EncodedAnnotationAt}
-use Rattle.dexspec.specs.Values.{value_depth, values_depth, elements_depth, names_of}
+use Rattle.dexspec.specs.Values.{Value, Values, Elements, ValueAt, ValuesAt, ElementsAt, EncodedArrayAt}
+use Rattle.dexspec.specs.Values.{EncodedAnnotationAt, value_depth, values_depth, elements_depth, count_values, names_of}
 use Rattle.dexspec.specs.Mentions.{Mentions}
 use Rattle.dexpool.specs.Pools.{ArePools}
 use Rattle.dexpool.specs.Numberings.{AreRising}
@@ -26,6 +26,19 @@ NoArrayAt b o depth = (vs : Values) (n : ℕ) → EncodedArrayAt b o vs n → va
 pub record AreReadAt (b : List ℕ) (o : ℕ) (m : Mentions) (depth : ℕ) (xs : NumberedValues) (n : ℕ) : Type 0 where
   pub known : AreKnown m xs
   pub encodes : EncodedArrayAt b o (values_in m xs) n
+  pub shallow : values_depth (values_in m xs) ≤ depth
+
+-- no `count` values that nest at most `depth` deep are at the offset
+abbrev pub NoValuesAt : List ℕ → ℕ → ℕ → ℕ → Type 0
+NoValuesAt b o depth count =
+    (vs : Values) (n : ℕ) → ValuesAt b o vs n → count_values vs ≡ count → values_depth vs ≤ depth → ⊥
+
+-- `count` values, those that the numbers denote, are at the offset; they nest at most `depth` deep
+pub record AreValuesReadAt (b : List ℕ) (o : ℕ) (m : Mentions) (depth count : ℕ) (xs : NumberedValues) (n : ℕ) :
+    Type 0 where
+  pub known : AreKnown m xs
+  pub encodes : ValuesAt b o (values_in m xs) n
+  pub number : count_values (values_in m xs) ≡ count
   pub shallow : values_depth (values_in m xs) ≤ depth
 
 -- no element whose name has at least the number `least`, and whose value nests at most `depth` deep, is at the offset

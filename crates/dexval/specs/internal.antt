@@ -2,4 +2,5 @@
 pub mod Counting
 pub mod Found
 pub mod Heads
+pub mod Room
 pub mod Scalars

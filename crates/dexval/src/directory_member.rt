@@ -1,6 +1,6 @@
 //! The parts of directories: sets for fields and methods, and lists of sets for parameters.
 
-ghost use Rattle.std.specs.Prelude.{ℕ, List, ◌≡◌, ◌≢◌, ◌<◌, ◌+◌, ◌*◌, Option, Some, All, IfOk, IfErr, OnOk, map};
+ghost use Rattle.std.specs.Prelude.{ℕ, List, ◌≡◌, ◌≢◌, ◌<◌, ◌+◌, ◌*◌, Option, Some, All, IfOk, IfErr, OnOk, length, map};
 ghost use Rattle.dexspec.proofs.determined.OneClass.{one_set, one_ref_list};
 ghost use Rattle.dexspec.specs.Annotations.{AnnotationSet as SetMeant, SetAt, RefListAt};
 ghost use Rattle.dexspec.specs.Mentions.{Mentions};
@@ -8,12 +8,14 @@ ghost use Rattle.dexspec.specs.Weight.{set_weight, ref_list_weight};
 ghost use Rattle.dexval.specs.Numbered.{NumberedSet, IsKnownSet, set_in};
 ghost use Rattle.dexval.specs.DirectoryCache.{AreHeld};
 ghost use Rattle.dexval.specs.Tables.{NumberedTable, Extends, IsListed, IsPlaceIn, set_at, sets_at};
+ghost use Rattle.dexval.specs.internal.Found.{IsOffsetCount};
+ghost use Rattle.dexval.specs.internal.Room.{IsEmptyWithin};
 ghost use Rattle.dexval.specs.internal.Counting.{IsFaultAt, HasItemOf, IsFile, AreCheckedOf, IsCacheOf, IsItemNoted, AreSetsNoted, HasCountedItem, HasCountedSets, IsFaultWithin};
 
 use crate::directory_cache::{CountedCache, File};
 use crate::directory_checking::CheckedSets;
 use crate::set_reading::{count_at, uint_at};
-use crate::value_reading::room;
+use crate::value_reading::with_room;
 use dexpool::ItemFault;
 
 /// A part of a directory for a member: a set of annotations, or the sets of its parameters.
@@ -123,9 +125,17 @@ fn list_weight(count: u32) -> u64
 }
 
 impl File<'_> {
-    // The places of the sets of the annotation_set_ref_list at an offset. The list and each set are counted. Error: there
-    // is no list, or it is too heavy.
-    fn listed_at(&self, off: u32, kept: &mut CountedCache) -> Result<Vec<Option<u32>>, ItemFault>
+    // Reads the places of the sets of the annotation_set_ref_list at an offset, which are `count`, into an empty vector.
+    // The list and each set are counted. Error: there is no list, or it is too heavy.
+    fn listed_at(
+        &self,
+        off: u32,
+        count: u32,
+        mut places: Vec<Option<u32>>,
+        kept: &mut CountedCache,
+    ) -> Result<Vec<Option<u32>>, ItemFault>
+        requires count { IsOffsetCount self.now.frame.now off count }
+        requires room { IsEmptyWithin (length self.now.frame.now) places }
         requires held { AreHeld kept.old.cache }
         requires cache { IsFile self.now → IsCacheOf self.now kept.old.cache }
         ensures lists { kept.new.cache.lists ≡ kept.old.cache.lists }
@@ -138,11 +148,8 @@ impl File<'_> {
             (RefListAt self.now.frame.now off) ref_list_weight kept.old.budget.weight
             kept.old.budget.most) }
     {
-        let count = count_at(self.frame, off)?;
         let list = list_weight(count);
         kept.budget.add(list)?;
-        let most = room(count, self.frame.bytes().len());
-        let mut places = Vec::with_capacity(kept.cache.alloc, most)?;
         for i in 0..count {
             let set_off = uint_at(self.frame, off as usize + 4 + 4 * i as usize);
             let place = self.counted_set_or_empty_at(set_off, kept)?;
@@ -198,7 +205,9 @@ impl OfMember for ListOfMember {
             kept.budget.add(kept.cache.table.list_weight(Some(place)))?;
             return Ok(place);
         }
-        let places = file.listed_at(off, kept)?;
+        let count = count_at(file.frame, off)?;
+        let empty = with_room(kept.cache.alloc, count, file.frame.bytes().len())?;
+        let places = file.listed_at(off, count, empty, kept)?;
         let place = kept.cache.table.add_list(places)?;
         kept.cache.lists.insert(off, place)?;
         Ok(place)

@@ -10,12 +10,13 @@ ghost use Rattle.dexval.specs.Reading.{IsDirectoryFault, IsDirectoryFaultWithin}
 ghost use Rattle.dexval.specs.Shared.{IsTight};
 ghost use Rattle.dexval.specs.Results.{IsReadDirectory, IsReadWithin, AreMemberCounts};
 ghost use Rattle.dexval.specs.internal.Counting.{IsRange, IsFile, IsCacheOf, AreAllNoted, HaveCountedPairs, ArePairsOf, IsPairAt, IsFaultWithin, IsPairsFault};
+ghost use Rattle.dexval.specs.internal.Room.{IsEmptyWithin};
 
 use crate::directory::{Directory, MemberCounts, SharedDirectory};
 use crate::directory_cache::{Budget, CountedCache, DirectoryCache, File};
 use crate::directory_member::{ListOfMember, OfMember, SetOfMember};
 use crate::set_reading::uint_at;
-use crate::value_reading::room;
+use crate::value_reading::with_room;
 use dexhead::{Condition, Frame, u32_at};
 use dexpool::{ItemFault, Pools, SymbolKind};
 use std::alloc::Global;
@@ -114,15 +115,17 @@ impl File<'_> {
         })
     }
 
-    // The members of these pairs, by their numbers, with the place of the item of each, which is counted. Error: the
-    // pairs are not there, or their items are too heavy.
+    // Reads the members of these pairs, by their numbers, into an empty vector, with the place of the item of each, which
+    // is counted. Error: the pairs are not there, or their items are too heavy.
     fn members_at<T: OfMember>(
         &self,
         pairs: &PairRange,
+        mut members: Vec<(u32, u32)>,
         kept: &mut CountedCache,
     ) -> Result<Vec<(u32, u32)>, ItemFault>
         requires within { pairs.now.at + 8 * pairs.now.count ≤ length self.now.frame.now }
         requires fits { pairs.now.at < 2 ^ 40 }
+        requires room { IsEmptyWithin (length self.now.frame.now) members }
         requires held { AreHeld kept.old.cache }
         requires cache { IsFile self.now → IsCacheOf self.now kept.old.cache }
         ensures noted { IfOk result
@@ -133,8 +136,6 @@ impl File<'_> {
         ensures refused { IsFile self.now → IfErr result
             (IsPairsFault T.encodes T.weighs self.now.frame.now pairs.now kept.old.budget) }
     {
-        let most = room(pairs.count, self.frame.bytes().len());
-        let mut members = Vec::with_capacity(kept.cache.alloc, most)?;
         let mut least = 0;
         for i in 0..pairs.count {
             let (number, off) = pairs.pair(self.frame, i, least)?;
@@ -160,9 +161,13 @@ impl File<'_> {
         };
         let pairs = self.directory_pairs(off)?;
         let own = self.counted_set_or_empty_at(uint_at(self.frame, off as usize), &mut kept)?;
-        let fields = self.members_at::<SetOfMember>(&pairs.fields, &mut kept)?;
-        let methods = self.members_at::<SetOfMember>(&pairs.methods, &mut kept)?;
-        let parameters = self.members_at::<ListOfMember>(&pairs.parameters, &mut kept)?;
+        let left = self.frame.bytes().len();
+        let empty = with_room(alloc, pairs.counts.fields, left)?;
+        let fields = self.members_at::<SetOfMember>(&pairs.fields, empty, &mut kept)?;
+        let empty = with_room(alloc, pairs.counts.methods, left)?;
+        let methods = self.members_at::<SetOfMember>(&pairs.methods, empty, &mut kept)?;
+        let empty = with_room(alloc, pairs.counts.parameters, left)?;
+        let parameters = self.members_at::<ListOfMember>(&pairs.parameters, empty, &mut kept)?;
         Ok(SharedDirectory {
             table: kept.cache.table,
             own,

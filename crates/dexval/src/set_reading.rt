@@ -6,11 +6,12 @@ ghost use Rattle.dexpool.specs.Pools.{ArePools};
 ghost use Rattle.dexval.specs.Code.{visibility_of};
 ghost use Rattle.dexval.specs.Nesting.{HasPools};
 ghost use Rattle.dexval.specs.Reading.{IsSetFault};
-ghost use Rattle.dexval.specs.Items.{NoItemAt, HasOffsets, IsRefusal};
+ghost use Rattle.dexval.specs.Items.{NoItemAt, NoSetAt, HasOffsets, IsRefusal};
 ghost use Rattle.dexval.specs.Results.{IsReadSet};
 ghost use Rattle.dexval.specs.internal.Found.{IsOffsetCount, IsReadItem};
+ghost use Rattle.dexval.specs.internal.Room.{IsEmptyWithin};
 
-use crate::value_reading::{MOST_DEPTH, ValueReader};
+use crate::value_reading::{MOST_DEPTH, ValueReader, with_room};
 use crate::{Annotation, AnnotationSet, Visibility};
 use dexhead::{Condition, Frame, u32_at};
 use dexpool::{ItemFault, Pools};
@@ -87,11 +88,39 @@ pub(crate) fn offset_count(frame: &Frame<'_>, off: u32) -> Option<u32>
 
 /// As [`offset_count`]. Error: the item is not inside the data at a multiple of 4.
 pub(crate) fn count_at(frame: &Frame<'_>, off: u32) -> Result<u32, ItemFault>
-    ensures count { IfOk result (λ count. HasOffsets frame.now off
-        × (count ≡ uint_at frame.now off)) }
+    ensures count { IfOk result (IsOffsetCount frame.now off) }
     ensures refused { IfErr result (IsRefusal (HasOffsets frame.now off → ⊥)) }
 {
     offset_count(frame, off).ok_or(ItemFault::Refused(Condition::Annotations as u8))
+}
+
+// Reads the annotations of the annotation_set_item at an offset, which are `count`, into an empty vector. Error: there is
+// no such set.
+fn annotations_at(
+    alloc: Global,
+    frame: &Frame<'_>,
+    pools: &Pools<'_>,
+    off: u32,
+    count: u32,
+    mut annotations: Vec<Annotation>,
+) -> Result<AnnotationSet, ItemFault>
+    requires count { IsOffsetCount frame.now off count }
+    requires room { IsEmptyWithin (length frame.now) annotations }
+    ensures set { HasPools frame.now pools.now → IfOk result (IsReadSet frame.now off pools.now) }
+    ensures refused { HasPools frame.now pools.now
+        → IfErr result (IsRefusal (NoSetAt frame.now off)) }
+{
+    let mut least = 0;
+    for i in 0..count {
+        let place = uint_at(frame, off as usize + 4 + 4 * i as usize);
+        let annotation = item_at(alloc, frame, pools, place)?;
+        if u64::from(annotation.annotation.typ) < least {
+            return Err(ItemFault::Refused(Condition::Annotations as u8));
+        }
+        least = u64::from(annotation.annotation.typ) + 1;
+        annotations.push(annotation)?;
+    }
+    Ok(AnnotationSet { annotations })
 }
 
 /// Reads the annotation_set_item at an offset, and the annotations that it refers to. Their indices refer to the pools,
@@ -114,16 +143,6 @@ pub fn read_set(
 {
     pools.numbering().is_numbering();
     let count = count_at(frame, off)?;
-    let mut annotations = Vec::with_capacity(alloc, count as usize)?;
-    let mut least = 0;
-    for i in 0..count {
-        let place = uint_at(frame, off as usize + 4 + 4 * i as usize);
-        let annotation = item_at(alloc, frame, pools, place)?;
-        if u64::from(annotation.annotation.typ) < least {
-            return Err(ItemFault::Refused(Condition::Annotations as u8));
-        }
-        least = u64::from(annotation.annotation.typ) + 1;
-        annotations.push(annotation)?;
-    }
-    Ok(AnnotationSet { annotations })
+    let annotations = with_room(alloc, count, frame.bytes().len())?;
+    annotations_at(alloc, frame, pools, off, count, annotations)
 }

@@ -1,6 +1,6 @@
 //! Reads values from a file.
 
-ghost use Rattle.std.specs.Prelude.{IfOk, IfErr, ◌≡◌, ◌+◌, ◌^◌, ◌<◌, ◌≤◌, length};
+ghost use Rattle.std.specs.Prelude.{IfOk, IfErr, ◌≡◌, ◌+◌, ◌-◌, ◌^◌, ◌<◌, ◌≤◌, length, vec_capacity};
 ghost use Rattle.dexpool.specs.Pools.{ArePools};
 ghost use Rattle.dexval.specs.Reading.{IsValueFault, IsStaticsFault};
 ghost use Rattle.dexval.specs.Results.{IsReadValue, AreReadStatics};
@@ -8,9 +8,10 @@ ghost use Rattle.dexspec.specs.Numbers.{Uleb128At};
 ghost use Rattle.dexpool.specs.declared.faults.ItemFault.TheVariants.{Refused};
 ghost use Rattle.dexval.specs.Code.{element_of};
 ghost use Rattle.dexval.specs.Items.{Refuses};
-ghost use Rattle.dexval.specs.Nesting.{HasPools, NoArrayAt, NoElementAt, NoElementsAt, NoAnnotationAt};
+ghost use Rattle.dexval.specs.Nesting.{HasPools, NoArrayAt, NoValuesAt, NoElementAt, NoElementsAt, NoAnnotationAt};
 ghost use Rattle.dexval.specs.internal.Scalars.{NoValueAt};
-ghost use Rattle.dexval.specs.internal.Found.{NoNumberAt, IsValueRead, IsArrayRead, IsElementRead, AreElementsRead, IsAnnotationRead};
+ghost use Rattle.dexval.specs.internal.Room.{IsEmptyWithin};
+ghost use Rattle.dexval.specs.internal.Found.{NoNumberAt, IsValueRead, IsArrayRead, AreValuesRead, IsElementRead, AreElementsRead, IsAnnotationRead};
 
 use crate::scalars::scalar_at;
 use crate::type_codes::{ANNOTATION, ARRAY};
@@ -18,20 +19,18 @@ use crate::value::{Element, EncodedAnnotation, Value};
 use crate::value_checking::number_at;
 use dexhead::{Condition, Frame};
 use dexpool::{ItemFault, Pools, SymbolKind};
-use std::alloc::Global;
+use std::alloc::{AllocError, Global};
 
 // The maximum number of values for which capacity is reserved before they are read.
 const MOST_AT_ONCE: usize = 4096;
 
-// The number of items, of `count`, for which capacity is reserved before they are read. `left` bytes are left, and each
-// item has at least one byte. So for nested items a false count reserves little, and a true count reserves no more than
-// needed.
-pub(crate) fn room(count: u32, left: usize) -> usize
-    ensures count { result ≤ count }
-    ensures left { result ≤ left }
-    ensures most { result ≤ 4096 }
+/// An empty vector for `count` items that are still to be read from `left` bytes. Each item has at least one byte. So for
+/// nested items a false count reserves little, and a true count reserves no more than needed.
+pub(crate) fn with_room<T>(alloc: Global, count: u32, left: usize) -> Result<Vec<T>, AllocError>
+    ensures count { IfOk result (λ items. vec_capacity items ≤ count) }
+    ensures room { IfOk result (IsEmptyWithin left) }
 {
-    (count as usize).min(left).min(MOST_AT_ONCE)
+    Vec::with_capacity(alloc, (count as usize).min(left).min(MOST_AT_ONCE))
 }
 
 /// An item and its size in bytes.
@@ -105,14 +104,36 @@ impl<'r, 'p> ValueReader<'r, 'p> {
         ensures within { IfOk result (λ read. at + read.1 ≤ length self.now.bytes.now) }
     {
         let (count, head) = self.number_at(at)?;
-        let mut values = Vec::with_capacity(self.alloc, room(count, self.bytes.len() - at))?;
+        let empty = with_room(self.alloc, count, self.bytes.len() - (at + head))?;
+        let (values, size) = self.values_at(at + head, depth, count, empty)?;
+        Ok((values, head + size))
+    }
+
+    // Reads `count` values from an offset on into an empty vector. Returns them and their size. Error: there are no such
+    // values that nest at most `depth` deep.
+    #[cycle(reading)]
+    fn values_at(
+        &self,
+        at: usize,
+        depth: u32,
+        count: u32,
+        mut values: Vec<Value>,
+    ) -> Found<Vec<Value>>
+        requires within { at ≤ length self.now.bytes.now }
+        requires room { IsEmptyWithin (length self.now.bytes.now - at) values }
+        ensures read { HasPools self.now.bytes.now self.now.pools.now
+            → IfOk result (AreValuesRead self.now.bytes.now at self.now.pools.now depth count) }
+        ensures refused { HasPools self.now.bytes.now self.now.pools.now → IfErr result
+            (Refuses self.now.number (NoValuesAt self.now.bytes.now at depth count)) }
+        ensures within { IfOk result (λ read. at + read.1 ≤ length self.now.bytes.now) }
+    {
         let mut size = 0;
         for _i in 0..count {
-            let (value, used) = self.value_at(at + head + size, depth)?;
+            let (value, used) = self.value_at(at + size, depth)?;
             values.push(value)?;
             size += used;
         }
-        Ok((values, head + size))
+        Ok((values, size))
     }
 
     // The element at an offset, and its size. Error: there is no element whose name has at least the number `least` and
@@ -135,18 +156,24 @@ impl<'r, 'p> ValueReader<'r, 'p> {
         Ok((Element { name, value }, head + size))
     }
 
-    // `count` elements from an offset on, and their size. Error: there are no such elements whose names rise strictly and
-    // whose values nest at most `depth` deep.
+    // Reads `count` elements from an offset on into an empty vector. Returns them and their size. Error: there are no such
+    // elements whose names rise strictly and whose values nest at most `depth` deep.
     #[cycle(reading)]
-    fn elements_at(&self, at: usize, depth: u32, count: u32) -> Found<Vec<Element>>
-        requires { at ≤ length self.now.bytes.now }
+    fn elements_at(
+        &self,
+        at: usize,
+        depth: u32,
+        count: u32,
+        mut elements: Vec<Element>,
+    ) -> Found<Vec<Element>>
+        requires within { at ≤ length self.now.bytes.now }
+        requires room { IsEmptyWithin (length self.now.bytes.now - at) elements }
         ensures read { HasPools self.now.bytes.now self.now.pools.now
             → IfOk result (AreElementsRead self.now.bytes.now at self.now.pools.now depth count) }
         ensures refused { HasPools self.now.bytes.now self.now.pools.now → IfErr result
             (Refuses self.now.number (NoElementsAt self.now.bytes.now at depth count)) }
         ensures within { IfOk result (λ read. at + read.1 ≤ length self.now.bytes.now) }
     {
-        let mut elements = Vec::with_capacity(self.alloc, room(count, self.bytes.len() - at))?;
         let mut size = 0;
         let mut least = 0;
         for _i in 0..count {
@@ -173,7 +200,9 @@ impl<'r, 'p> ValueReader<'r, 'p> {
             return Err(self.refusal());
         }
         let (count, second) = self.number_at(at + first)?;
-        let (elements, size) = self.elements_at(at + first + second, depth, count)?;
+        let start = at + first + second;
+        let empty = with_room(self.alloc, count, self.bytes.len() - start)?;
+        let (elements, size) = self.elements_at(start, depth, count, empty)?;
         Ok((EncodedAnnotation { typ, elements }, first + second + size))
     }
 }

@@ -19,8 +19,8 @@ use Rattle.dexval.specs.Checking.{HasValue, HasArray, HasElement, HasElements, H
 use Rattle.dexval.specs.Code.{value_of, values_of, element_of, elements_of, encoded_type, encoded_elements}
 use Rattle.dexval.specs.Code.{annotation_of}
 use Rattle.dexval.specs.Items.{IsItemAt, NoSetAt, HasOffsets}
-use Rattle.dexval.specs.Nesting.{NoArrayAt, AreReadAt, NoElementAt, IsElementReadAt, NoElementsAt, AreElementsReadAt}
-use Rattle.dexval.specs.Nesting.{NoAnnotationAt, IsAnnotationReadAt}
+use Rattle.dexval.specs.Nesting.{NoArrayAt, AreReadAt, AreValuesReadAt, NoElementAt, IsElementReadAt, NoElementsAt}
+use Rattle.dexval.specs.Nesting.{AreElementsReadAt, NoAnnotationAt, IsAnnotationReadAt}
 use Rattle.dexval.specs.Results.{HasValueShape, HasStaticsShape, HasSetShape}
 use Rattle.dexval.specs.internal.Scalars.{Spells, NoValueAt, IsReadAt}
 
@@ -58,6 +58,10 @@ IsValueRead b o m depth read = IsReadAt b o m depth (value_of read.0) read.1
 -- the values of an encoded_array, and its size
 abbrev pub IsArrayRead : List ℕ → ℕ → Mentions → ℕ → Vec Value × ℕ → Type 0
 IsArrayRead b o m depth read = AreReadAt b o m depth (values_of read.0.items) read.1
+
+-- `count` values, and their size
+abbrev pub AreValuesRead : List ℕ → ℕ → Mentions → ℕ → ℕ → Vec Value × ℕ → Type 0
+AreValuesRead b o m depth count read = AreValuesReadAt b o m depth count (values_of read.0.items) read.1
 
 -- an element whose name has at least the number `least`, and its size
 abbrev pub IsElementRead : List ℕ → ℕ → Mentions → ℕ → ℕ → Element × ℕ → Type 0

@@ -12,7 +12,7 @@ returns-in_err-number-clause-refused g c = λ p.
     let pairs = c.args.pairs.now in
     let encodes = g.T.OfMember.encodes in
     let kept : List (ℕ × g.T.OfMember.Numbered) = map (λ (e : ℕ × ℕ). (e.0, g.T.OfMember.of c.loop-i.kept.cache.table (Some e.1))) c.loop-i.members.items in
-    rw (err_is c.from_residual-in_err-number.result c.from_residual-in_err-number.ensures.1)
+    rw (err_is c.from_residual.result c.from_residual.ensures.1)
     (refused_within (PairsAt (IsIndexBelow pairs.limit) encodes c.args.self.now.frame.now pairs.at pairs.count) (sum_by (λ (e : ℕ × g.T.OfMember.Meant). g.T.OfMember.weighs e.1)) c.args.kept.now.budget.weight c.args.kept.now.budget.most
     (no_pair_next (g.T.OfMember.is_known m) (g.T.OfMember.inside m) encodes c.args.self.now.frame.now pairs.at pairs.count pairs.limit c.loop-i.i c.loop-i.least kept (omega arith) (c.loop-i.invariant.read p).is_read) c.in_err-number.field-0.0 c.in_err-number.ensures.refused)
 
@@ -38,7 +38,7 @@ loop-i-init g c =
     let table = c.args.kept.now.cache.table in
     record {
       least_fits = omega arith;
-      noted = subst (AreNoted g.T.OfMember.is_held g.T.OfMember.names_set g.T.OfMember.names_list c.args.kept.now.cache c.args.kept.now.cache) (sym c.in_ok-members.ensures.items)
+      noted = subst (AreNoted g.T.OfMember.is_held g.T.OfMember.names_set g.T.OfMember.names_list c.args.kept.now.cache c.args.kept.now.cache) (sym c.requires.room.empty)
           (record {
             extended = extends_same table;
             noted_held = c.requires.held;
@@ -50,7 +50,7 @@ loop-i-init g c =
           let Known = g.T.OfMember.is_known c.args.self.now.pools.now in
           let inside = g.T.OfMember.inside c.args.self.now.pools.now in
           let Counted = HasCounted (HaveReadPairs Known inside g.T.OfMember.encodes c.args.self.now.frame.now pairs.at pairs.limit 0 0) (sum_by (λ (e : ℕ × g.T.OfMember.Numbered). g.T.OfMember.weighs (inside e.1))) c.args.kept.now.budget c.args.kept.now.budget in
-          subst (λ (l : List (ℕ × ℕ)). Counted (map (λ e. (e.0, g.T.OfMember.of table (Some e.1))) l)) (sym c.in_ok-members.ensures.items) (record { is_read = no_pair_yet Known inside g.T.OfMember.encodes c.args.self.now.frame.now pairs.at pairs.limit; counted = none_counted c.args.kept.now.budget });
+          subst (λ (l : List (ℕ × ℕ)). Counted (map (λ e. (e.0, g.T.OfMember.of table (Some e.1))) l)) (sym c.requires.room.empty) (record { is_read = no_pair_yet Known inside g.T.OfMember.encodes c.args.self.now.frame.now pairs.at pairs.limit; counted = none_counted c.args.kept.now.budget });
     }
 
 pub loop-i-preserved : goal.loop-i-preserved

@@ -1,9 +1,10 @@
 use Rattle.dexval.proofs.Common.{◌≡◌, ◌+◌, ◌∷◌, [], length, Some, None, nat_eq, map, refl, sym, ap, subst, rules, arith, get, Contains, Contains-push, RefListAt, ref_list_weight, one_ref_list, DirectoryCache, IsRefListAt, sets_weight_in, HaveOffsets, set_in, NumberedTable, AreNewNamed, sets_at, HasCounted}
 use Rattle.std.proofs.Common.{length-append}
 use Rattle.dexval.proofs.CachedSets.{list_cached}
+use Rattle.dexval.proofs.DirectoryRead.{no_list_room}
 use Rattle.dexval.proofs.Keeping.{counts_as}
 use Rattle.dexval.proofs.PlacedItems.{fewer, one_placed}
-use Rattle.dexval.proofs.Refusals.{err_is, item_refused}
+use Rattle.dexval.proofs.Refusals.{err_is, item_refused, refused_within}
 use Rattle.dexval.proofs.TableGrowth.{extends_then, new_then, list_is_added}
 use Rattle.dexval.proofs.directory_member.ListOfMemberOfMember.counted_at.Goals as goal
 
@@ -19,6 +20,11 @@ returns-in_err-add-clause-refused c = λ p.
     let place = c.in-Some.place.now in
     let here = (c.requires.cache p).lists_cached off place (sym c.in-Some.ensures.value) in
     rw (err_is c.from_residual.result c.from_residual.ensures.1) (item_refused (RefListAt b off) ref_list_weight c.args.kept.now.budget (map (set_in m) (sets_at c.args.kept.now.cache.table (Some place))) c.list_weight.result (one_ref_list b off) here.at (c.list_weight.ensures m) c.in_err-add.field-0.0 c.in_err-add.ensures.refused)
+
+pub returns-in_err-count-clause-refused : goal.returns-in_err-count-clause-refused
+returns-in_err-count-clause-refused c = λ p.
+    let b = c.args.file.now.frame.now in
+    rw (err_is c.from_residual-in_err-count.result c.from_residual-in_err-count.ensures.1) (refused_within (RefListAt b c.args.off) ref_list_weight c.args.kept.now.budget.weight c.args.kept.now.budget.most (no_list_room b c.args.off) c.in_err-count.field-0.0 c.in_err-count.ensures.refused)
 
 pub returns-in_err-places-clause-refused : goal.returns-in_err-places-clause-refused
 returns-in_err-places-clause-refused c = λ p.

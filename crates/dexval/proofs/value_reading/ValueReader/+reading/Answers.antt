@@ -2,8 +2,8 @@ use Rattle.dexval.proofs.Common.{◌≡◌, ◌∙◌, ◌+◌, ◌∷◌, ◌++
 use Rattle.dexval.specs.Numbered as numbered
 use Rattle.dexval.proofs.Members.{array_is, annotation_is, element_is}
 use Rattle.dexval.proofs.Refusals.{err_is, refuses_so, found_or, refused_or}
-use Rattle.dexval.proofs.ElementsRead.{nothing_after, array_encoded, no_array, annotation_encoded, no_annotation, deeper, HaveReadOf, no_such_name, no_such_type, one_element_more, no_next_element, all_elements_read, no_name, no_value, no_type, no_element_count, no_elements, annotation_read}
-use Rattle.dexval.proofs.ValuesRead.{HaveRead, one_more, no_next, no_count, no_values, all_read}
+use Rattle.dexval.proofs.ElementsRead.{nothing_after, no_element_read, array_encoded, no_array, annotation_encoded, no_annotation, deeper, HaveReadOf, no_such_name, no_such_type, one_element_more, no_next_element, all_elements_read, no_name, no_value, no_type, no_element_count, no_elements, annotation_read}
+use Rattle.dexval.proofs.ValuesRead.{HaveRead, none_read, one_more, no_next, no_count, no_values, all_read, array_read}
 use Rattle.dexval.proofs.value_reading.ValueReader.+reading.Goals.{element_at-then-from-least-via-then-from-least, element_at-then-from-least-via-else-from-least+then-name-len}
 use Rattle.dexval.proofs.value_reading.ValueReader.+reading.Goals as goal
 
@@ -29,23 +29,47 @@ annotation_at-returns-in_err-elements-clause-refused t c = λ p. rw (err_is c.fr
 pub array_at-returns-in_err-count-clause-refused : goal.array_at-returns-in_err-count-clause-refused
 array_at-returns-in_err-count-clause-refused t c = λ p. rw (err_is c.from_residual.result c.from_residual.ensures.1) (refuses_so c.args.self.now.number (λ none. no_count c.args.self.now.bytes.now c.args.self.now.pools.now c.args.at c.args.depth none) c.in_err-count.field-0.0 (c.in_err-count.ensures.refused))
 
-pub array_at-returns-in_err-value-clause-refused : goal.array_at-returns-in_err-value-clause-refused
-array_at-returns-in_err-value-clause-refused t c = λ p. rw (err_is c.from_residual-in_err-value.result c.from_residual-in_err-value.ensures.1) (refuses_so c.args.self.now.number (λ none. no_values c.args.self.now.bytes.now c.args.self.now.pools.now c.args.at c.args.depth c.in_ok-count.count c.in_ok-count.head c.in_ok-count.ensures.found (no_next c.args.self.now.bytes.now c.args.self.now.pools.now (c.args.at + c.in_ok-count.head) c.args.depth c.in_ok-count.count c.loop-i._i (map value_of c.loop-i.values.items) c.loop-i.size c.loop-i-test.true (c.loop-i.invariant.read p) none)) c.in_err-value.field-0.0 (c.in_err-value.ensures.refused p))
+pub array_at-returns-in_err-values-clause-refused : goal.array_at-returns-in_err-values-clause-refused
+array_at-returns-in_err-values-clause-refused t c = λ p. rw (err_is c.from_residual-in_err-values.result c.from_residual-in_err-values.ensures.1) (refuses_so c.args.self.now.number (λ none. no_values c.args.self.now.bytes.now c.args.self.now.pools.now c.args.at c.args.depth c.in_ok-count.count c.in_ok-count.head c.in_ok-count.ensures.found none) c.in_err-values.field-0.0 (c.in_err-values.ensures.refused p))
 
-pub array_at-loop-i-preserved : goal.array_at-loop-i-preserved
-array_at-loop-i-preserved t c =
+pub array_at-returns-clause-read : goal.array_at-returns-clause-read
+array_at-returns-clause-read t c = λ p.
+    array_read c.args.self.now.bytes.now c.args.self.now.pools.now c.args.at c.args.depth c.in_ok-count.count c.in_ok-count.head (values_of_list (map value_of c.in_ok-values.values.items)) c.in_ok-values.size c.in_ok-count.ensures.found (c.in_ok-values.ensures.read p)
+
+pub values_at-loop-i-init : goal.values_at-loop-i-init
+values_at-loop-i-init t c =
+    let b = c.args.self.now.bytes.now in
+    record {
+      within = omega (arith, c.requires.within);
+      read = λ p. subst (λ (l : List Value). HaveRead b c.args.at c.args.self.now.pools.now c.args.depth c.args.count 0 (map value_of l) 0) (sym c.requires.room.empty) (none_read b c.args.self.now.pools.now c.args.at c.args.depth c.args.count);
+    }
+
+pub values_at-returns-in_err-value-clause-refused : goal.values_at-returns-in_err-value-clause-refused
+values_at-returns-in_err-value-clause-refused t c = λ p. rw (err_is c.from_residual.result c.from_residual.ensures.1) (refuses_so c.args.self.now.number (λ none. no_next c.args.self.now.bytes.now c.args.self.now.pools.now c.args.at c.args.depth c.args.count c.loop-i._i (map value_of c.loop-i.values.items) c.loop-i.size c.loop-i-test.true (c.loop-i.invariant.read p) none) c.in_err-value.field-0.0 (c.in_err-value.ensures.refused p))
+
+pub values_at-loop-i-preserved : goal.values_at-loop-i-preserved
+values_at-loop-i-preserved t c =
     let items : map value_of c.push.new.self.items ≡ map value_of c.loop-i.values.items ++ value_of c.in_ok-value.value ∷ [] = ap (map value_of) c.in_ok-push.ensures.items ∙ map-append value_of c.loop-i.values.items (c.in_ok-value.value ∷ []) in
     record {
       within = omega (arith, c.in_ok-value.ensures.within);
       read = λ p.
           let r = c.in_ok-value.ensures.read p in
-          subst (λ (l : List NumberedValue). HaveRead c.args.self.now.bytes.now (c.args.at + c.in_ok-count.head) c.args.self.now.pools.now c.args.depth c.in_ok-count.count (c.loop-i._i + 1) l (c.loop-i.size + c.in_ok-value.used)) (sym items)
-          (one_more c.args.self.now.bytes.now c.args.self.now.pools.now (c.args.at + c.in_ok-count.head) c.args.depth c.in_ok-count.count c.loop-i._i (map value_of c.loop-i.values.items) c.loop-i.size (value_of c.in_ok-value.value) c.in_ok-value.used c.loop-i-test.true (c.loop-i.invariant.read p) r);
+          subst (λ (l : List NumberedValue). HaveRead c.args.self.now.bytes.now c.args.at c.args.self.now.pools.now c.args.depth c.args.count (c.loop-i._i + 1) l (c.loop-i.size + c.in_ok-value.used)) (sym items)
+          (one_more c.args.self.now.bytes.now c.args.self.now.pools.now c.args.at c.args.depth c.args.count c.loop-i._i (map value_of c.loop-i.values.items) c.loop-i.size (value_of c.in_ok-value.value) c.in_ok-value.used c.loop-i-test.true (c.loop-i.invariant.read p) r);
     }
 
-pub array_at-returns-clause-read : goal.array_at-returns-clause-read
-array_at-returns-clause-read t c = λ p.
-    all_read c.args.self.now.bytes.now c.args.self.now.pools.now c.args.at c.args.depth c.in_ok-count.count c.loop-i._i c.in_ok-count.head (map value_of c.loop-i.values.items) c.loop-i.size c.in_ok-count.ensures.found (omega arith) (c.loop-i.invariant.read p)
+pub values_at-returns-clause-read : goal.values_at-returns-clause-read
+values_at-returns-clause-read t c = λ p.
+    all_read c.args.self.now.bytes.now c.args.self.now.pools.now c.args.at c.args.depth c.args.count c.loop-i._i (map value_of c.loop-i.values.items) c.loop-i.size (omega arith) (c.loop-i.invariant.read p)
+
+pub elements_at-loop-i-init : goal.elements_at-loop-i-init
+elements_at-loop-i-init t c =
+    let b = c.args.self.now.bytes.now in
+    record {
+      within = omega (arith, c.requires.within);
+      least_fits = omega arith;
+      read = λ p. subst (λ (l : List Element). HaveReadOf b c.args.at c.args.self.now.pools.now c.args.depth c.args.count 0 0 (map element_of l) 0) (sym c.requires.room.empty) (no_element_read b c.args.self.now.pools.now p c.args.at c.args.depth c.args.count);
+    }
 
 pub element_at-returns-in_err-name-clause-refused : goal.element_at-returns-in_err-name-clause-refused
 element_at-returns-in_err-name-clause-refused t c = λ p. rw (err_is c.from_residual.result c.from_residual.ensures.1) (refuses_so c.args.self.now.number (λ none. no_name c.args.self.now.bytes.now c.args.self.now.pools.now p c.args.at c.args.depth c.args.least none) c.in_err-name.field-0.0 (c.in_err-name.ensures.refused))
@@ -54,7 +78,7 @@ pub element_at-returns-in_err-value-clause-refused : goal.element_at-returns-in_
 element_at-returns-in_err-value-clause-refused t c = λ p. rw (err_is c.from_residual-in_err-value.result c.from_residual-in_err-value.ensures.1) (refuses_so c.args.self.now.number (λ none. no_value c.args.self.now.bytes.now c.args.self.now.pools.now p c.args.at c.args.depth c.args.least c.in_ok-name.name c.in_ok-name.head c.in_ok-name.ensures.found none) c.in_err-value.field-0.0 (c.in_err-value.ensures.refused p))
 
 pub elements_at-returns-in_err-element-clause-refused : goal.elements_at-returns-in_err-element-clause-refused
-elements_at-returns-in_err-element-clause-refused t c = λ p. rw (err_is c.from_residual-in_err-element.result c.from_residual-in_err-element.ensures.1) (refuses_so c.args.self.now.number (λ none. no_next_element c.args.self.now.bytes.now c.args.self.now.pools.now p c.args.at c.args.depth c.args.count c.loop-i._i c.loop-i.least (map element_of c.loop-i.elements.items) c.loop-i.size c.loop-i-test.true (c.loop-i.invariant.read p) none) c.in_err-element.field-0.0 (c.in_err-element.ensures.refused p))
+elements_at-returns-in_err-element-clause-refused t c = λ p. rw (err_is c.from_residual.result c.from_residual.ensures.1) (refuses_so c.args.self.now.number (λ none. no_next_element c.args.self.now.bytes.now c.args.self.now.pools.now p c.args.at c.args.depth c.args.count c.loop-i._i c.loop-i.least (map element_of c.loop-i.elements.items) c.loop-i.size c.loop-i-test.true (c.loop-i.invariant.read p) none) c.in_err-element.field-0.0 (c.in_err-element.ensures.refused p))
 
 pub elements_at-loop-i-preserved : goal.elements_at-loop-i-preserved
 elements_at-loop-i-preserved t c =

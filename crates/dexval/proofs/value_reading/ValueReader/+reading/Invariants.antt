@@ -9,6 +9,9 @@ decreases-value_at l = 5 * l.depth
 abbrev pub decreases-array_at : goal.decreases-array_at
 decreases-array_at l = 5 * l.depth + 4
 
+abbrev pub decreases-values_at : goal.decreases-values_at
+decreases-values_at l = 5 * l.depth + 1
+
 abbrev pub decreases-element_at : goal.decreases-element_at
 decreases-element_at l = 5 * l.depth + 1
 
@@ -18,10 +21,10 @@ decreases-elements_at l = 5 * l.depth + 2
 abbrev pub decreases-annotation_at : goal.decreases-annotation_at
 decreases-annotation_at l = 5 * l.depth + 3
 
-abbrev pub invariant-array_at-loop-i : goal.invariant-array_at-loop-i
-invariant-array_at-loop-i l = record {
-  within : l.at + l.head + l.size ≤ length l.self.bytes.now;
-  read : HasPools l.self.bytes.now l.self.pools.now → HaveRead l.self.bytes.now (l.at + l.head) l.self.pools.now l.depth l.count l._i (map value_of l.values.items) l.size;
+abbrev pub invariant-values_at-loop-i : goal.invariant-values_at-loop-i
+invariant-values_at-loop-i l = record {
+  within : l.at + l.size ≤ length l.self.bytes.now;
+  read : HasPools l.self.bytes.now l.self.pools.now → HaveRead l.self.bytes.now l.at l.self.pools.now l.depth l.count l._i (map value_of l.values.items) l.size;
 }
 
 abbrev pub invariant-elements_at-loop-i : goal.invariant-elements_at-loop-i

@@ -7,6 +7,11 @@
 //! memory.
 #![tactic(auto)]
 
+ghost use Rattle.std.specs.Prelude.{[], ◌≡◌, ◌≢◌, ◌⊎◌, IfOk};
+ghost use Rattle.clap.specs.Values.{kind_of};
+ghost use Rattle.clap.specs.declared.error.kind.ErrorKind.TheVariants.{DisplayHelp, DisplayVersion};
+ghost use Rattle.dexcmd.specs.Reports.{IsReport};
+
 use clap::Error;
 use clap::error::ErrorKind;
 use dexargs::{MEANINGS, REMEDIES, is_verbose};
@@ -46,13 +51,19 @@ fn reason_of_output(alloc: Global, error: Option<DeviceError>) -> Result<Reasons
     Ok(reasons)
 }
 
-// Prints why there is no job: the help, the version or the fault of a usage.
+// Prints why there is no job: the help, the version or the fault of a usage. The status is 2 for a usage, 0 where the help
+// or the version was printed, and 3 where it could not be.
 fn explain<R: Print + Eprint>(
     rt: &R,
     alloc: Global,
     error: &Error,
     is_verbose: bool,
-) -> Result<Report, AllocError> {
+) -> Result<Report, AllocError>
+    ensures usage { kind_of error.now ≢ DisplayHelp → kind_of error.now ≢ DisplayVersion
+        → IfOk result (IsReport 2 []) }
+    ensures shown { (kind_of error.now ≡ DisplayHelp) ⊎ (kind_of error.now ≡ DisplayVersion)
+        → IfOk result (λ report. (report.status ≡ 0) ⊎ (report.status ≡ 3)) }
+{
     if error.kind() == ErrorKind::OutOfMemory {
         return Err(AllocError);
     }

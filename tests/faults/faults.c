@@ -15,8 +15,8 @@
  *   rename=N      the Nth rename fails with EIO
  *   unlink=N      the Nth unlink fails with EACCES
  *
- * FAULTS_COUNTS names a file of 64 bytes, to which the numbers of growths, reads, writes, creates, syncs, closes, renames
- * and unlinks are written as they rise.
+ * FAULTS_COUNTS names a file of 72 bytes, to which the numbers of growths, reads, writes, creates, syncs, closes, renames
+ * and unlinks are written as they rise, and then the number of blocks of memory that are held.
  *
  * It includes no header and is linked with no library, so that a compiler suffices on a machine that has no headers of
  * the C library: what it calls of that library is declared here, for Linux on x86-64, and found there when it is loaded.
@@ -58,11 +58,13 @@ int fstatfs(int fd, struct statfs *system);
 void *mmap(void *start, size_t size, int access, int flags, int fd, long offset);
 long syscall(long number, ...);
 void *__libc_malloc(size_t size);
+void *__libc_calloc(size_t count, size_t size);
 void *__libc_realloc(void *block, size_t size);
+void __libc_free(void *block);
 
 #define errno (*__errno_location())
 
-enum { GROWTHS, READS, WRITES, CREATES, SYNCS, CLOSES, RENAMES, UNLINKS, KINDS };
+enum { GROWTHS, READS, WRITES, CREATES, SYNCS, CLOSES, RENAMES, UNLINKS, KINDS, BLOCKS = KINDS, COUNTS };
 enum { MOST_FAULTS = 2 };
 
 struct fault {
@@ -91,7 +93,7 @@ static struct {
 /* The file that was made last, or -1. */
 static int made = -1;
 
-static unsigned long own_counts[KINDS];
+static unsigned long own_counts[COUNTS];
 static unsigned long *counts = own_counts;
 
 /* Returns what is after a prefix of a text, or NULL if it does not begin with that. */
@@ -148,12 +150,28 @@ static int fails(int kind) {
     return fault != NULL;
 }
 
+/* Counts a block that is held from now on, if there is one. */
+static void *held(void *block) {
+    if (block) counts[BLOCKS]++;
+    return block;
+}
+
 void *malloc(size_t size) {
-    return fails(GROWTHS) ? NULL : __libc_malloc(size);
+    return fails(GROWTHS) ? NULL : held(__libc_malloc(size));
+}
+
+void *calloc(size_t count, size_t size) {
+    return held(__libc_calloc(count, size));
 }
 
 void *realloc(void *block, size_t size) {
-    return fails(GROWTHS) ? NULL : __libc_realloc(block, size);
+    if (fails(GROWTHS)) return NULL;
+    return block ? __libc_realloc(block, size) : held(__libc_realloc(block, size));
+}
+
+void free(void *block) {
+    if (block) counts[BLOCKS]--;
+    __libc_free(block);
 }
 
 /* Returns how many of size bytes a call moves, or -1 if it fails. */

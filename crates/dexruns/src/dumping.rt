@@ -6,9 +6,9 @@ ghost use Rattle.std.specs.Ordering.{is_eq};
 ghost use Rattle.dexspec.specs.Accepted.{IsAccepted};
 ghost use Rattle.dexspec.specs.Files.{Collection, Denotes};
 ghost use Rattle.dexspec.specs.Texts.{text_cmp};
-ghost use Rattle.dexruns.specs.Inputs.{bytes_read, IsReadNoFurther};
+ghost use Rattle.dexruns.specs.Inputs.{bytes_read, ExpectsAll, IsReadNoFurther};
 ghost use Rattle.dexruns.specs.Listings.{is_among, printed_names, IsListed, IsUnlisted, IsClassListingPrefix};
-ghost use Rattle.dexruns.specs.Runs.{IsOfInput, IsLeftWith};
+ghost use Rattle.dexruns.specs.Runs.{IsMemoryOf, IsOfInput, IsLeftWith};
 ghost use Rattle.dexruns.specs.internal.Choices.{IsFirstFalse, IsChoice};
 ghost use Rattle.dexruns.specs.declared.faults.RunFault.TheVariants.{Read, Write};
 
@@ -120,11 +120,15 @@ pub fn dump_classes_run<R: Source, W: Sink>(
     ensures accepted { OnOk result (R.reports input.old
         → IsAccepted (bytes_read (R.to_come input.old))) }
     ensures listed { IfOk result (λ listed. R.reports input.old → (K : Collection)
-        → Denotes (bytes_read (R.to_come input.old)) K → IsListed detail (map string_bytes names.now) K
+        → Denotes (bytes_read (R.to_come input.old)) K
+        → IsListed detail (map string_bytes names.now) K
         (W.reports out.old) (W.taken out.old) (W.taken out.new) listed) }
     ensures unlisted { IfOk result (IsUnlisted (length names.now) out.old out.new) }
     ensures fault { IfErr result
         (IsOfInput (R.reports input.old) (bytes_read (R.to_come input.old))) }
+    ensures memory { IfErr result (IsMemoryOf
+        (ExpectsAll R.reports R.to_come R.expected_len input.old) (input.new ≡ input.old)
+        (bytes_read (R.to_come input.old))) }
     ensures left { IfErr result
         (IsLeftWith (IsClassListingPrefix detail (R.reports input.old) (W.reports out.old)
         (map string_bytes names.now) (W.taken out.old) (W.taken out.new)

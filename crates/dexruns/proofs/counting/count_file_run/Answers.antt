@@ -1,6 +1,7 @@
-use Rattle.dexruns.proofs.Common.{ap, ◌∙◌, err_from_is_err_and, bytes_read, IsAppended, IsPrefixAppended}
+use Rattle.dexruns.proofs.Common.{ap, ◌∙◌, err_from_is_err_and, bytes_read, IsAppended, IsPrefixAppended, ◌≡◌, subst, ExpectsAll, IsFrame}
 use Rattle.dexruns.proofs.Counted.{counted_is}
 use Rattle.dexruns.proofs.Digested.{accepted_file}
+use Rattle.dexruns.proofs.OutOfMemory.{unread_memory, frame_memory, accepted_memory}
 use Rattle.dexruns.proofs.Unread.{of_input}
 use Rattle.std.specs.Prelude.{codes}
 use Rattle.dexruns.specs.Counts.{file_line}
@@ -29,3 +30,29 @@ returns-in_err-write_output-clause-left g c =
           (c.as_slice.ensures.value ∙ c.in_ok-bytes.ensures.bytes reads) c.in_ok-program.ensures.accepted denotes c.in_ok-counts.ensures.counts
           (c.as_bytes.ensures.value ∙ c.in_ok-line.ensures ∙ ap (λ file. file_line file c.in_ok-counts.counts) (c.as_str.ensures.value ∙ c.in_ok-file.ensures.named)) c.in_err-write_output.ensures.prefix),
     ))
+
+pub returns-in_err-bytes-clause-memory : goal.returns-in_err-bytes-clause-memory
+returns-in_err-bytes-clause-memory g c =
+    let p = err_from_is_err_and c.from_residual.result c.from_residual.ensures.1 in
+    rw (p.1, p.2) (unread_memory (ExpectsAll g.R.Source.reports g.R.Source.to_come g.R.Source.expected_len c.args.input.now) (c.read_input.new.input ≡ c.args.input.now) (bytes_read (g.R.Source.to_come c.args.input.now)) c.in_err-bytes.field-0.0 c.in_err-bytes.ensures.memory)
+
+pub returns-in_err-program-clause-memory : goal.returns-in_err-program-clause-memory
+returns-in_err-program-clause-memory g c =
+    let p = err_from_is_err_and c.from_residual-in_err-program.result c.from_residual-in_err-program.ensures.1 in
+    rw (p.1, p.2) (frame_memory (ExpectsAll g.R.Source.reports g.R.Source.to_come g.R.Source.expected_len c.args.input.now) (c.read_input.new.input ≡ c.args.input.now) (bytes_read (g.R.Source.to_come c.args.input.now)) c.in_err-program.field-0.0
+    (λ is expects. subst IsFrame (c.as_slice.ensures.value ∙ c.in_ok-bytes.ensures.bytes expects.0) (c.in_err-program.ensures.memory is)))
+
+pub returns-in_err-counts-clause-memory : goal.returns-in_err-counts-clause-memory
+returns-in_err-counts-clause-memory g c =
+    accepted_memory (ExpectsAll g.R.Source.reports g.R.Source.to_come g.R.Source.expected_len c.args.input.now) (c.read_input.new.input ≡ c.args.input.now) (bytes_read (g.R.Source.to_come c.args.input.now)) _
+    (λ expects. accepted_file _ _ _ (c.as_slice.ensures.value ∙ c.in_ok-bytes.ensures.bytes expects.0) c.in_ok-program.ensures.accepted)
+
+pub returns-in_err-file-clause-memory : goal.returns-in_err-file-clause-memory
+returns-in_err-file-clause-memory g c =
+    accepted_memory (ExpectsAll g.R.Source.reports g.R.Source.to_come g.R.Source.expected_len c.args.input.now) (c.read_input.new.input ≡ c.args.input.now) (bytes_read (g.R.Source.to_come c.args.input.now)) _
+    (λ expects. accepted_file _ _ _ (c.as_slice.ensures.value ∙ c.in_ok-bytes.ensures.bytes expects.0) c.in_ok-program.ensures.accepted)
+
+pub returns-in_err-line-clause-memory : goal.returns-in_err-line-clause-memory
+returns-in_err-line-clause-memory g c =
+    accepted_memory (ExpectsAll g.R.Source.reports g.R.Source.to_come g.R.Source.expected_len c.args.input.now) (c.read_input.new.input ≡ c.args.input.now) (bytes_read (g.R.Source.to_come c.args.input.now)) _
+    (λ expects. accepted_file _ _ _ (c.as_slice.ensures.value ∙ c.in_ok-bytes.ensures.bytes expects.0) c.in_ok-program.ensures.accepted)

@@ -27,8 +27,8 @@ IsSaidAs unread unwritten (Some remedies) plain said =
 
 module _ {In Out : Type 0} (is_input : List ℕ → In → Type 0) (is_output : Option (List ℕ) → Placing → Out → Type 0)
     (error_of : In → Option DeviceError) (output_error : Out → Option DeviceError) (is_closed is_placed : Out → Bool)
-    (reports : In → Type 0) (to_come : In → List ℕ) (reader_failed : In → Bool) (writes : Out → Type 0)
-    (taken : Out → List ℕ) (writer_failed : Out → Bool) where
+    (reports : In → Type 0) (to_come : In → List ℕ) (expected_len : In → ℕ) (reader_failed : In → Bool)
+    (writes : Out → Type 0) (taken : Out → List ℕ) (writer_failed : Out → Bool) where
   -- the job was done and finished over the devices of its names, and this is its report
   pub record IsRunByName (remedies : Option (Bor Remedies)) (job : Job) (said : Report) : Type 0 where
     pub inputs : List In
@@ -38,8 +38,8 @@ module _ {In Out : Type 0} (is_input : List ℕ → In → Type 0) (is_output : 
     pub plain : Report
     pub inputs_named : AllZip is_input (input_names job) inputs
     pub output_named : is_output (output_name job) (placing job) out
-    pub is_finished : IsFinished is_closed is_placed reports to_come reader_failed writes taken writer_failed inputs
-        left out finished job plain
+    pub is_finished : IsFinished is_closed is_placed reports to_come expected_len reader_failed writes taken
+        writer_failed inputs left out finished job plain
     pub unwritten : WritesAtTheEnd job → plain.status ≢ 0 → writer_failed finished ≡ false → finished ≡ out
     pub placed : plain.status ≡ 0 → is_placed finished ≡ true
     pub unplaced : WritesAtTheEnd job → plain.status ≢ 0 → is_placed out ≡ false → is_placed finished ≡ false

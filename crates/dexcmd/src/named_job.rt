@@ -64,8 +64,8 @@ pub fn run_named<'a, D: Inputs<'a> + JobOutputs<'a>>(
     requires { IsSound job.now }
     ensures done { IfOk result (IsRunByName (D.is_input devices.now) (D.is_output devices.now)
         D.error_of D.output_error D.Target.Output.is_closed D.Target.is_placed D.Input.reports
-        D.Input.to_come D.Input.has_failed D.Target.Sink.reports D.Target.Sink.taken
-        D.Target.Sink.has_failed remedies.entry job.now) }
+        D.Input.to_come D.Input.expected_len D.Input.has_failed D.Target.Sink.reports
+        D.Target.Sink.taken D.Target.Sink.has_failed remedies.entry job.now) }
 {
     let mut inputs = inputs_of(alloc, devices, input_names(job))?;
     let mut out = devices.output_for(alloc, job)?;

@@ -12,7 +12,7 @@ invariant-loop-i g l = record {
   count : length l.inputs ≡ length l.files;
   readers : AllWork g.R.Source.has_failed (drop l.i l.inputs);
   works : g.W.Sink.has_failed l.out ≡ false;
-  so_far : IsSoFar g.W.Output.is_closed (goes_on l.task) (IsFileRun g.R.Source.reports g.R.Source.to_come g.R.Source.has_failed g.W.Sink.reports g.W.Sink.taken g.W.Sink.has_failed l.task) (map string_bytes l.files) l.fn.inputs l.fn.out (drop l.i (map string_bytes l.files)) (take l.i l.inputs) (drop l.i l.inputs) l.out
+  so_far : IsSoFar g.W.Output.is_closed (goes_on l.task) (IsFileRun g.R.Source.reports g.R.Source.to_come g.R.Source.expected_len g.R.Source.has_failed g.W.Sink.reports g.W.Sink.taken g.W.Sink.has_failed l.task) (map string_bytes l.files) l.fn.inputs l.fn.out (drop l.i (map string_bytes l.files)) (take l.i l.inputs) (drop l.i l.inputs) l.out
       l.report.status (map string_bytes l.report.lines.items) l.report.conditions;
   kinds : HasKinds l.report;
 }

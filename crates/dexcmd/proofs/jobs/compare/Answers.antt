@@ -13,7 +13,7 @@ report-requires-clause-named g c =
 
 pub returns-clause-done : goal.returns-clause-done
 returns-clause-done g c =
-    has_run c.report.result (λ outcome. outcome) (λ names. IsCompareRun g.R.Source.reports g.R.Source.to_come g.R.Source.has_failed g.W.Sink.reports g.W.Sink.taken g.W.Sink.has_failed c.args.comparison c.args.is_stripped names c.args.inputs.now c.compare_run-outcome.new.inputs c.args.out.now c.compare_run-outcome.new.out)
+    has_run c.report.result (λ outcome. outcome) (λ names. IsCompareRun g.R.Source.reports g.R.Source.to_come g.R.Source.expected_len g.R.Source.has_failed g.W.Sink.reports g.W.Sink.taken g.W.Sink.has_failed c.args.comparison c.args.is_stripped names c.args.inputs.now c.compare_run-outcome.new.inputs c.args.out.now c.compare_run-outcome.new.out)
     (map string_bytes c.args.files.now) (map (λ name. name.now) c.as_slice-names.result.now) c.in_ok-draft.draft.target.now standard_name c.is_closed.result (g.W.Output.is_closed c.compare_run-outcome.new.out) c.compare_run-outcome.result c.compare_run-outcome.result
     refl c.is_closed.ensures (ap (map (λ name. name.now)) c.as_slice-names.ensures.value ∙ c.in_ok-texts.ensures) c.in_ok-draft.ensures.target
     (record { compared = c.compare_run-outcome.ensures.compared; fault = c.compare_run-outcome.ensures.fault; unwritten = c.compare_run-outcome.ensures.left; goes_on_telling = c.compare_run-outcome.ensures.reports; no_further = c.compare_run-outcome.ensures.no_further; readers = c.compare_run-outcome.ensures.readers; writer = c.compare_run-outcome.ensures.writer; devices = c.compare_run-outcome.ensures.devices }) c.report.ensures.report

@@ -15,7 +15,7 @@ report-requires-clause-named g c =
 
 pub returns-clause-done : goal.returns-clause-done
 returns-clause-done g c =
-    has_run c.report.result done (λ _. IsCountRun g.R.Source.reports g.R.Source.to_come g.R.Source.has_failed g.W.Sink.reports g.W.Sink.taken g.W.Sink.has_failed c.args.inputs.now c.count_run.new.inputs c.args.out.now c.count_run.new.out)
+    has_run c.report.result done (λ _. IsCountRun g.R.Source.reports g.R.Source.to_come g.R.Source.expected_len g.R.Source.has_failed g.W.Sink.reports g.W.Sink.taken g.W.Sink.has_failed c.args.inputs.now c.count_run.new.inputs c.args.out.now c.count_run.new.out)
     (map string_bytes c.args.files.now) (map (λ name. name.now) c.as_slice-names.result.now) c.in_ok-draft.draft.target.now standard_name c.is_closed.result (g.W.Output.is_closed c.count_run.new.out) c.count_run.result c.done-outcome.result
     c.done-outcome.ensures c.is_closed.ensures (ap (map (λ name. name.now)) c.as_slice-names.ensures.value ∙ c.in_ok-texts.ensures) c.in_ok-draft.ensures.target
     (record { counted = c.count_run.ensures.counted; fault = c.count_run.ensures.fault; unwritten = c.count_run.ensures.left; no_further = c.count_run.ensures.no_further; readers = c.count_run.ensures.readers; writer = c.count_run.ensures.writer; devices = c.count_run.ensures.devices }) c.report.ensures.report

@@ -12,10 +12,10 @@ report-requires-clause-named g c =
 
 pub returns-clause-done : goal.returns-clause-done
 returns-clause-done g c =
-    has_run c.report.result done (λ _. IsDumpRun g.R.Source.reports g.R.Source.to_come g.R.Source.has_failed g.W.Sink.reports g.W.Sink.taken g.W.Sink.has_failed c.args.detail c.args.input.now c.dump_run.new.input c.args.out.now c.dump_run.new.out)
+    has_run c.report.result done (λ _. IsDumpRun g.R.Source.reports g.R.Source.to_come g.R.Source.expected_len g.R.Source.has_failed g.W.Sink.reports g.W.Sink.taken g.W.Sink.has_failed c.args.detail c.args.input.now c.dump_run.new.input c.args.out.now c.dump_run.new.out)
     (c.args.file.now ∷ []) (c.args.file.now ∷ []) c.in_ok-draft.draft.target.now standard_name c.is_closed.result (g.W.Output.is_closed c.dump_run.new.out) c.dump_run.result c.done-outcome.result
     c.done-outcome.ensures c.is_closed.ensures refl c.in_ok-draft.ensures.target
-    (record { accepted = c.dump_run.ensures.accepted; lines = c.dump_run.ensures.written; fault = c.dump_run.ensures.fault; unwritten = c.dump_run.ensures.left; no_further = c.dump_run.ensures.no_further; read = c.dump_run.ensures.read; write = c.dump_run.ensures.write }) c.report.ensures.report
+    (record { accepted = c.dump_run.ensures.accepted; lines = c.dump_run.ensures.written; fault = c.dump_run.ensures.fault; memory = c.dump_run.ensures.memory; unwritten = c.dump_run.ensures.left; no_further = c.dump_run.ensures.no_further; read = c.dump_run.ensures.read; write = c.dump_run.ensures.write }) c.report.ensures.report
 
 pub returns-clause-failed : goal.returns-clause-failed
 returns-clause-failed g c =

@@ -20,7 +20,7 @@ pub returns-clause-done : goal.returns-clause-done
 returns-clause-done g c =
     IfOk-weaker c.report_listed.result _ _ (λ report h. record {
       outcome = c.dump_classes_run-outcome.result;
-      ran = record { accepted = c.dump_classes_run-outcome.ensures.accepted; listed = c.dump_classes_run-outcome.ensures.listed; unlisted = subst (λ n. IfOk c.dump_classes_run-outcome.result (IsUnlisted n c.args.out.now c.dump_classes_run-outcome.new.out)) (sym (length-map c.args.names.now string_bytes)) c.dump_classes_run-outcome.ensures.unlisted; fault = c.dump_classes_run-outcome.ensures.fault; unwritten = c.dump_classes_run-outcome.ensures.left; no_further = c.dump_classes_run-outcome.ensures.no_further; read = c.dump_classes_run-outcome.ensures.read; write = c.dump_classes_run-outcome.ensures.write };
+      ran = record { accepted = c.dump_classes_run-outcome.ensures.accepted; listed = c.dump_classes_run-outcome.ensures.listed; unlisted = subst (λ n. IfOk c.dump_classes_run-outcome.result (IsUnlisted n c.args.out.now c.dump_classes_run-outcome.new.out)) (sym (length-map c.args.names.now string_bytes)) c.dump_classes_run-outcome.ensures.unlisted; fault = c.dump_classes_run-outcome.ensures.fault; memory = c.dump_classes_run-outcome.ensures.memory; unwritten = c.dump_classes_run-outcome.ensures.left; no_further = c.dump_classes_run-outcome.ensures.no_further; read = c.dump_classes_run-outcome.ensures.read; write = c.dump_classes_run-outcome.ensures.write };
       reported = subst (λ closed. IsListedReport c.args.file.now (map string_bytes c.args.names.now) closed c.dump_classes_run-outcome.result report) c.is_closed.ensures h;
     }) c.report_listed.ensures.report
 

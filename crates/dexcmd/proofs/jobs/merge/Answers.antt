@@ -22,7 +22,7 @@ returns-clause-done g c =
     let names : map (λ name. name.now) c.as_slice-names.result.now ≡ map string_bytes c.args.job.now.files.now = ap (map (λ name. name.now)) c.as_slice-names.ensures.value ∙ c.in_ok-texts.ensures in
     let count : length c.args.job.now.files.now ≡ length (map string_bytes c.args.job.now.files.now) = sym (length-map c.args.job.now.files.now string_bytes) in
     IfOk-weaker c.report.result _ _ (λ report h. record { plan = plan_of c.in_ok-plan.plan; fanned = subst (λ n. IsFanPlan n c.args.job.now.fan (plan_of c.in_ok-plan.plan)) count c.in_ok-plan.ensures.fanned; ran = h })
-    (has_run c.report.result done (λ _. IsMergeRun g.R.Source.reports g.R.Source.to_come g.R.Source.has_failed g.W.Sink.reports g.W.Sink.taken g.W.Sink.has_failed
+    (has_run c.report.result done (λ _. IsMergeRun g.R.Source.reports g.R.Source.to_come g.R.Source.expected_len g.R.Source.has_failed g.W.Sink.reports g.W.Sink.taken g.W.Sink.has_failed
     (plan_of c.in_ok-plan.plan) c.args.job.now.caps.now c.args.job.now.is_stripped c.args.inputs.now c.merge_or_strip_run.new.inputs c.args.out.now c.merge_or_strip_run.new.out)
     (map string_bytes c.args.job.now.files.now) (map (λ name. name.now) c.as_slice-names.result.now) c.in_ok-draft.draft.target.now c.args.job.now.target.now c.is_closed.result (g.W.Output.is_closed c.merge_or_strip_run.new.out) c.merge_or_strip_run.result c.done-outcome.result
     c.done-outcome.ensures c.is_closed.ensures names c.in_ok-draft.ensures.target

@@ -45,7 +45,7 @@ pub use Rattle.dexval.specs.Renumbering.{AnnotationHasPlaces, ElementHasPlaces, 
 pub use Rattle.dexval.specs.Shared.{HoldsPlaces, IsNamedBy, NamesAll, lists_of_members, sets_of_members}
 pub use Rattle.dexval.specs.Spelled.{AreCounted, HaveCounted, IsCounted, IsCountedAnnotation, elements_count, encoded_annotation_bytes, literal_bytes, numbered_annotation_bytes, numbered_annotation_weight, numbered_array_bytes, numbered_bytes, numbered_elements_bytes, numbered_elements_weight, numbered_offsets, numbered_set_bytes, numbered_set_weight, numbered_values_bytes, numbered_values_weight, numbered_weight, reference_code, values_count}
 unfoldable pub use Rattle.dexval.specs.Spelled.{count_bytes}
-pub use Rattle.dexval.specs.Tables.{AreNewNamed, Extends, HoldsLists, IsListed, IsPlaceIn, IsRemappedSet, NumberedTable, places_at, set_at, sets_at}
+pub use Rattle.dexval.specs.Tables.{AreNewNamed, AreRemappedSets, Extends, HoldsLists, IsListed, IsPlaceIn, IsRemappedSet, NumberedTable, places_at, set_at, sets_at}
 pub use Rattle.dexval.specs.Uses.{annotation_uses, element_uses, elements_uses, set_uses, value_uses, values_uses}
 pub use Rattle.dexval.specs.declared.annotation.Annotation.{Annotation}
 pub use Rattle.dexval.specs.declared.directory_cache.Budget.{Budget}

@@ -15,7 +15,7 @@ mutual
   value_stays (Array xs) = ap Array (values_stay xs)
   value_stays (Annotated t es) = ap (Annotated t) (elements_stay es)
 
-  values_stay : (xs : NumberedValues) → renumbered_values no_images xs ≡ xs
+  pub values_stay : (xs : NumberedValues) → renumbered_values no_images xs ≡ xs
   values_stay NoValue = refl
   values_stay (ThenNext x xs) = ap (λ (y : NumberedValue). ThenNext y (renumbered_values no_images xs)) (value_stays x) ∙ ap (ThenNext x) (values_stay xs)
 

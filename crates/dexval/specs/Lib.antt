@@ -4,6 +4,7 @@ pub mod Code
 pub mod Directories
 pub mod Equality
 pub mod Items
+pub mod KeptSets
 pub mod Laws
 pub mod DirectoryCache
 pub mod Nesting

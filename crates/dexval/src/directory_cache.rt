@@ -10,7 +10,9 @@ ghost use Rattle.dexval.specs.Reading.{IsSetAt, IsSetFault};
 ghost use Rattle.dexval.specs.Tables.{set_at};
 ghost use Rattle.dexval.specs.internal.Counting.{IsFile, IsCacheOf, IsSetNoted, HasCountedSet, HasCountedSetOrEmpty, IsFaultWithin, Counts, IsTooHeavy};
 
+use crate::kept_set::KeptSet;
 use crate::set_table::add_set;
+use crate::shared_items::item_key;
 use crate::{AnnotationSet, SetTable, read_set};
 use dexhead::{Condition, Frame};
 use dexpool::{ItemFault, Pools};
@@ -98,7 +100,8 @@ impl File<'_> {
             return Ok(*place);
         }
         let set = read_set(cache.alloc, self.frame, self.pools, off)?;
-        let place = add_set(&mut cache.table.sets, set)?;
+        let kept = KeptSet::own(item_key(self.frame, off), set);
+        let place = add_set(&mut cache.table.sets, kept)?;
         cache.sets.insert(off, place)?;
         Ok(place)
     }

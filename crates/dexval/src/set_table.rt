@@ -3,10 +3,13 @@
 ghost use Rattle.std.specs.Prelude.{◌≡◌, ◌≢◌, ◌<◌, ◌≤◌, ◌-◌, ◌^◌, [], ◌∷◌, ◌++◌, All, IfNone, IfOk, IfSome, OnOk, OnErr, length, map, min, vec_len, vec_capacity};
 ghost use Rattle.dexspec.specs.Mentions.{Mentions};
 ghost use Rattle.dexval.specs.Code.{set_of};
+ghost use Rattle.dexval.specs.KeptSets.{set_in};
 ghost use Rattle.dexval.specs.Directories.{set_weight_in, sets_weight_in};
 ghost use Rattle.dexval.specs.Tables.{Extends, IsPlaceIn, set_at, places_at, sets_at, AreRemappedSets, with_list};
 
+use crate::kept_set::{KeptSet, renumber_sets, share_sets, unshare_sets};
 use crate::set::AnnotationSet;
+use crate::shared_items::SharedItems;
 use crate::weight::listed_weight;
 use dexpool::Remap;
 use std::alloc::{AllocError, Global};
@@ -18,14 +21,14 @@ use std::marker::Model;
 /// Source: "annotation_set_item" and "annotation_set_ref_list".
 #[derive(Drop)]
 pub struct SetTable {
-    pub(crate) sets: Vec<AnnotationSet>,
+    pub(crate) sets: Vec<KeptSet>,
     pub(crate) lists: Vec<Vec<Option<u32>>>,
 }
 
 impl Model for SetTable {
     ghost use Rattle.std.specs.Prelude.{map};
     ghost use Rattle.std.specs.Coded.{codes};
-    ghost use Rattle.dexval.specs.Code.{set_of};
+    ghost use Rattle.dexval.specs.KeptSets.{set_in};
     ghost use Rattle.dexval.specs.Stored.{elements_code};
     ghost use Rattle.dexval.specs.Tables.{NumberedTable, HoldsLists};
 
@@ -33,16 +36,16 @@ impl Model for SetTable {
 
     ghost coded = { Prim.hlevel (codes, elements_code) };
 
-    ghost view = { λ t. record { sets = map set_of t.sets.items; lists = map (λ l. l.items) t.lists.items } };
+    ghost view = { λ t. record { sets = map set_in t.sets.items; lists = map (λ l. l.items) t.lists.items } };
 
-    ghost invariant = { λ t. HoldsLists (record { sets = map set_of t.sets.items; lists = map (λ l. l.items) t.lists.items }) };
+    ghost invariant = { λ t. HoldsLists (record { sets = map set_in t.sets.items; lists = map (λ l. l.items) t.lists.items }) };
 }
 
 /// Puts a set after those of a table. Returns its place.
 ///
 /// Condition: there are fewer than 2^32. Error: there was no room for another set, and the memory for more was refused;
 /// the sets are unchanged.
-pub(crate) fn add_set(sets: &mut Vec<AnnotationSet>, set: AnnotationSet) -> Result<u32, AllocError>
+pub(crate) fn add_set(sets: &mut Vec<KeptSet>, set: KeptSet) -> Result<u32, AllocError>
     requires { length sets.old.items < 2 ^ 32 }
     ensures place { IfOk result (λ place. place ≡ length sets.old.items) }
     ensures sets { OnOk result (sets.new.items ≡ sets.old.items ++ set ∷ []) }
@@ -75,7 +78,7 @@ impl SetTable {
         ensures none { IfNone result (place ≡ None) }
     {
         let place = place?;
-        Some(&self.sets[place as usize])
+        Some(self.sets[place as usize].set())
     }
 
     /// The places of the sets of the list at a place, or none if there is no place.
@@ -99,7 +102,7 @@ impl SetTable {
     {
         let Some(place) = place else { return 0 };
         let set = self.sets.get(place as usize);
-        set.map_or(0, |set| set.weight())
+        set.map_or(0, |kept| kept.set().weight())
     }
 
     /// The weight of the list at a place and its sets, each set as often as it occurs, or 2^64 - 1 if they weigh more.
@@ -129,20 +132,36 @@ impl SetTable {
     }
 
     /// Replaces each number of a symbol in the sets by the one that it maps to. A set with a number that has no image
-    /// below 2^32 is unchanged; [`fits`](AnnotationSet::fits) reports which sets are remapped.
-    pub fn renumber(&mut self, remap: &Remap)
+    /// below 2^32 is unchanged; [`fits`](AnnotationSet::fits) reports which sets are remapped. A set that other tables
+    /// share gets memory of its own.
+    ///
+    /// Error: the allocation of that memory failed; the table is as it was.
+    pub fn renumber(&mut self, remap: &Remap) -> Result<(), AllocError>
         ensures size { length self.new.sets ≡ length self.old.sets }
         ensures lists { self.new.lists ≡ self.old.lists }
-        ensures sets { AreRemappedSets remap.now self.old.sets self.new.sets }
+        ensures sets { OnOk result (AreRemappedSets remap.now self.old.sets self.new.sets) }
+        ensures unchanged { OnErr result (self.new ≡ self.old) }
     {
-        for i in 0..self.sets.len() {
-            if self.sets[i].fits(remap) {
-                self.sets[i].renumber(remap);
-            }
-        }
+        unshare_sets(&mut self.sets)?;
+        renumber_sets(&mut self.sets, remap);
+        Ok(())
     }
 
-    /// The same table, with copies of its sets and lists.
+    /// Returns whether other tables share a set of this one. No clause speaks of it.
+    pub fn is_sharing(&self) -> bool {
+        self.sets.iter().any(|set| set.is_shared())
+    }
+
+    /// Moves each set into the memory of an equal one that other tables have, if there is one.
+    ///
+    /// Error: an allocation failed; some sets may be moved.
+    pub fn share(&mut self, items: &mut SharedItems) -> Result<(), AllocError>
+        ensures { self.new ≡ self.old }
+    {
+        share_sets(&mut self.sets, items)
+    }
+
+    /// The same table, with copies of its sets and lists. A set that other tables share is shared with the copy.
     pub fn copy(&self) -> Result<SetTable, AllocError>
         ensures { IfOk result (λ copy. copy ≡ self.now) }
     {

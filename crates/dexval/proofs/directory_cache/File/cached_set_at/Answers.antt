@@ -1,6 +1,7 @@
 use Rattle.dexval.proofs.Common.{◌≡◌, ◌∙◌, ◌+◌, ◌<◌, ◌∷◌, ◌++◌, [], List, length, map, Some, None, nat_eq, refl, sym, ap, subst, arith, rules, get, DirectoryCache, NumberedSet, IsSetAt, AreHeld, AreCached, Extends, set_of, NumberedTable, length-map, map-append}
 use Rattle.std.proofs.Common.{length-append}
 use Rattle.dexval.specs.DirectoryCache.{IsNoted}
+use Rattle.dexval.specs.KeptSets.{set_in}
 use Rattle.dexval.proofs.CachedSets.{set_cached}
 use Rattle.dexval.proofs.PlacedItems.{fewer, one_placed}
 use Rattle.dexval.proofs.TableGrowth.{extends_same, none_new, set_added, set_is_added}
@@ -23,24 +24,24 @@ returns-in-Some-clause-read c =
 
 pub add_set-requires : goal.add_set-requires
 add_set-requires c =
-    let table : NumberedTable = record { sets = map set_of c.cache.inside.0.1.0.sets.items; lists = map (λ l. l.items) c.cache.inside.0.1.0.lists.items } in
+    let table : NumberedTable = record { sets = map set_in c.cache.inside.0.1.0.sets.items; lists = map (λ l. l.items) c.cache.inside.0.1.0.lists.items } in
     let before : DirectoryCache = record { alloc = c.cache.inside.0.0; table = table; sets = c.cache.inside.0.1.1.0; lists = c.cache.inside.0.1.1.1.0 } in
     let held : AreHeld before = subst AreHeld (sym c.cache.view_is) c.requires.held in
     let fresh : get nat_eq before.sets c.args.off ≡ None = search rules in
-    omega (arith, fewer (λ off. get nat_eq before.sets off) (length table.sets) c.args.off held.sets_placed fresh (omega arith), length-map c.cache.inside.0.1.0.sets.items set_of)
+    omega (arith, fewer (λ off. get nat_eq before.sets off) (length table.sets) c.args.off held.sets_placed fresh (omega arith), length-map c.cache.inside.0.1.0.sets.items set_in)
 
 pub returns-clause-noted : goal.returns-clause-noted
 returns-clause-noted c =
     let set = set_of c.in_ok-set.set in
-    let table : NumberedTable = record { sets = map set_of c.cache.inside.0.1.0.sets.items; lists = map (λ l. l.items) c.cache.inside.0.1.0.lists.items } in
+    let table : NumberedTable = record { sets = map set_in c.cache.inside.0.1.0.sets.items; lists = map (λ l. l.items) c.cache.inside.0.1.0.lists.items } in
     let before : DirectoryCache = record { alloc = c.cache.inside.0.0; table = table; sets = c.cache.inside.0.1.1.0; lists = c.cache.inside.0.1.1.1.0 } in
-    let after : DirectoryCache = record { alloc = before.alloc; table = record { sets = map set_of c.add_set.new.sets.items; lists = table.lists }; sets = c.insert.new.self; lists = before.lists } in
+    let after : DirectoryCache = record { alloc = before.alloc; table = record { sets = map set_in c.add_set.new.sets.items; lists = table.lists }; sets = c.insert.new.self; lists = before.lists } in
     let held : AreHeld before = subst AreHeld (sym c.cache.view_is) c.requires.held in
     let fresh : get nat_eq before.sets c.args.off ≡ None = search rules in
     let updates = c.in_ok-insert.ensures.updates in
-    let added : after.table.sets ≡ table.sets ++ set ∷ [] = ap (map set_of) c.in_ok-place.ensures.sets ∙ map-append set_of c.cache.inside.0.1.0.sets.items (c.in_ok-set.set ∷ []) in
+    let added : after.table.sets ≡ table.sets ++ set ∷ [] = ap (map set_in) c.in_ok-place.ensures.sets ∙ map-append set_in c.cache.inside.0.1.0.sets.items (c.own-kept.result ∷ []) ∙ ap (λ (s : NumberedSet). table.sets ++ s ∷ []) c.own-kept.ensures in
     let more : length after.table.sets ≡ length table.sets + 1 = omega (arith, ap length added, length-append table.sets (set ∷ [])) in
-    let place : c.in_ok-place.place ≡ length table.sets = c.in_ok-place.ensures.place ∙ sym (length-map c.cache.inside.0.1.0.sets.items set_of) in
+    let place : c.in_ok-place.place ≡ length table.sets = c.in_ok-place.ensures.place ∙ sym (length-map c.cache.inside.0.1.0.sets.items set_in) in
     let extended : Extends table after.table = subst (λ (sets : List NumberedSet). Extends table (record { sets = sets; lists = table.lists })) (sym added) (set_added table set c.cache.invariant) in
     let noted : IsNoted (λ i. Some c.in_ok-place.place ≡ Some i) (λ i. ⊥) (c.in_ok-place.place < length after.table.sets) before after = record {
       extended = extended;
@@ -58,11 +59,11 @@ returns-clause-noted c =
 pub returns-clause-cache : goal.returns-clause-cache
 returns-clause-cache c = λ p.
     let set = set_of c.in_ok-set.set in
-    let table : NumberedTable = record { sets = map set_of c.cache.inside.0.1.0.sets.items; lists = map (λ l. l.items) c.cache.inside.0.1.0.lists.items } in
+    let table : NumberedTable = record { sets = map set_in c.cache.inside.0.1.0.sets.items; lists = map (λ l. l.items) c.cache.inside.0.1.0.lists.items } in
     let before : DirectoryCache = record { alloc = c.cache.inside.0.0; table = table; sets = c.cache.inside.0.1.1.0; lists = c.cache.inside.0.1.1.1.0 } in
-    let after : DirectoryCache = record { alloc = before.alloc; table = record { sets = map set_of c.add_set.new.sets.items; lists = table.lists }; sets = c.insert.new.self; lists = before.lists } in
-    let added : after.table.sets ≡ table.sets ++ set ∷ [] = ap (map set_of) c.in_ok-place.ensures.sets ∙ map-append set_of c.cache.inside.0.1.0.sets.items (c.in_ok-set.set ∷ []) in
-    let place : c.in_ok-place.place ≡ length table.sets = c.in_ok-place.ensures.place ∙ sym (length-map c.cache.inside.0.1.0.sets.items set_of) in
+    let after : DirectoryCache = record { alloc = before.alloc; table = record { sets = map set_in c.add_set.new.sets.items; lists = table.lists }; sets = c.insert.new.self; lists = before.lists } in
+    let added : after.table.sets ≡ table.sets ++ set ∷ [] = ap (map set_in) c.in_ok-place.ensures.sets ∙ map-append set_in c.cache.inside.0.1.0.sets.items (c.own-kept.result ∷ []) ∙ ap (λ (s : NumberedSet). table.sets ++ s ∷ []) c.own-kept.ensures in
+    let place : c.in_ok-place.place ≡ length table.sets = c.in_ok-place.ensures.place ∙ sym (length-map c.cache.inside.0.1.0.sets.items set_in) in
     let extended : Extends table after.table = subst (λ (sets : List NumberedSet). Extends table (record { sets = sets; lists = table.lists })) (sym added) (set_added table set c.cache.invariant) in
     let held : AreHeld before = subst AreHeld (sym c.cache.view_is) c.requires.held in
     let cached : AreCached c.args.self.now.frame.now c.args.self.now.pools.now before = subst (AreCached c.args.self.now.frame.now c.args.self.now.pools.now) (sym c.cache.view_is) (c.requires.cache p) in

@@ -1,6 +1,6 @@
 //! What a class declares, with numbers for symbols.
 
-ghost use Rattle.std.specs.Prelude.{◌≡◌, [], MatchOption, length, map, IfOk};
+ghost use Rattle.std.specs.Prelude.{◌≡◌, [], MatchOption, length, map, IfOk, OnOk, OnErr};
 ghost use Rattle.dexval.specs.Code.{set_of, value_of};
 ghost use Rattle.dexval.specs.Numbered.{values_of_list};
 ghost use Rattle.dexmembers.specs.Numbered.{fields_of, methods_of, HasFewMembers};
@@ -12,7 +12,7 @@ use crate::places::Place;
 use crate::{Fields, Methods};
 use dexflags::FieldFlags;
 use dexpool::{Remap, Renumber, SymbolKind, renumber_all};
-use dexval::{AnnotationSet, SetTable, Value, copied_values, remapped, renumber_values};
+use dexval::{AnnotationSet, SetTable, SharedItems, Value, copied_values, remapped, renumber_values};
 use std::alloc::AllocError;
 use std::marker::Model;
 
@@ -200,16 +200,34 @@ impl<'a> Members<'a> {
     /// Condition: each number has an image that fits its place: below 2^16 in an instruction but for
     /// const-string/jumbo, below 2^32 - 1 in a debug program, and below 2^32 elsewhere.
     /// [`members_cut_law`](crate::members_cut_law) and [`members_joined_law`](crate::members_joined_law) say when it has.
-    pub fn renumber(&mut self, remap: &Remap)
+    /// Error: the class shares sets of annotations with others, and the allocation of memory of its own for them failed;
+    /// the members are as they were.
+    pub fn renumber(&mut self, remap: &Remap) -> Result<(), AllocError>
         requires { MembersHavePlaces remap.now self.old }
-        ensures { self.new ≡ renumbered_members remap.now self.old }
+        ensures renumbered { OnOk result (self.new ≡ renumbered_members remap.now self.old) }
+        ensures unchanged { OnErr result (self.new ≡ self.old) }
     {
-        self.contents.table.renumber(remap);
+        self.contents.table.renumber(remap)?;
         renumber_all(&mut self.contents.static_fields, remap);
         renumber_all(&mut self.contents.instance_fields, remap);
         self.contents.direct_methods.renumber(remap);
         self.contents.virtual_methods.renumber(remap);
         renumber_values(&mut self.contents.static_values, remap);
+        Ok(())
+    }
+
+    /// Returns whether the class shares sets of annotations with others. No clause speaks of it.
+    pub fn is_sharing(&self) -> bool {
+        self.contents.table.is_sharing()
+    }
+
+    /// Moves each set of annotations into the memory of an equal one that other classes have, if there is one.
+    ///
+    /// Error: an allocation failed; some sets may be moved.
+    pub fn share(&mut self, items: &mut SharedItems) -> Result<(), AllocError>
+        ensures { self.new ≡ self.old }
+    {
+        self.contents.table.share(items)
     }
 
     /// Leaves out the debug programs of all methods. Instructions and tries stay, and so do the texts that a

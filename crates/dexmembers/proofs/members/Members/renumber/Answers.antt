@@ -15,8 +15,8 @@ renumber-requires-2 c = methods_mapped c.args.remap.now c.self.inside.contents.t
 pub renumber-requires-3 : goal.renumber-requires-3
 renumber-requires-3 c = methods_mapped c.args.remap.now c.self.inside.contents.table c.self.inside.contents.virtual_methods (subst (MembersHavePlaces c.args.remap.now) (sym c.self.view_is) c.requires).virtual_methods_mapped
 
-pub invariant_of-self : goal.invariant_of-self
-invariant_of-self c =
+pub invariant_of-self-2 : goal.invariant_of-self-2
+invariant_of-self-2 c =
     let r = c.args.remap.now in
     let x = c.self.inside.contents in
     let t' = c.renumber.new.self in
@@ -24,7 +24,7 @@ invariant_of-self c =
     let has = subst (MembersHavePlaces r) (sym c.self.view_is) c.requires in
     let size = c.renumber.ensures.size in
     let lists = c.renumber.ensures.lists in
-    let remapped = c.renumber.ensures.sets in
+    let remapped = c.in_ok-renumber.ensures.sets in
     let few = few_mapped (renumbered_field r) (renumbered_method r) _ _ _ _ kept.few in
     let statics = ap (map (field_of t'.sets)) c.renumber_all.ensures ∙ fields_remapped r x.table.sets t'.sets remapped x.static_fields.items has.static_fields_mapped in
     let instances = ap (map (field_of t'.sets)) c.renumber_all-2.ensures ∙ fields_remapped r x.table.sets t'.sets remapped x.instance_fields.items has.instance_fields_mapped in
@@ -41,14 +41,14 @@ invariant_of-self c =
       };
     }
 
-pub returns : goal.returns
-returns c =
+pub returns-clause-renumbered : goal.returns-clause-renumbered
+returns-clause-renumbered c =
     let r = c.args.remap.now in
     let x = c.self.inside.contents in
     let t' = c.renumber.new.self in
     let has = subst (MembersHavePlaces r) (sym c.self.view_is) c.requires in
     let lists = c.renumber.ensures.lists in
-    let remapped = c.renumber.ensures.sets in
+    let remapped = c.in_ok-renumber.ensures.sets in
     let own = (remapped x.set).0 has.annotations_mapped in
     let statics = ap (map (field_of t'.sets)) c.renumber_all.ensures ∙ fields_remapped r x.table.sets t'.sets remapped x.static_fields.items has.static_fields_mapped in
     let instances = ap (map (field_of t'.sets)) c.renumber_all-2.ensures ∙ fields_remapped r x.table.sets t'.sets remapped x.instance_fields.items has.instance_fields_mapped in

@@ -1,15 +1,16 @@
 //! The interfaces of a class: a list in the bytes of a file, or numbers of its own.
 
-ghost use Rattle.std.specs.Prelude.{◌≡◌, ◌/◌, [], length, map, IfOk, IsTrue, OnOk, OnErr};
+ghost use Rattle.std.specs.Prelude.{◌≡◌, ◌/◌, [], length, map, unwrap_or, IfOk, IsTrue};
 ghost use Rattle.dexspec.specs.Bytes.{ushorts_at};
 ghost use Rattle.dexclass.specs.internal.Rows.{interface_indices, HasInterfaceList};
 ghost use Rattle.dexclass.specs.Renumbering.{remapped};
 
 use crate::list_parts::{ListPlace, SharedPart};
 use crate::renumbering::type_number;
-use dexhead::{Frame, u32_at};
+use dexhead::Frame;
 use dexpool::Remap;
 use dexrows::TypeNumbers;
+use dexval::source_of;
 use std::alloc::{AllocError, Global};
 use std::marker::Model;
 
@@ -63,19 +64,6 @@ fn bytes_from(file: &[u8], start: usize, len: usize) -> &[u8] {
         return &[];
     }
     rest.split_at(len).0
-}
-
-// Which file this is: 16 bytes of the signature in its header, or 0 where there are less.
-fn source_of(file: &[u8]) -> u128 {
-    let signature = bytes_from(file, 12, 16);
-    if signature.len() < 16 {
-        return 0;
-    }
-    let mut source = 0;
-    for k in 0..4 {
-        source = (source << 32) | u128::from(u32_at(signature, 4 * k));
-    }
-    source
 }
 
 // The bytes of the `count` numbers that are listed at an offset, two for each.
@@ -230,24 +218,38 @@ impl<'a> Interfaces<'a> {
         }
     }
 
-    /// Replaces the list by a part of others.
-    pub(crate) fn share(&mut self, part: SharedPart)
-        ensures { self.new ≡ part }
+    /// A list that is a part of others.
+    pub(crate) fn part(&self, part: SharedPart) -> Interfaces<'a>
+        ensures { result ≡ part }
     {
-        self.kept = Kept::Shared(part);
+        Interfaces {
+            alloc: self.alloc,
+            kept: Kept::Shared(part),
+        }
     }
 
-    /// Remaps each number. One that has no image stays. If the allocation fails, all stay. If all stay, nothing is
-    /// allocated.
-    pub(crate) fn renumber(&mut self, remap: &Remap) -> Result<(), AllocError>
-        ensures remapped { OnOk result (self.new ≡ map (remapped remap.now.types) self.old) }
-        ensures unchanged { OnErr result (self.new ≡ self.old) }
+    /// The list with each number remapped, or `None` if all stay: then nothing is allocated. A number that has no image
+    /// stays.
+    pub(crate) fn renumbered(&self, remap: &Remap) -> Result<Option<Interfaces<'a>>, AllocError>
+        ensures { IfOk result (λ list.
+            unwrap_or list self.now ≡ map (remapped remap.now.types) self.now) }
     {
         if are_unchanged(remap, &self.numbers()) {
-            return Ok(());
+            return Ok(None);
         }
         let images = remapped_types(self.alloc, remap, &self.numbers())?;
-        self.kept = Kept::Own(images);
-        Ok(())
+        Ok(Some(Interfaces {
+            alloc: self.alloc,
+            kept: Kept::Own(images),
+        }))
+    }
+
+    /// Replaces the list by another, if there is one.
+    pub(crate) fn replace(&mut self, list: Option<Interfaces<'a>>)
+        ensures { self.new ≡ unwrap_or list.entry self.old }
+    {
+        if let Some(list) = list {
+            *self = list;
+        }
     }
 }

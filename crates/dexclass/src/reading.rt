@@ -1,10 +1,12 @@
 //! Reading a whole file.
 
-ghost use Rattle.std.specs.Prelude.{◌≡◌, ◌+◌, ◌*◌, ◌<◌, ◌≤◌, All, length, IfOk, IfErr, MatchOption};
+ghost use Rattle.std.specs.Prelude.{◌≡◌, ℕ, ◌+◌, ◌*◌, ◌<◌, ◌≤◌, All, length, IfOk, IfErr, MatchOption};
 ghost use Rattle.dexspec.specs.Header.{ClassDefs, table_size};
 ghost use Rattle.dexspec.specs.Accepted.{HoldBelow, IsFrame};
 ghost use Rattle.dexspec.specs.Weight.{most_weight};
 ghost use Rattle.dexpool.specs.Pools.{ArePools};
+ghost use Rattle.dexmembers.specs.ClassDefs.{IsClassDef};
+ghost use Rattle.dexmembers.specs.Reading.{AreReadWithin, IsMembersFaultWithin, InClass};
 ghost use Rattle.dexids.specs.declared.faults.ReadFault.TheVariants.{Refused, Memory};
 ghost use Rattle.dexclass.specs.internal.Rows.{HasInterfaceList, interface_indices};
 ghost use Rattle.dexclass.specs.internal.Checked.{IsFaultAtRow};
@@ -20,9 +22,10 @@ use crate::programs::Program;
 use crate::trimming::into_trimmed;
 use dexhead::{Condition, Frame, Refusal, Table};
 use dexlaws::denotes::good::denoted_is_good;
-use dexmembers::{ClassDef, read_members};
+use dexmembers::{ClassDef, Members, read_members};
 use dexpool::{ItemFault, Numbering, Pools, ReadFault, type_list_len};
-use std::alloc::Global;
+use dexval::SharedItems;
+use std::alloc::{AllocError, Global};
 
 /// The most that a program may weigh.
 pub(crate) const MOST_WEIGHT: u64 = 1 << 30;
@@ -90,13 +93,47 @@ struct Bodies<'a> {
     weight: u64,
 }
 
+// Moves what other classes have too into memory that they share, if there is some.
+fn shared<'a>(
+    mut members: Members<'a>,
+    items: &mut Option<SharedItems>,
+) -> Result<Members<'a>, AllocError>
+    ensures { IfOk result (λ shared. shared ≡ members.entry) }
+{
+    let Some(items) = items else {
+        return Ok(members);
+    };
+    members.share(items)?;
+    Ok(members)
+}
+
+// Reads what a class row declares, as `read_members` does. What other rows have too is shared, if items are.
+fn read_shared_members<'a>(
+    alloc: Global,
+    frame: &Frame<'a>,
+    pools: &Pools<'_>,
+    row: &ClassDef,
+    most: u32,
+    items: &mut Option<SharedItems>,
+) -> Result<(Members<'a>, u32), ItemFault>
+    ensures read { (r : ℕ) → IsClassDef frame.now r row.now
+        → InClass frame.now pools.now r (IfOk result (AreReadWithin frame.now r pools.now most)) }
+    ensures refused { (r : ℕ) → IsClassDef frame.now r row.now
+        → InClass frame.now pools.now r (IfErr result (IsMembersFaultWithin frame.now r most)) }
+{
+    let (members, weight) = read_members(alloc, frame, pools, row, most)?;
+    let members = shared(members, items)?;
+    Ok((members, weight))
+}
+
 // Reads the class rows, from row 0 on, until the classes weigh more than `most`. What the members of a row may weigh is
-// what is left for them: what is read is not weighed again.
+// what is left for them: what is read is not weighed again. What several rows have is shared, if items are.
 fn read_bodies_within<'a>(
     alloc: Global,
     frame: &Frame<'a>,
     pools: &Pools<'a>,
     most: u64,
+    mut items: Option<SharedItems>,
 ) -> Result<Bodies<'a>, ReadFault>
     requires pools { ArePools frame.now pools.now }
     requires before { HoldBelow 17 frame.now }
@@ -117,7 +154,9 @@ fn read_bodies_within<'a>(
         let own = row_weight(count);
         let before = bodies.weight + own;
         let left = most.saturating_sub(before) as u32;
-        let (members, weight) = match read_members(alloc, frame, pools, &row, left) {
+        let (members, weight) = match read_shared_members(
+            alloc, frame, pools, &row, left, &mut items,
+        ) {
             Ok(found) => found,
             Err(fault) => return Err(at_row(fault, r)),
         };
@@ -152,7 +191,7 @@ fn most_unchecked(frame: &Frame<'_>) -> u64
 }
 
 // Reads the class rows. If the classes weigh much more than the file, as where many rows share an item, all rows are
-// checked before more of them is kept.
+// checked before more of them is kept, and what is kept of an item is shared.
 fn read_bodies<'a>(
     alloc: Global,
     frame: &Frame<'a>,
@@ -164,7 +203,7 @@ fn read_bodies<'a>(
         (AreBodies frame.now pools.now (table_size frame.now ClassDefs)) }
     ensures refused { IfErr result (IsFaultOf frame.now) }
 {
-    let refusal = match read_bodies_within(alloc, frame, pools, most_unchecked(frame)) {
+    let refusal = match read_bodies_within(alloc, frame, pools, most_unchecked(frame), None) {
         Ok(bodies) => return Ok(bodies),
         Err(ReadFault::Memory) => return Err(ReadFault::Memory),
         Err(ReadFault::Refused(refusal)) => refusal,
@@ -173,7 +212,8 @@ fn read_bodies<'a>(
         return Err(ReadFault::Refused(refusal));
     }
     check_rows(alloc, frame, pools)?;
-    read_bodies_within(alloc, frame, pools, MOST_WEIGHT)
+    let items = SharedItems::none(alloc);
+    read_bodies_within(alloc, frame, pools, MOST_WEIGHT, Some(items))
 }
 
 /// The weight of classes with all symbols of a numbering, or `None` if it is too much; `bodies` is that of the classes

@@ -1,11 +1,11 @@
 //! Classes whose numbers are mapped to those of another numbering.
 
-ghost use Rattle.std.specs.Prelude.{◌≡◌, OnOk, OnErr};
+ghost use Rattle.std.specs.Prelude.{◌≡◌, map, unwrap_or, OnOk, OnErr};
 ghost use Rattle.std.specs.Option.{option_map};
 ghost use Rattle.dexclass.specs.Renumbering.{remapped, renumbered, ClassHasPlaces};
-ghost use Rattle.dexclass.specs.internal.Listed.{others_renumbered};
 
 use crate::classes::Class;
+use crate::interface_lists::Interfaces;
 use dexpool::{Remap, SymbolKind};
 use std::alloc::AllocError;
 
@@ -42,29 +42,34 @@ impl<'a> Class<'a> {
     /// annotation that has no image stays.
     ///
     /// Condition: each number in what the class declares maps to one that fits its place, as
-    /// [`dexmembers::Members::renumber`] asks. Error: the allocation of the numbers of the interfaces failed; the class
-    /// is as it was.
+    /// [`dexmembers::Members::renumber`] asks. Error: an allocation failed; the class is as it was.
     pub fn renumber(&mut self, remap: &Remap) -> Result<(), AllocError>
         requires { ClassHasPlaces remap.now self.old }
         ensures renumbered { OnOk result (self.new ≡ renumbered remap.now self.old) }
         ensures unchanged { OnErr result (self.new ≡ self.old) }
     {
-        self.interfaces.renumber(remap)?;
-        self.renumber_others(remap);
-        Ok(())
+        let interfaces = self.interfaces.renumbered(remap)?;
+        self.renumber_with(remap, interfaces)
     }
 
-    /// Remaps each number but those of the interfaces.
-    ///
-    /// Condition: as of [`Class::renumber`].
-    pub(crate) fn renumber_others(&mut self, remap: &Remap)
-        requires { ClassHasPlaces remap.now self.old }
-        ensures { self.new ≡ others_renumbered remap.now self.old }
+    /// As [`Class::renumber`], with the interfaces remapped already, or `None` if they stay.
+    pub(crate) fn renumber_with(
+        &mut self,
+        remap: &Remap,
+        interfaces: Option<Interfaces<'a>>,
+    ) -> Result<(), AllocError>
+        requires places { ClassHasPlaces remap.now self.old }
+        requires interfaces { unwrap_or interfaces self.old.interfaces
+            ≡ map (remapped remap.now.types) self.old.interfaces }
+        ensures renumbered { OnOk result (self.new ≡ renumbered remap.now self.old) }
+        ensures unchanged { OnErr result (self.new ≡ self.old) }
     {
+        self.members.renumber(remap)?;
         self.name = type_number(remap, self.name);
         self.superclass = optional_type_number(remap, self.superclass);
+        self.interfaces.replace(interfaces);
         self.source = optional_text_number(remap, self.source);
-        self.members.renumber(remap);
+        Ok(())
     }
 }
 

@@ -1,6 +1,6 @@
 //! Classes of one program renumbered, where many have interfaces that overlap.
 
-ghost use Rattle.std.specs.Prelude.{◌≡◌, All, IfOk, IfSome, IsTrue, OnOk, OnErr, length, map, take, drop};
+ghost use Rattle.std.specs.Prelude.{◌≡◌, All, IfOk, IfSome, IsTrue, OnOk, OnErr, length, map, take, drop, unwrap_or};
 ghost use Rattle.dexpool.specs.Numberings.{Maps};
 ghost use Rattle.dexclass.specs.Renumbering.{remapped, renumbered, ClassHasPlaces};
 ghost use Rattle.dexclass.specs.internal.Wholes.{IsRemapped};
@@ -10,6 +10,7 @@ use crate::interface_lists::{Interfaces, remapped_types};
 use crate::list_parts::{ListPlace, SharedPart};
 use dexpool::Remap;
 use dexrows::TypeNumbers;
+use dexval::SharedItems;
 use std::alloc::{AllocError, Global};
 use std::collections::HashMap;
 use std::marker::Model;
@@ -179,14 +180,25 @@ fn wholes_of<'a>(
     Ok(wholes)
 }
 
+// Shares again what a class shared before it was remapped. If an allocation fails, some of it stays in memory of its own:
+// the class is the same.
+fn share_again(class: &mut Class<'_>, items: &mut SharedItems)
+    ensures { class.new ≡ class.old }
+{
+    let _ = class.members.share(items);
+}
+
 /// A map of numbers, for the classes of a program. If lists of interfaces that come from one file have more numbers
-/// together than what they are parts of, each number of this is remapped once. Contracts see the map.
+/// together than what they are parts of, each number of this is remapped once. What classes share besides is shared
+/// again once it is remapped. Contracts see the map.
 #[derive(Drop)]
 pub struct Renumbering<'r, 'a> {
     remap: &'r Remap,
     // What lists of each file are parts of, and its number by the file.
     numbers: HashMap<u128, usize>,
     wholes: Vec<Whole<'a>>,
+    // What remapped classes share.
+    items: SharedItems,
 }
 
 impl<'r, 'a> Model for Renumbering<'r, 'a> {
@@ -218,6 +230,7 @@ impl<'r, 'a> Renumbering<'r, 'a> {
             remap,
             numbers,
             wholes,
+            items: SharedItems::none(alloc),
         })
     }
 
@@ -246,29 +259,34 @@ impl<'r, 'a> Renumbering<'r, 'a> {
         whole.images_of(place, list)
     }
 
-    // Remaps the numbers of a list. If the allocation fails, all stay.
-    fn renumber_list(&self, list: &mut Interfaces<'a>) -> Result<(), AllocError>
-        ensures remapped { OnOk result (list.new ≡ map (remapped self.now.types) list.old) }
-        ensures unchanged { OnErr result (list.new ≡ list.old) }
+    // The list with each number remapped, or `None` if all stay.
+    fn renumbered_list(&self, list: &Interfaces<'a>) -> Result<Option<Interfaces<'a>>, AllocError>
+        ensures { IfOk result (λ images.
+            unwrap_or images list.now ≡ map (remapped self.now.types) list.now) }
     {
         if let Some(images) = self.images_of(list)? {
-            list.share(images);
-            return Ok(());
+            return Ok(Some(list.part(images)));
         }
-        list.renumber(self.remap)
+        list.renumbered(self.remap)
     }
 
     /// Remaps each number of a class, as [`Class::renumber`] does. Interfaces that several classes share are remapped
-    /// once.
+    /// once. What else they share has memory of its own until it is remapped, and is then shared with the equal items
+    /// of the classes that were remapped before.
     ///
     /// Condition: as of [`Class::renumber`]. Error: an allocation failed; the class is as it was.
-    pub fn renumber(&self, class: &mut Class<'a>) -> Result<(), AllocError>
-        requires { ClassHasPlaces self.now class.old }
-        ensures renumbered { OnOk result (class.new ≡ renumbered self.now class.old) }
+    pub fn renumber(&mut self, class: &mut Class<'a>) -> Result<(), AllocError>
+        requires { ClassHasPlaces self.old class.old }
+        ensures kept { self.new ≡ self.old }
+        ensures renumbered { OnOk result (class.new ≡ renumbered self.old class.old) }
         ensures unchanged { OnErr result (class.new ≡ class.old) }
     {
-        self.renumber_list(&mut class.interfaces)?;
-        class.renumber_others(self.remap);
+        let is_sharing = class.members.is_sharing();
+        let interfaces = self.renumbered_list(&class.interfaces)?;
+        class.renumber_with(self.remap, interfaces)?;
+        if is_sharing {
+            share_again(class, &mut self.items);
+        }
         Ok(())
     }
 }

@@ -39,7 +39,7 @@ fn cut_all<'a>(alloc: Global, remap: &Remap, classes: &mut Vec<Class<'a>>) -> Re
     ensures { OnOk result (classes.new.items ≡ map (renumbered remap.now) classes.old.items) }
 {
     members_cut_law();
-    let renumbering = Renumbering::of(alloc, remap, classes)?;
+    let mut renumbering = Renumbering::of(alloc, remap, classes)?;
     for i in 0..classes.len() {
         classes[i].members().numbers_fit();
         renumbering.renumber(&mut classes[i])?;

@@ -10,14 +10,16 @@ renumber-requires c =
     let r = c.args.remap.now in
     let xs = c.loop-i.classes.items in
     let d = c.index_mut.result.now in
-    let lt : c.loop-i.i < length c.args.classes.now.items = omega (arith, c.loop-i-test.true, c.loop-i.invariant.len) in
-    let is : d ≡ _ = c.index_mut.ensures.value ∙ (next_is (renumbered r) xs c.args.classes.now.items c.loop-i.i d lt c.loop-i.invariant) in
+    let lt : c.loop-i.i < length c.args.classes.now.items = omega (arith, c.loop-i-test.true, c.loop-i.invariant.remapped.len) in
+    let is : d ≡ _ = c.index_mut.ensures.value ∙ (next_is (renumbered r) xs c.args.classes.now.items c.loop-i.i d lt c.loop-i.invariant.remapped) in
     let mapped = subst (IsMappedClass r) (sym is) (c.requires.remapped c.loop-i.i d lt) in
-    let same : c.index.result.now ≡ d = c.index.ensures ∙ get_or_default xs c.loop-i.i c.index.result.now d (omega (arith, lt, c.loop-i.invariant.len)) ∙ sym c.index_mut.ensures.value in
+    let same : c.index.result.now ≡ d = c.index.ensures ∙ get_or_default xs c.loop-i.i c.index.result.now d (omega (arith, lt, c.loop-i.invariant.remapped.len)) ∙ sym c.index_mut.ensures.value in
     let fit = subst (λ (y : NumberedClass). NumbersFit y.members) same (subst NumbersFit c.members.ensures c.numbers_fit.ensures) in
-    subst (λ (m : Maps). ClassHasPlaces m d) (sym c.in_ok-renumbering.ensures) (c.members_cut_law.ensures r d.members c.requires.down fit (members_mapped r d mapped))
+    subst (λ (m : Maps). ClassHasPlaces m d) (sym c.loop-i.invariant.kept) (c.members_cut_law.ensures r d.members c.requires.down fit (members_mapped r d mapped))
 
 pub loop-i-preserved : goal.loop-i-preserved
-loop-i-preserved c =
-    remapped_more (renumbered c.args.remap.now) c.loop-i.classes.items c.args.classes.now.items c.loop-i.i c.index_mut.result.now (omega (arith, c.loop-i-test.true, c.loop-i.invariant.len)) c.loop-i.invariant c.renumber.new.class
-    (c.in_ok-renumber.ensures.renumbered ∙ (λ k. renumbered (c.in_ok-renumbering.ensures k) c.index_mut.result.now) ∙ ap (renumbered c.args.remap.now) c.index_mut.ensures.value)
+loop-i-preserved c = record {
+  kept = c.renumber.ensures.kept ∙ c.loop-i.invariant.kept;
+  remapped = remapped_more (renumbered c.args.remap.now) c.loop-i.classes.items c.args.classes.now.items c.loop-i.i c.index_mut.result.now (omega (arith, c.loop-i-test.true, c.loop-i.invariant.remapped.len)) c.loop-i.invariant.remapped c.renumber.new.class
+      (c.in_ok-renumber.ensures.renumbered ∙ (λ k. renumbered (c.loop-i.invariant.kept k) c.index_mut.result.now) ∙ ap (renumbered c.args.remap.now) c.index_mut.ensures.value);
+}

@@ -60,14 +60,15 @@ impl<'a> Collected<'a> {
     fn push(
         &mut self,
         mut class: Class<'a>,
-        renumbering: &Renumbering<'_, 'a>,
+        renumbering: &mut Renumbering<'_, 'a>,
     ) -> Result<(), AllocError>
-        requires places { ClassHasPlaces renumbering.now class }
-        requires name { remapped renumbering.now.types class.name < length self.old.is_name.items }
+        requires places { ClassHasPlaces renumbering.old class }
+        requires name { remapped renumbering.old.types class.name < length self.old.is_name.items }
+        ensures kept { renumbering.new ≡ renumbering.old }
         ensures classes { OnOk result
-            (HasPushed (renumbered renumbering.now class.entry) self.old self.new) }
+            (HasPushed (renumbered renumbering.old class.entry) self.old self.new) }
         ensures names { OnOk result
-            (HasMarked (remapped renumbering.now.types class.entry.name) self.old self.new) }
+            (HasMarked (remapped renumbering.old.types class.entry.name) self.old self.new) }
     {
         renumbering.renumber(&mut class)?;
         self.is_name[class.name()] = true;
@@ -86,10 +87,10 @@ impl<'a> Collected<'a> {
         places_law();
         part.is_good();
         let classes = part.into_classes();
-        let renumbering = Renumbering::of(*self.classes.allocator(), remap, &classes)?;
+        let mut renumbering = Renumbering::of(*self.classes.allocator(), remap, &classes)?;
         for class in classes {
             if !self.has_name_of(&class, remap) {
-                self.push(class, &renumbering)?;
+                self.push(class, &mut renumbering)?;
             }
         }
         Ok(())
@@ -106,10 +107,10 @@ impl<'a> Collected<'a> {
         places_law();
         part.is_good();
         let classes = part.classes();
-        let renumbering = Renumbering::of(*self.classes.allocator(), remap, classes)?;
+        let mut renumbering = Renumbering::of(*self.classes.allocator(), remap, classes)?;
         for class in classes {
             if !self.has_name_of(class, remap) {
-                self.push(class.copy()?, &renumbering)?;
+                self.push(class.copy()?, &mut renumbering)?;
             }
         }
         Ok(())

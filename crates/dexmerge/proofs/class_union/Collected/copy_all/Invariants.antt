@@ -4,6 +4,7 @@ use Rattle.dexmerge.proofs.class_union.Collected.copy_all.Given as goal
 
 abbrev pub invariant-loop-class : goal.invariant-loop-class
 invariant-loop-class l = record {
+  kept : l.renumbering ≡ l.remap;
   count : length l.self.is_name.items ≡ length l.fn.self.is_name.items;
   collected : (m : Mentions) (D : List Definition) → IsPartOf m l.part l.remap → AreCollected m D l.fn.self.classes.items l.fn.self.is_name.items
       → AreCollected m (D ++ map (definition_of (mentions (definitions l.part))) (take l.class-index l.classes)) l.self.classes.items l.self.is_name.items;

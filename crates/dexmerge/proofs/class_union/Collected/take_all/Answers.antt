@@ -16,12 +16,12 @@ member c =
 pub push-requires-clause-places : goal.push-requires-clause-places
 push-requires-clause-places c =
     let has = member (goal.at.push-requires-clause-places c).In-Some in
-    subst (λ (r : Maps). ClassHasPlaces r c.in-Some.class) (sym c.in_ok-renumbering.ensures)
+    subst (λ (r : Maps). ClassHasPlaces r c.in-Some.class) (sym c.loop-class.invariant.kept)
     (c.places_law.ensures c.requires.0 c.args.part c.args.remap.now c.in-Some.class c.requires.1 (class_known _ _ _ c.into_classes-classes.ensures has) (class_is_member _ _ _ c.into_classes-classes.ensures has))
 
 pub push-requires-clause-name : goal.push-requires-clause-name
 push-requires-clause-name c =
-    subst (λ (r : Maps). remapped r.types c.in-Some.class.name < length c.loop-class.self.is_name.items) (sym c.in_ok-renumbering.ensures)
+    subst (λ (r : Maps). remapped r.types c.in-Some.class.name < length c.loop-class.self.is_name.items) (sym c.loop-class.invariant.kept)
     (name_within c.renumbering_law.ensures.same c.renumbering_law.ensures.all c.requires.0 c.args.part c.args.remap.now c.requires.1 c.is_good.ensures.formed c.in-Some.class c.loop-class.self.is_name.items
     (class_known _ _ _ c.into_classes-classes.ensures (member (goal.at.push-requires-clause-name c).In-Some)) (c.loop-class.invariant.count ∙ c.requires.2))
 
@@ -29,9 +29,10 @@ pub loop-class-preserved-in-Continue-branch-2 : goal.loop-class-preserved-in-Con
 loop-class-preserved-in-Continue-branch-2 c =
     let has = member (goal.at.loop-class-preserved-in-Continue-branch-2 c).In-Some in
     let x = renumbered c.args.remap.now c.in-Some.class in
-    let classes = c.in_ok-push.ensures.classes ∙ ap (λ (r : Maps). c.loop-class.self.classes.items ++ renumbered r c.in-Some.class ∷ []) c.in_ok-renumbering.ensures in
-    let names = c.in_ok-push.ensures.names ∙ ap (λ (r : Maps). slice_set c.loop-class.self.is_name.items (remapped r.types c.in-Some.class.name) true) c.in_ok-renumbering.ensures in
+    let classes = c.in_ok-push.ensures.classes ∙ ap (λ (r : Maps). c.loop-class.self.classes.items ++ renumbered r c.in-Some.class ∷ []) c.loop-class.invariant.kept in
+    let names = c.in_ok-push.ensures.names ∙ ap (λ (r : Maps). slice_set c.loop-class.self.is_name.items (remapped r.types c.in-Some.class.name) true) c.loop-class.invariant.kept in
     record {
+      kept = c.push.ensures.kept ∙ c.loop-class.invariant.kept;
       count = ap (λ (l : List Bool). length l) names ∙ length-set c.loop-class.self.is_name.items x.name true ∙ c.loop-class.invariant.count;
       collected = λ m D part h. part_more c.renumbering_law.ensures.same c.renumbering_law.ensures.all m c.args.part c.args.remap.now part c.is_good.ensures.formed D c.loop-class.yielded c.in-Some.class c.loop-class.self c.push.new.self
           (class_known _ _ _ c.into_classes-classes.ensures has) (class_is_member _ _ _ c.into_classes-classes.ensures has) (added_new x c.loop-class.self c.push.new.self (sym c.has_name_of.ensures ∙ c.if-not-has_name_of.true) classes names) (c.loop-class.invariant.collected m D part h);
@@ -42,6 +43,7 @@ loop-class-preserved c =
     let has = member (goal.at.loop-class-preserved c).In-Some in
     let x = renumbered c.args.remap.now c.in-Some.class in
     record {
+      kept = c.loop-class.invariant.kept;
       count = c.loop-class.invariant.count;
       collected = λ m D part h. part_more c.renumbering_law.ensures.same c.renumbering_law.ensures.all m c.args.part c.args.remap.now part c.is_good.ensures.formed D c.loop-class.yielded c.in-Some.class c.loop-class.self c.loop-class.self
           (class_known _ _ _ c.into_classes-classes.ensures has) (class_is_member _ _ _ c.into_classes-classes.ensures has) (added_same x c.loop-class.self (sym c.has_name_of.ensures ∙ c.if-not-has_name_of.false)) (c.loop-class.invariant.collected m D part h);

@@ -123,10 +123,7 @@ pub(crate) fn unshare_sets(sets: &mut Vec<KeptSet>) -> Result<(), AllocError>
 }
 
 /// Moves sets into the memory of equal ones of their keys. Error: an allocation failed; the sets are as they were.
-pub(crate) fn share_sets(
-    sets: &mut Vec<KeptSet>,
-    items: &mut SharedItems,
-) -> Result<(), AllocError>
+pub(crate) fn share_sets(sets: &mut Vec<KeptSet>, items: &mut SharedItems) -> Result<(), AllocError>
     ensures { map set_in sets.new.items ≡ map set_in sets.old.items }
 {
     for i in 0..sets.len() {

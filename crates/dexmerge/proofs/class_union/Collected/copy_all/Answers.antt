@@ -46,10 +46,10 @@ loop-class-preserved c =
     ] in
     record {
       kept = p.0;
-      count = p.1.0 ∙ c.loop-class.invariant.count;
+      count = p.1 ∙ c.loop-class.invariant.count;
       collected = λ m D part h. subst (λ (l : List NumberedClass). AreCollected m (D ++ map (definition_of (mentions (definitions c.args.part.now))) l) c.if-not-has_name_of.self.classes.items c.if-not-has_name_of.self.is_name.items) (sym more)
           (part_more c.renumbering_law.ensures.same c.renumbering_law.ensures.all m c.args.part.now c.args.remap.now part c.is_good.ensures.formed D (take k ps) x c.loop-class.self c.if-not-has_name_of.self
-          (class_known _ ps x c.classes-classes.ensures has) (class_is_member _ ps x c.classes-classes.ensures has) p.1.1 (c.loop-class.invariant.collected m D part h));
+          (class_known _ ps x c.classes-classes.ensures has) (class_is_member _ ps x c.classes-classes.ensures has) p.2 (c.loop-class.invariant.collected m D part h));
     }
 
 pub returns-clause-collected : goal.returns-clause-collected

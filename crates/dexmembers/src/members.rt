@@ -12,7 +12,9 @@ use crate::places::Place;
 use crate::{Fields, Methods};
 use dexflags::FieldFlags;
 use dexpool::{Remap, Renumber, SymbolKind, renumber_all};
-use dexval::{AnnotationSet, SetTable, SharedItems, Value, copied_values, remapped, renumber_values};
+use dexval::{
+    AnnotationSet, SetTable, SharedItems, Value, copied_values, remapped, renumber_values,
+};
 use std::alloc::AllocError;
 use std::marker::Model;
 

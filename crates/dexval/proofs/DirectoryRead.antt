@@ -107,7 +107,8 @@ no_list_room b o none ss h = none (record { in_data = h.in_data; aligned = h.ali
 
 -- ---- pairs
 
-pairs_more : (b : List ℕ) (p k : ℕ) → pairs_at b p (suc k) ≡ pairs_at b p k ++ (uint_at b (p + 8 * k), uint_at b (p + 8 * k + 4)) ∷ []
+-- the pairs at an offset, and the one after them
+pub pairs_more : (b : List ℕ) (p k : ℕ) → pairs_at b p (suc k) ≡ pairs_at b p k ++ (uint_at b (p + 8 * k), uint_at b (p + 8 * k + 4)) ∷ []
 pairs_more b p zero = let place : p ≡ p + 8 * zero = omega arith in ap (λ (x : ℕ). (uint_at b x, uint_at b (x + 4)) ∷ []) place
 pairs_more b p (suc k) =
     let place : p + 8 + 8 * k ≡ p + 8 * suc k = omega arith in

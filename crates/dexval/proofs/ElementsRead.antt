@@ -182,7 +182,7 @@ module _ (b : List ℕ) (m : Mentions) (file : HasPools b m) where
 
   -- ---- annotations
 
-  type_within : (index : ℕ) (t : Text) → TypeRow b index t → index < length m.types
+  pub type_within : (index : ℕ) (t : Text) → TypeRow b index t → index < length m.types
   type_within index t r = omega (arith, r.row, file.pools.types_are.count)
 
   type_encoded : (index : ℕ) → index < length m.types → TypeRow b index (type_at m index)

@@ -19,7 +19,8 @@ join_within n r within few kind i j e lt = omega (arith, within kind i j e, few 
 -- ---- from images to places
 
 module _ (r : Maps) (within : MapsNarrow r) where
-  is_mapped : (kind : SymbolKind) (i : ℕ) → IsSome (image_of r kind i) → IsMapped r kind i
+  -- an image is a place
+  pub is_mapped : (kind : SymbolKind) (i : ℕ) → IsSome (image_of r kind i) → IsMapped r kind i
   is_mapped kind i h = let at = some_of (image_of r kind i) h in (at.0, at.1, λ lt. within kind i at.0 at.1 lt)
 
   -- if each number that occurs has an image, each maps to a place

@@ -108,7 +108,7 @@ module _ (m : Mentions) where
   annotation_used : (a : NumberedAnnotation) → IsKnownAnnotation m a → AllZip (IsUseOf m) (annotation_uses a) (annotation_symbols (annotation_in m a))
   annotation_used a h = (number_used m kinds.Typ a.type h.type_in, elements_used a.elements h.elements_known)
 
-  set_used : (xs : NumberedSet) → IsKnownSet m xs → AllZip (IsUseOf m) (set_uses xs) (set_symbols (set_in m xs))
+  pub set_used : (xs : NumberedSet) → IsKnownSet m xs → AllZip (IsUseOf m) (set_uses xs) (set_symbols (set_in m xs))
   set_used = all_used (IsKnownAnnotation m) (annotation_in m) m annotation_uses annotation_symbols annotation_used
 
 -- the symbols of a value, one for one

@@ -2,6 +2,7 @@
 -- annotations that were read are in the file, and the other annotations come after them.
 use Rattle.dexval.proofs.Common.{◌≡◌, ℕ, zero, suc, ◌+◌, ◌-◌, ◌*◌, ◌<◌, ◌≤◌, true, List, [], ◌∷◌, ◌++◌, length, map, refl, ap, sym, subst, ◌∙◌, arith, slice_index, AllZip, is_lt, map-append, All-append, All-cons, All-nil, rises, uint_at, uints_at, data_off, Text, text_cmp, TypeRow, most_depth, AnnotationSet, AnnotationAt, SetAt, Mentions, and_first, and_second, one_annotation_item, one_type, NumberedAnnotation, NumberedElements, IsKnownSet, IsKnownAnnotation, annotation_in, set_in, type_at, HasPools, NoAnnotationAt, IsAnnotationReadAt, IsItemAt, NoItemAt, NoSetAt, HasOffsets, IsSetAt}
 use Rattle.dexspec.specs.Annotations.{Annotation}
+use Rattle.dexval.proofs.ElementsRead.{type_within}
 use Rattle.dexval.proofs.Rising.{is_less, is_greater, one_number, rises_more}
 use Rattle.dexval.proofs.Shapes.{first_is, is_at_byte}
 
@@ -54,17 +55,14 @@ pub record HaveReadSet (b : List ℕ) (p : ℕ) (m : Mentions) (count i least : 
   pub rest : RestOf b p count 0 → RestOf b (p + 4 * i) (count - i) least
 
 module _ (b : List ℕ) (m : Mentions) (file : HasPools b m) where
-  row_within : (index : ℕ) (t : Text) → TypeRow b index t → index < length m.types
-  row_within index t r = omega (arith, r.row, file.pools.types_are.count)
-
   row_type : (index : ℕ) (t : Text) → TypeRow b index t → t ≡ type_at m index
-  row_type index t r = one_type b index t (type_at m index) r (file.pools.types_are.each index [] (omega (arith, row_within index t r, file.pools.types_are.count)))
+  row_type index t r = one_type b index t (type_at m index) r (file.pools.types_are.each index [] (omega (arith, type_within b m file index t r, file.pools.types_are.count)))
 
   above_next : (index : ℕ) (t : Text) (s : AnnotationSet) → TypeRow b index t → rises text_cmp (t ∷ map (λ a. a.type) s) ≡ true → IsAbove b (index + 1) s
   above_next index t [] r h = tt
   above_next index t (a ∷ s) r h = λ other row.
       let texts : is_lt (text_cmp (type_at m index) (type_at m other)) ≡ true = ap is_lt (ap (λ (x : Text). text_cmp x (type_at m other)) (sym (row_type index t r)) ∙ ap (text_cmp t) (sym (row_type other a.type row))) ∙ (and_first (is_lt (text_cmp t a.type)) (rises text_cmp (a.type ∷ map (λ a. a.type) s)) h) in
-      omega (arith, is_greater m.types file.rising.types_rise index other (row_within index t r) (row_within other a.type row) texts)
+      omega (arith, is_greater m.types file.rising.types_rise index other (type_within b m file index t r) (type_within b m file other a.type row) texts)
 
   rise_next : (t : Text) (s : AnnotationSet) → rises text_cmp (t ∷ map (λ a. a.type) s) ≡ true → rises text_cmp (map (λ a. a.type) s) ≡ true
   rise_next t [] h = refl
@@ -126,7 +124,7 @@ module _ (b : List ℕ) (m : Mentions) (file : HasPools b m) where
         rest = λ all.
             let n = next (p + 4 * i) (count - i) least (omega arith) (h.rest all) in
             let same = one_annotation_item b (uint_at b (p + 4 * i)) n.first (annotation_in m x) n.encodes r.at in
-            let name : n.index ≡ x.type = one_number m.types file.rising.types_rise n.index x.type (row_within n.index n.first.type n.row) r.known.type_in (sym (row_type n.index n.first.type n.row) ∙ ap (λ (a : Annotation). a.type) same) in
+            let name : n.index ≡ x.type = one_number m.types file.rising.types_rise n.index x.type (type_within b m file n.index n.first.type n.row) r.known.type_in (sym (row_type n.index n.first.type n.row) ∙ ap (λ (a : Annotation). a.type) same) in
             let place : p + 4 * i + 4 ≡ p + 4 * (i + 1) = omega arith in
             let left : count - i - 1 ≡ count - (i + 1) = omega arith in
             subst (λ (k : ℕ). RestOf b (p + 4 * (i + 1)) (count - (i + 1)) (k + 1)) name
@@ -149,7 +147,7 @@ module _ (b : List ℕ) (m : Mentions) (file : HasPools b m) where
   no_order o i least xs x lt h r less s set =
       let n = next (o + 4 + 4 * i) (uint_at b o - i) least (omega arith) (h.rest (rest_of o s set)) in
       let row : TypeRow b n.index (type_at m x.type) = subst (TypeRow b n.index) (ap (λ (a : Annotation). a.type) (one_annotation_item b (uint_at b (o + 4 + 4 * i)) n.first (annotation_in m x) n.encodes r.at)) n.row in
-      omega (arith, n.above, one_number m.types file.rising.types_rise x.type n.index r.known.type_in (row_within n.index (type_at m x.type) row) (row_type n.index (type_at m x.type) row), less)
+      omega (arith, n.above, one_number m.types file.rising.types_rise x.type n.index r.known.type_in (type_within b m file n.index (type_at m x.type) row) (row_type n.index (type_at m x.type) row), less)
 
   -- all were read
   pub all_read : (o i least : ℕ) (xs : List NumberedAnnotation) → HasOffsets b o → i ≡ uint_at b o → HaveReadSet b (o + 4) m (uint_at b o) i least xs → IsSetAt b o m xs

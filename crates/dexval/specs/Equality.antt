@@ -6,6 +6,7 @@ use Rattle.std.specs.Cmp.{IsEquivalence, decided, on_equiv, unsigned_Decides, fi
 use Rattle.std.specs.Coded.{Coded, coded_ℕ, coded_list, coded×, code_by}
 use Rattle.std.specs.Hash as fed
 use base.Stored.{Gv, gnil, gnum, gcons}
+use Rattle.dexspec.proofs.lists.Members.{and_both}
 use Rattle.dexval.specs.declared.set.AnnotationSet.{AnnotationSet}
 use Rattle.dexval.specs.Code.{set_of}
 use Rattle.dexval.specs.Numbered.{NumberedValue, NumberedValues, NumberedElements, NumberedAnnotation, NumberedSet}
@@ -34,14 +35,10 @@ tree_is (gcons g h) (gcons k l) e =
     (tree_is h l (second_so (same_tree g k) (same_tree h l) e))
 tree_is g h e = absurd (false_is_not_true e)
 
-both : (a b : Bool) → a ≡ true → b ≡ true → (a && b) ≡ true
-both true b h k = k
-both false b h k = absurd (false_is_not_true h)
-
 tree_self : (g : Gv) → same_tree g g ≡ true
 tree_self gnil = refl
 tree_self (gnum i) = (unsigned_Decides i i).1 refl
-tree_self (gcons g h) = both (same_tree g g) (same_tree h h) (tree_self g) (tree_self h)
+tree_self (gcons g h) = and_both (same_tree g g) (same_tree h h) (tree_self g) (tree_self h)
 
 -- an annotation: its parts
 abbrev annotation_code : Coded NumberedAnnotation

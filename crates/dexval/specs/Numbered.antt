@@ -10,6 +10,7 @@ use Rattle.dexspec.specs.Annotations.{Annotation, AnnotationSet, Directory}
 use Rattle.dexspec.specs.Mentions.{Mentions}
 use Rattle.dexpool.specs.declared.symbols.SymbolKind.{SymbolKind}
 use Rattle.dexpool.specs.declared.symbols.SymbolKind.TheVariants as kinds
+pub use Rattle.dexpool.specs.NumberedSymbols.{text_at, type_at}
 use Rattle.dexpool.specs.Pools.{count_of}
 
 -- ---- values, annotations, sets
@@ -86,14 +87,6 @@ name_numbers NoElement = []
 name_numbers (ThenNamed name x es) = name ∷ name_numbers es
 
 -- ---- what numbers denote
-
--- the text of a number
-abbrev pub text_at : Mentions → ℕ → Text
-text_at m i = slice_index_or m.texts i []
-
--- the type of a number
-abbrev pub type_at : Mentions → ℕ → Text
-type_at m i = slice_index_or m.types i []
 
 -- the field of a number
 abbrev pub field_at : Mentions → ℕ → Field

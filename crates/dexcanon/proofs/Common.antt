@@ -15,7 +15,7 @@ pub use Rattle.dexhead.specs.Written.{StatesTables}
 unfoldable pub use Rattle.dexhead.specs.Written.{field_bytes, head_bytes}
 pub use Rattle.dexhead.specs.declared.head.Head.{Head}
 pub use Rattle.dexlayout.specs.Laid.{AreWritable, IsLaid, file_end, ordered_of}
-pub use Rattle.dexlayout.specs.Places.{EncodedItems, EncodedSharedItems, ItemPlaces, Places, SetPlaces}
+pub use Rattle.dexlayout.specs.Places.{EncodedItems, EncodedSharedItems, ItemPlaces, Places, SetPlaces, SharedPlaces}
 pub use Rattle.dexpool.proofs.UnionLaws.{ranks_are_numbers}
 pub use Rattle.dexpool.specs.Laws.{RanksAreNumbers}
 pub use Rattle.dexspec.proofs.layout.Placements.{length-array_offsets, length-class_data_offsets, length-class_offsets, length-directory_offsets, length-type_list_offsets, length-zip_with, sections_follow}

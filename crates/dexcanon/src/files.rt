@@ -30,21 +30,22 @@ fn encode_tables<O: Output>(contents: &Contents<'_, '_, '_>, out: &mut O)
     ClassDefs::encode(contents, contents.classes.len(), out);
 }
 
-// Writes the sections of the data. All but the texts are encoded in the layout.
+// Writes the sections of the data. Texts, type lists, lists of sets, and much code are encoded here, the others in the
+// layout.
 fn encode_data<O: Output>(contents: &Contents<'_, '_, '_>, out: &mut O)
     requires { CanBeMade contents.now }
     ensures { O.gives (data_of contents.now) out.old out.new }
 {
     let layout = contents.layout;
-    out.bytes(layout.type_lists().bytes());
+    layout.encode_type_lists(contents.numbering, contents.classes, out);
     out.bytes(layout.annotations().bytes());
     out.bytes(layout.static_values().bytes());
     StringDataItems::encode(contents, contents.numbering.count(SymbolKind::Text), out);
     out.bytes(layout.debugs().bytes());
-    out.bytes(layout.codes().bytes());
+    layout.encode_codes(contents.classes, out);
     out.bytes(layout.class_data().bytes());
     out.bytes(layout.sets().written().bytes());
-    out.bytes(layout.ref_lists().bytes());
+    layout.encode_ref_lists(contents.classes, out);
     out.bytes(layout.directories().bytes());
 }
 

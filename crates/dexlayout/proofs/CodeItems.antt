@@ -1,8 +1,9 @@
 -- The code of methods: by numbers, it is the code_items of the file.
-use Rattle.dexlayout.proofs.Common.{◌≡◌, ℕ, ◌+◌, ◌<◌, ◌≤◌, List, [], ◌∷◌, ◌++◌, length, get_or, map, drop, Option, None, Some, refl, sym, ap, subst, ◌∙◌, arith, IfSome, All, flat_map, option_map, option_map_or, drop_more, length-drop, length-map, map-append, All-nil, All-head, All-tail, All-append, zip_with, MethodDef, declared_methods, Mentions, CodeItems, code_bytes, all_methods, code_uses, uses_offsets, debug_section, code_section, length-debug_offsets, length-code_offsets, AreRising, all_of, NumberedItem, handlers_of, code_in, IsKnownCode, numbered_code_bytes, HasShortTypes, NumberedMembers, NumberedMethod, method_in, AreKnownMembers, IsKnownMethod, methods_of, NumberedClass, definition_of, IsKnownClass, AreCodes, AreLaidIn, AreWritable, ordered_of, EncodedItems, ItemPlaces, code_item, code_items, HasShortCode, encode_use, encode_uses, no_items_from}
+use Rattle.dexlayout.proofs.Common.{◌≡◌, ℕ, ◌+◌, ◌<◌, ◌≤◌, List, [], ◌∷◌, ◌++◌, length, get_or, map, drop, Option, None, Some, refl, sym, ap, subst, ◌∙◌, arith, IfSome, All, flat_map, option_map, option_map_or, drop_more, length-drop, length-map, map-append, All-nil, All-head, All-tail, All-append, zip_with, MethodDef, declared_methods, Mentions, CodeItems, code_bytes, all_methods, code_uses, uses_offsets, debug_section, code_section, length-debug_offsets, length-code_offsets, AreRising, all_of, NumberedItem, handlers_of, code_in, IsKnownCode, numbered_code_bytes, HasShortTypes, NumberedMembers, NumberedMethod, method_in, AreKnownMembers, IsKnownMethod, methods_of, NumberedClass, definition_of, IsKnownClass, AreEncodedIn, AreKept, AreKeptIn, AreLaidIn, AreWritable, ordered_of, EncodedItems, KeptItems, ItemPlaces, Placed, code_item, code_items, HasShortCode, encode_use, encode_uses, no_items_from}
+use Rattle.std.proofs.lemmas.Option.{IfSome_then}
 use Rattle.dexspec.specs.Code as symbolic
 use Rattle.dexcode.specs.Laws.{CodeBytesAreDenoted, CaughtTypesAreShort}
-use Rattle.dexlayout.proofs.EncodedUses.{own_in, use_encoded, use_fits, drop_next}
+use Rattle.dexlayout.proofs.EncodedUses.{all_encoded_by, own_in, use_encoded, use_ends, use_fits, drop_next}
 
 -- ---- the methods of classes
 
@@ -64,7 +65,7 @@ module _ (m : Mentions) (cs : List NumberedClass) (w : AreWritable m cs) (bytes 
       ∙ ap (λ xs. map (option_map (item_of m w.numbering.rising bytes)) (zip_with (use_of m w.numbering.rising bytes) xs (uses_offsets (debug_section (ordered_of m cs))))) (sym (methods_mean m cs))
 
   -- encoded after the debug programs
-  pub codes_laid : AreCodes m cs (encode_uses 4 (no_items_from debugs.end) (code_items (methods_in_all cs) debugs.offsets))
+  pub codes_laid : AreEncodedIn (code_section (ordered_of m cs)) (encode_uses 4 (no_items_from debugs.end) (code_items (methods_in_all cs) debugs.offsets))
   unfolding code_section
   codes_laid = own_in 4 (item_of m w.numbering.rising bytes) CodeItems (code_uses (ordered_of m cs) (uses_offsets (debug_section (ordered_of m cs)))) laid.end_is items_are
 
@@ -75,6 +76,12 @@ pub record CodesLeft (items : EncodedItems) (xs : List NumberedMethod) (offs : L
   pub enough : length xs ≤ length offs
   pub short : All HasShortCode xs
   pub encoded : encode_uses 4 items (code_items xs offs) ≡ all
+
+-- the same, where what is kept of the items is this
+pub record CodesLeftOf (Keeps : EncodedItems → Type 0) (xs : List NumberedMethod) (offs : List ℕ) (all : EncodedItems) : Type 0 where
+  pub items : EncodedItems
+  pub keeps : Keeps items
+  pub left : CodesLeft items xs offs all
 
 -- at the start all of it is left
 module _ (m : Mentions) (cs : List NumberedClass) (w : AreWritable m cs) (types : CaughtTypesAreShort) (debugs : ItemPlaces) (laid : AreLaidIn (debug_section (ordered_of m cs)) debugs) where
@@ -108,3 +115,30 @@ module _ {items all : EncodedItems} (xs : List NumberedMethod) (offs : List ℕ)
     short = All-tail HasShortCode x (drop (i + 1) xs) one_left.short;
     encoded = use_encoded 4 {left = code_items (x ∷ drop (i + 1) xs) (get_or offs i 0 ∷ drop (i + 1) offs)} items refl one_left.encoded now;
   }
+
+-- what is kept of the items of that method ends where it is to
+module _ {Keeps : EncodedItems → Type 0} {all : EncodedItems} (at : ℕ) (ends : (items : EncodedItems) → Keeps items → items.places.end ≡ at) (xs : List NumberedMethod) (offs : List ℕ) (i : ℕ) (x : NumberedMethod) (lt : i < length xs) (is : get_or xs i x ≡ x) (h : CodesLeftOf Keeps (drop i xs) (drop i offs) all) where
+  pub next_fits : (encode_use 4 (no_items_from at) (code_item x (get_or offs i 0))).places.end ≤ all.places.end
+  next_fits = omega (arith, use_ends 4 h.items (no_items_from at) (code_item x (get_or offs i 0)) (ends h.items h.keeps), one_fits xs offs i x lt is h.left)
+
+-- what is kept of the items of that method and of those before it
+module _ {Old New : EncodedItems → Type 0} {all : EncodedItems} (xs : List NumberedMethod) (offs : List ℕ) (i : ℕ) (x : NumberedMethod) (lt : i < length xs) (is : get_or xs i x ≡ x) (h : CodesLeftOf Old (drop i xs) (drop i offs) all) where
+  pub next_left : ((items : EncodedItems) → Old items → New (encode_use 4 items (code_item x (get_or offs i 0)))) → CodesLeftOf New (drop (i + 1) xs) (drop (i + 1) offs) all
+  next_left step = record {
+    items = encode_use 4 h.items (code_item x (get_or offs i 0));
+    keeps = step h.items h.keeps;
+    left = one_encoded xs offs i x lt is h.left refl;
+  }
+
+-- none is left
+pub none_left : {Keeps : EncodedItems → Type 0} {xs : List NumberedMethod} {offs : List ℕ} {all : EncodedItems} → xs ≡ [] → CodesLeftOf Keeps xs offs all → Keeps all
+none_left {Keeps = Keeps} {offs = offs} none h = subst Keeps (all_encoded_by 4 (ap (λ ys. code_items ys offs) none) h.left.encoded) h.keeps
+
+-- ---- items that are kept
+
+-- those of a section
+pub kept_in : {S : Placed} {items : EncodedItems} {p : KeptItems} → AreEncodedIn S items → AreKept items p → AreKeptIn S p
+kept_in {S} {items} {p} h kept = record {
+  bytes_are = IfSome_then p.bytes kept.bytes_are (λ bytes e. e ∙ h.bytes_are);
+  places_are = subst (AreLaidIn S) (sym kept.places_are) h.places_are;
+}

@@ -146,6 +146,36 @@ module _ (align : ℕ) where
   pub all_encoded_by : {p all : EncodedItems} {left : List (Option (List ℕ))} → left ≡ [] → encode_uses align p left ≡ all → p ≡ all
   all_encoded_by {p} none whole = ap (encode_uses align p) (sym none) ∙ whole
 
+-- ---- the item of one use, wherever the items before it are
+
+-- its end depends on theirs alone
+pub use_ends : (align : ℕ) (p q : EncodedItems) (u : Option (List ℕ)) → p.places.end ≡ q.places.end → (encode_use align p u).places.end ≡ (encode_use align q u).places.end
+use_ends align p q None e = e
+use_ends align p q (Some x) e = ap (λ n. round_up align n + length x) e
+
+-- its offset depends on their places alone
+pub use_places : (align : ℕ) (p q : EncodedItems) (u : Option (List ℕ)) → p.places ≡ q.places → (encode_use align p u).places ≡ (encode_use align q u).places
+use_places align p q None e = ap pass e
+use_places align p q (Some x) e = ap (λ (o : ItemPlaces). put_at o (round_up align o.end) (length x)) e
+
+-- its bytes are after theirs
+pub use_bytes : (align at : ℕ) (p : EncodedItems) (u : Option (List ℕ)) → p.places.end ≡ at → (encode_use align p u).bytes ≡ p.bytes ++ (encode_use align (no_items_from at) u).bytes
+use_bytes align at p None e = sym (append-nil p.bytes)
+use_bytes align at p (Some x) e = append_assoc p.bytes (padding align p.places.end) x ∙ ap (λ n. p.bytes ++ (padding align n ++ x)) e
+
+-- items that were given to an output: where they end, and their bytes
+pub record IsGiven {O : Type 0} (gives : List ℕ → O → O → Type 0) (start : O) (at : ℕ) (now : O) (items : EncodedItems) : Type 0 where
+  pub ends : items.places.end ≡ at
+  pub given : gives items.bytes start now
+
+-- one more
+pub given_next : {O : Type 0} {gives : List ℕ → O → O → Type 0} {start now next : O} {at end : ℕ} (u : Option (List ℕ)) → ((x y : List ℕ) (a b c : O) → gives x a b → gives y b c → gives (x ++ y) a c) → end ≡ (encode_use 4 (no_items_from at) u).places.end
+    → gives (encode_use 4 (no_items_from at) u).bytes now next → (items : EncodedItems) → IsGiven gives start at now items → IsGiven gives start end next (encode_use 4 items u)
+given_next {gives = gives} {start} {now} {next} {at} {end} u both is more items h = record {
+  ends = use_ends 4 items (no_items_from at) u h.ends ∙ sym is;
+  given = subst (λ bytes. gives bytes start next) (sym (use_bytes 4 at items u h.ends)) (both items.bytes (encode_use 4 (no_items_from at) u).bytes start now next h.given more);
+}
+
 -- ---- they are those of a section
 
 -- how many bytes the item of a use has, if it has one

@@ -5,6 +5,8 @@ pub mod DataItems
 pub mod DebugsApart
 pub mod EncodedUses
 pub mod Ends
+pub mod FirstUses
+pub mod ListUses
 pub mod OwnCounts
 pub mod OwnFile
 pub mod RefLists

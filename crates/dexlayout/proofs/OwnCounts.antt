@@ -40,7 +40,7 @@ module _ {X : Type 0} (f : X → List ℕ) (align : ℕ) where
 -- ---- those of each section
 
 -- the data begins after the header
-starts : (K : Ordered) → 0 < data_start K
+pub starts : (K : Ordered) → 0 < data_start K
 starts K = omega arith
 
 array_count : (K : Ordered) → count_placed (uses_offsets (array_section K)) ≡ length (array_section K).items
@@ -85,7 +85,7 @@ pub record AreCounted (K : Ordered) (d : Data) : Type 0 where
   pub codes : AreAsMany (count_placed d.bodies.codes.places.offsets) (code_section K)
   pub class_data : AreAsMany (count_placed d.bodies.class_data.places.offsets) (class_data_section K)
   pub sets : AreAsMany (length d.back.sets.written.places.offsets) (set_section K)
-  pub ref_lists : AreAsMany (count_placed d.back.ref_lists.places.offsets) (ref_list_section K)
+  pub ref_lists : AreAsMany (count_placed d.back.ref_lists.offsets) (ref_list_section K)
   pub directories : AreAsMany (count_placed d.back.directories.places.offsets) (directory_section K)
 
 pub counted : {m : Mentions} {cs : List NumberedClass} {d : Data} → AreWritable m cs → AreData m cs d → AreCounted (ordered_of m cs) d
@@ -104,7 +104,7 @@ counted {m} {cs} {d} w h =
       codes = (ap count_placed h.bodies_are.codes_are.places_are.offsets_are ∙ code_count K, few (code_section K) (b 5 t (omega arith)) ends.codes);
       class_data = (ap count_placed h.bodies_are.class_data_are.places_are.offsets_are ∙ class_data_count K, few (class_data_section K) (b 6 t (omega arith)) ends.class_data);
       sets = (ap (λ (os : List ℕ). length os) h.back_are.sets_are.written_are.places_are.offsets_are ∙ length-offsets (set_section K), few (set_section K) (b 7 t (omega arith)) ends.sets);
-      ref_lists = (ap count_placed h.back_are.ref_lists_are.places_are.offsets_are ∙ ref_list_count K, few (ref_list_section K) (b 8 t (omega arith)) ends.ref_lists);
+      ref_lists = (ap count_placed h.back_are.ref_lists_are.offsets_are ∙ ref_list_count K, few (ref_list_section K) (b 8 t (omega arith)) ends.ref_lists);
       directories = (ap count_placed h.back_are.directories_are.places_are.offsets_are ∙ directory_count K, few (directory_section K) (b 9 t (omega arith)) ends.directories);
     }
 

@@ -1,7 +1,7 @@
 -- Lists of offsets that are encoded one after the other, and the offsets that are left.
-use Rattle.dexlayout.proofs.Common.{◌≡◌, ℕ, ◌+◌, ◌<◌, ◌≤◌, List, [], ◌∷◌, ◌++◌, length, get_or, map, take, drop, Option, None, Some, refl, sym, ap, ◌∙◌, arith, flat_map, length-append, length-drop, chunks, offsets_bytes, methods_of, NumberedClass, take_at, drop_at, option_map, length-map, length-take, map-append, flat_map-append, map-map, Definition, MethodDef, declared_fields, declared_methods, Mentions, SetOffsets, set_offsets_of, class_sets, method_sets, ref_list_uses, unless_empty, set_offsets, ref_list_section, AnnotationSetRefLists, set_in, NumberedMethod, method_in, definition_of, offset_lists, total, list_item, parameter_counts, class_parameter_counts, SetPlaces, ordered_of, AreRefLists, AreSets, encode_uses, no_items_from}
+use Rattle.dexlayout.proofs.Common.{◌≡◌, ℕ, ◌+◌, ◌<◌, ◌≤◌, List, [], ◌∷◌, ◌++◌, length, get_or, map, take, drop, Option, None, Some, refl, sym, ap, subst, ◌∙◌, arith, flat_map, length-append, length-drop, chunks, offsets_bytes, methods_of, NumberedClass, take_at, drop_at, option_map, length-map, length-take, map-append, flat_map-append, map-map, Definition, MethodDef, declared_fields, declared_methods, Mentions, SetOffsets, set_offsets_of, class_sets, method_sets, ref_list_uses, unless_empty, set_offsets, ref_list_section, AnnotationSetRefLists, set_in, NumberedMethod, method_in, definition_of, offset_lists, total, list_item, parameter_counts, class_parameter_counts, SetPlaces, ordered_of, AreEncodedIn, EncodedItems, AreSets, encode_use, encode_uses, no_items_from}
 use Rattle.std.proofs.lemmas.List.Folds.{flat_map-map}
-use Rattle.dexlayout.proofs.EncodedUses.{drop_next, own_in}
+use Rattle.dexlayout.proofs.EncodedUses.{all_encoded_by, drop_next, own_in, use_encoded, use_ends, use_fits}
 use Rattle.dexlayout.proofs.SetsCollected.{parts, class_count, set_use_offsets, length-set_use_offsets, set_offsets_are}
 
 -- ---- one list
@@ -131,6 +131,36 @@ module _ (m : Mentions) (cs : List NumberedClass) {sets : SetPlaces} (are : AreS
       ∙ sym (map-map (option_map offsets_bytes) unless_empty (lists_of ss)) ∙ ap (map (option_map offsets_bytes)) (lists_used ss)
 
   -- encoded after the sets they are those of the file
-  pub ref_lists_laid : AreRefLists m cs (encode_uses 4 (no_items_from sets.written.places.end) (offset_lists list_item (class_parameter_counts cs) sets.parameters))
+  pub ref_lists_laid : AreEncodedIn (ref_list_section (ordered_of m cs)) (encode_uses 4 (no_items_from sets.written.places.end) (offset_lists list_item (class_parameter_counts cs) sets.parameters))
   unfolding ref_list_section
   ref_lists_laid = own_in 4 offsets_bytes AnnotationSetRefLists (ref_list_uses (ordered_of m cs) (set_offsets (ordered_of m cs))) are.written_are.places_are.end_is lists_are
+
+-- ---- list by list
+
+-- encoding the lists that are left, of these numbers of offsets, gives all, where what is kept of the items is this
+pub record ListsLeft (Keeps : EncodedItems → Type 0) (ns rest : List ℕ) (all : EncodedItems) : Type 0 where
+  pub items : EncodedItems
+  pub keeps : Keeps items
+  pub encoded : encode_uses 4 items (offset_lists list_item ns rest) ≡ all
+  pub enough : total ns ≤ length rest
+
+-- other numbers that are equal
+pub lists_same : {Keeps : EncodedItems → Type 0} {ns ks rest : List ℕ} {all : EncodedItems} → ns ≡ ks → ListsLeft Keeps ns rest all → ListsLeft Keeps ks rest all
+lists_same {Keeps} {rest = rest} {all} e h = subst (λ ns. ListsLeft Keeps ns rest all) e h
+
+-- one is the next
+module _ {Keeps : EncodedItems → Type 0} {all : EncodedItems} {n : ℕ} {ns left others list : List ℕ} (rest : List ℕ) (e : left ≡ n ∷ ns) (back : others ≡ drop n rest) (front : list ≡ take n rest) (h : ListsLeft Keeps left rest all) where
+  pub list_fits : (p : EncodedItems) → ((items : EncodedItems) → Keeps items → items.places.end ≡ p.places.end) → (encode_use 4 p (list_item list)).places.end ≤ all.places.end
+  list_fits p ends = omega (arith, use_ends 4 h.items p (list_item list) (ends h.items h.keeps), use_fits 4 h.items (next_list rest e back list_item front) h.encoded)
+
+  pub lists_more : {New : EncodedItems → Type 0} → ((items : EncodedItems) → Keeps items → New (encode_use 4 items (list_item list))) → ListsLeft New ns others all
+  lists_more step = record {
+    items = encode_use 4 h.items (list_item list);
+    keeps = step h.items h.keeps;
+    encoded = use_encoded 4 h.items (next_list rest e back list_item front) h.encoded refl;
+    enough = enough_left rest e back h.enough;
+  }
+
+-- none is left
+pub no_lists : {Keeps : EncodedItems → Type 0} {ns rest : List ℕ} {all : EncodedItems} → ns ≡ [] → ListsLeft Keeps ns rest all → Keeps all
+no_lists {Keeps} {rest = rest} none h = subst Keeps (all_encoded_by 4 (ap (λ ks. offset_lists list_item ks rest) none) h.encoded) h.keeps

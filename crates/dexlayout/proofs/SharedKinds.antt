@@ -1,5 +1,5 @@
 -- The kinds of item that uses share: their offsets, their bytes, and what they denote.
-use Rattle.dexlayout.proofs.Common.{◌≡◌, ℕ, ◌<◌, List, length, get_or, Some, sym, ap, subst, ◌∙◌, arith, All, IfSome, None, Option, get_or_default, Items, Placed, offsets_from, length-offsets_from, numbers_offsets, AreNumbered, IsNumber, ◌+◌, ◌*◌, [], ◌∷◌, ◌++◌, map, refl, flat_map, length-append, length-map, All-head, All-tail, ushort, uint, Mentions, type_index, type_list_bytes, RanksAreNumbers, type_at, Bool, rank, text_cmp, same_types, same_set, IsEquality, types_decide, set_decides, AreRising, ranks_are_numbers, NumberedSet, set_in, IsKnownSet, ◌^◌, ◌≤◌, append_assoc, Bor, option_map, option_map_or, flat_map-append, map-append, map-map, AnnotationSet, data_start, type_list_items, type_list_section, set_items, string_section, debug_items, debug_section, FieldDef, MethodDef, Debug, unless_empty, method_sets, class_sets, type_list_uses, set_uses, debug_uses, shared_items, end, same_debug, TypeLists, DebugInfoItems, debug_bytes, shared_numbered, text_decides, debug_decides, code_in, IsKnownCode, NumberedItem, set_of, NumberedField, NumberedMethod, IsKnownMethod, field_in, method_in, methods_of, NumberedClass, definition_of, ItemPlaces, EncodedItems, AreItemsIn, AreLaidSo, AreSharedIn, shared_by, list_bytes, AreTypes, same_numbers, same_numbers_decides, AreShared, AreTypeLists, AreDebugs, AreWritable, ordered_of, same_bytes, debug_encoding, debug_encodings, all_debug_encodings, encoded_lists, encoded_debugs, HaveItems, SharesLists, SharesSets, interfaces_use, set_use, field_uses, method_uses, methods_uses, members_uses}
+use Rattle.dexlayout.proofs.Common.{◌≡◌, ℕ, ◌<◌, List, length, get_or, Some, sym, ap, subst, ◌∙◌, arith, All, IfSome, None, Option, get_or_default, Items, Placed, offsets_from, length-offsets_from, numbers_offsets, AreNumbered, IsNumber, ◌+◌, ◌*◌, [], ◌∷◌, ◌++◌, map, refl, flat_map, length-append, length-map, All-head, All-tail, ushort, uint, Mentions, type_index, type_list_bytes, RanksAreNumbers, type_at, Bool, rank, text_cmp, same_types, same_set, IsEquality, types_decide, set_decides, AreRising, ranks_are_numbers, NumberedSet, set_in, IsKnownSet, ◌^◌, ◌≤◌, append_assoc, Bor, option_map, option_map_or, flat_map-append, map-append, map-map, AnnotationSet, data_start, type_list_items, type_list_section, set_items, string_section, debug_items, debug_section, FieldDef, MethodDef, Debug, unless_empty, method_sets, class_sets, type_list_uses, set_uses, debug_uses, shared_items, end, same_debug, TypeLists, DebugInfoItems, debug_bytes, shared_numbered, text_decides, debug_decides, code_in, IsKnownCode, NumberedItem, set_of, NumberedField, NumberedMethod, IsKnownMethod, field_in, method_in, methods_of, NumberedClass, definition_of, ItemPlaces, EncodedItems, AreItemsIn, AreLaidSo, AreSharedIn, shared_at, shared_by, list_bytes, AreTypes, same_numbers, same_numbers_decides, AreShared, AreTypeLists, AreDebugs, AreWritable, ordered_of, same_bytes, debug_encoding, debug_encodings, all_debug_encodings, encoded_lists, encoded_debugs, HaveItems, SharesLists, SharesSets, interfaces_use, set_use, field_uses, method_uses, methods_uses, members_uses}
 use Rattle.dexspec.proofs.numbers.ByteNumbers.{length-uint, length-ushort}
 use Rattle.dexspec.proofs.written.PlacedBytes.{length_rows}
 use Rattle.std.specs.Bool.{Decides}
@@ -115,8 +115,8 @@ module _ (m : Mentions) (cs : List NumberedClass) (w : AreWritable m cs) (from :
   lists_numbers = h.numbers_are
 
   -- the type lists of the file
-  pub lists_laid : AreTypeLists m cs (shared_by numbers (encoded_lists from written))
-  lists_laid = shared_in numbers lists_numbers lists_encoded
+  pub lists_laid : AreTypeLists m cs (shared_at numbers (encoded_lists from written).places)
+  lists_laid = let h = shared_in numbers lists_numbers lists_encoded in record { count_is = h.count_is; places_are = h.places_are }
 
 -- ---- annotation sets
 

@@ -1,5 +1,6 @@
 -- When a layout is that of the canonical file of classes.
-use Rattle.std.specs.Prelude.{◌≡◌, ℕ, ◌+◌, ◌^◌, ◌≤◌, Option, List, [], ◌∷◌, ◌++◌, map, length, All, drop, slice_index}
+use Rattle.std.specs.Prelude.{◌≡◌, ℕ, ◌+◌, ◌^◌, ◌≤◌, Option, IfSome, List, [], ◌∷◌, ◌++◌, map, length, All, drop}
+use Rattle.std.specs.Prelude.{slice_index}
 use Rattle.std.specs.List.{Contains, flat_map}
 use Rattle.dexspec.specs.Bytes.{padding}
 use Rattle.dexspec.specs.Debug.{Debug}
@@ -17,7 +18,8 @@ use Rattle.dexpool.specs.Numberings.{IsNumbering}
 use Rattle.dexclass.specs.Numbered.{NumberedClass, definition_of}
 use Rattle.dexclass.specs.Uses.{IsKnownClass}
 use Rattle.dexclass.specs.Programs.{AreClassesOf}
-use Rattle.dexlayout.specs.Places.{ItemPlaces, EncodedItems, EncodedSharedItems, SetPlaces, Places}
+use Rattle.dexlayout.specs.Places.{ItemPlaces, EncodedItems, KeptItems, EncodedSharedItems, SharedPlaces, SetPlaces}
+use Rattle.dexlayout.specs.Places.{Places}
 
 -- ---- classes that are laid out
 
@@ -61,9 +63,19 @@ pub record AreEncodedIn (section : Placed) (p : EncodedItems) : Type 0 where
   pub bytes_are : p.bytes ≡ section_bytes section
   pub places_are : AreLaidIn section p.places
 
+-- items of uses have the offsets and the end that they have in this section, and if their bytes are kept, the bytes
+pub record AreKeptIn (section : Placed) (p : KeptItems) : Type 0 where
+  pub bytes_are : IfSome p.bytes (λ bytes. bytes ≡ section_bytes section)
+  pub places_are : AreLaidIn section p.places
+
 -- items that uses share have the bytes, the number and the offsets that they have in this section
 pub record AreSharedIn (section : Placed) (p : EncodedSharedItems) : Type 0 where
   pub bytes_are : p.bytes ≡ section_bytes section
+  pub count_is : p.count ≡ length section.items
+  pub places_are : AreLaidIn section p.places
+
+-- the same without the bytes
+pub record AreSharedAt (section : Placed) (p : SharedPlaces) : Type 0 where
   pub count_is : p.count ≡ length section.items
   pub places_are : AreLaidIn section p.places
 
@@ -73,8 +85,8 @@ pub record AreItemsIn (section : Placed) (p : EncodedItems) : Type 0 where
   pub places_are : AreLaidSo (offsets section) (end section) p.places
 
 -- the type lists
-abbrev pub AreTypeLists : Mentions → List NumberedClass → EncodedSharedItems → Type 0
-AreTypeLists m cs = AreSharedIn (type_list_section (ordered_of m cs))
+abbrev pub AreTypeLists : Mentions → List NumberedClass → SharedPlaces → Type 0
+AreTypeLists m cs = AreSharedAt (type_list_section (ordered_of m cs))
 
 -- the annotations of the sets that are written
 abbrev pub AreAnnotations : Mentions → List NumberedClass → EncodedItems → Type 0
@@ -97,16 +109,16 @@ abbrev pub AreStaticValues : Mentions → List NumberedClass → EncodedItems �
 AreStaticValues m cs = AreEncodedIn (array_section (ordered_of m cs))
 
 -- the code
-abbrev pub AreCodes : Mentions → List NumberedClass → EncodedItems → Type 0
-AreCodes m cs = AreEncodedIn (code_section (ordered_of m cs))
+abbrev pub AreCodes : Mentions → List NumberedClass → KeptItems → Type 0
+AreCodes m cs = AreKeptIn (code_section (ordered_of m cs))
 
 -- the class data
 abbrev pub AreClassData : Mentions → List NumberedClass → EncodedItems → Type 0
 AreClassData m cs = AreEncodedIn (class_data_section (ordered_of m cs))
 
 -- the lists of sets of parameters
-abbrev pub AreRefLists : Mentions → List NumberedClass → EncodedItems → Type 0
-AreRefLists m cs = AreEncodedIn (ref_list_section (ordered_of m cs))
+abbrev pub AreRefLists : Mentions → List NumberedClass → ItemPlaces → Type 0
+AreRefLists m cs = AreLaidIn (ref_list_section (ordered_of m cs))
 
 -- the directories
 abbrev pub AreDirectories : Mentions → List NumberedClass → EncodedItems → Type 0

@@ -14,6 +14,7 @@ unfoldable pub use internal.Directories.*
 unfoldable pub use internal.Encoding.*
 unfoldable pub use internal.Encodings.*
 unfoldable pub use internal.Collecting.*
+unfoldable pub use internal.Kept.*
 unfoldable pub use internal.OffsetLists.*
 unfoldable pub use internal.Parts.*
 unfoldable pub use internal.Placing.*

@@ -6,6 +6,7 @@ pub mod Directories
 pub mod Encoding
 pub mod Encodings
 pub mod Collecting
+pub mod Kept
 pub mod OffsetLists
 pub mod Parts
 pub mod Placing

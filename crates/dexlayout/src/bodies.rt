@@ -10,17 +10,17 @@ ghost use Rattle.dexlayout.specs.ItemKeys.{same_bytes};
 ghost use Rattle.dexlayout.specs.internal.Adding.{AreOfUses};
 ghost use Rattle.dexlayout.specs.internal.Encoding.{class_data_item, encode_use, has_no_members};
 ghost use Rattle.dexlayout.specs.internal.Encodings.{AddsEncodings, all_debug_encodings, debug_encoding, debug_encodings, debug_of};
-ghost use Rattle.dexlayout.specs.internal.Placing.{CanPlaceClassData, CanPlaceCodes, PlacedClassData, PlacedCodes, PlacedFrom, encoded_debugs};
-ghost use Rattle.dexlayout.specs.internal.Codes.{HasShortCode, code_item};
+ghost use Rattle.dexlayout.specs.internal.Placing.{CanPlaceClassData, PlacedClassData, PlacedFrom, encoded_debugs};
 ghost use Rattle.dexlayout.specs.internal.Parts.{AreBodies};
 
+use crate::codes::{Codes, place_codes};
 use crate::input::{Input, method_at};
 use crate::items::{Items, SharedItems};
 use crate::keys::ItemKey;
 use crate::offsets::Offsets;
 use crate::sharing::{Shared, Sharing};
 use dexclass::Class;
-use dexcode::{CodeItem, Debug, code_bytes_law, code_types_law, put_debug};
+use dexcode::{Debug, put_debug};
 use dexmembers::{Members, Method};
 use dexpool::Numbering;
 use std::alloc::{AllocError, Global};
@@ -29,7 +29,7 @@ use std::alloc::{AllocError, Global};
 #[derive(Drop)]
 pub(crate) struct Bodies {
     pub(crate) debugs: SharedItems,
-    pub(crate) codes: Items,
+    pub(crate) codes: Codes,
     pub(crate) class_data: Items,
 }
 
@@ -124,43 +124,6 @@ fn place_debugs(input: &Input<'_, '_>, from: u32) -> Result<SharedItems, AllocEr
     let Shared { written, numbers } = share_encodings(input)?;
     let items = put_written(input.alloc, &written, from)?;
     SharedItems::of(input.alloc, items, &numbers)
-}
-
-/// The code of each method of each class, the direct ones first, encoded, and their offsets. It is after the debug
-/// programs, whose offsets it contains.
-///
-/// Source: "code_item".
-fn place_codes(input: &Input<'_, '_>, debugs: &Offsets) -> Result<Items, AllocError>
-    requires { CanPlaceCodes input.now.classes.now debugs.now }
-    ensures { IfOk result (PlacedCodes input.now.classes.now debugs.now) }
-{
-    code_bytes_law();
-    code_types_law();
-    let mut rest = debugs.offsets();
-    let mut items = Items::starting_at(input.alloc, debugs.end(), rest.len())?;
-    for class in input.classes {
-        let members = class.members();
-        members.are_few();
-        let count = members.method_count();
-        for i in 0..count {
-            put_method(&method_at(members, i), rest[i], &mut items)?;
-        }
-        rest = rest.split_at(count).1;
-    }
-    Ok(items)
-}
-
-// Encodes the code of a method after the others, if it has some.
-fn put_method(method: &Method<'_, '_>, debug_off: u32, items: &mut Items) -> Result<(), AllocError>
-    requires short { HasShortCode method.now }
-    requires fits { (encode_use 4 items.old (code_item method.now debug_off)).places.end ≤ 2 ^ 30 }
-    ensures { OnOk result (items.new ≡ encode_use 4 items.old (code_item method.now debug_off)) }
-{
-    let Some(code) = method.code() else {
-        return items.pass();
-    };
-    code_bytes_law();
-    items.put(&CodeItem { code, debug_off }, code.weight() as usize)
 }
 
 /// The class data of the classes, encoded, and their offsets: one for each class. They are after the code, whose

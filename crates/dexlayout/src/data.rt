@@ -12,7 +12,7 @@ ghost use Rattle.dexlayout.specs.internal.Placing.{AreStringsFrom, CanPlaceRefLi
 use crate::bodies::{Bodies, place_bodies};
 use crate::directories::{place_directories, place_ref_lists};
 use crate::input::Input;
-use crate::items::{Items, SharedItems};
+use crate::items::{Items, SharedOffsets};
 use crate::map_entries::count_placed;
 use crate::offsets::{Offsets, round_up};
 use crate::sets::{Sets, place_sets, share_sets};
@@ -35,7 +35,7 @@ pub(crate) struct Data {
 /// The offsets of the items of the first sections.
 #[derive(Drop)]
 pub(crate) struct FirstSections {
-    pub(crate) type_lists: SharedItems,
+    pub(crate) type_lists: SharedOffsets,
     pub(crate) annotations: Items,
     pub(crate) static_values: Items,
     pub(crate) strings: Offsets,
@@ -45,7 +45,7 @@ pub(crate) struct FirstSections {
 #[derive(Drop)]
 pub(crate) struct Back {
     pub(crate) sets: Sets,
-    pub(crate) ref_lists: Items,
+    pub(crate) ref_lists: Offsets,
     pub(crate) directories: Items,
 }
 
@@ -149,7 +149,7 @@ impl Data {
         let class_data = count_placed(bodies.class_data.places().offsets()) as u32;
         let back = &self.back;
         let sets = back.sets.written().places().offsets().len() as u32;
-        let ref_lists = count_placed(back.ref_lists.places().offsets()) as u32;
+        let ref_lists = count_placed(back.ref_lists.offsets()) as u32;
         let directories = count_placed(back.directories.places().offsets()) as u32;
         let lists_end = first.type_lists.places().end();
         let annotations_end = first.annotations.places().end();
@@ -159,7 +159,7 @@ impl Data {
         let codes_end = bodies.codes.places().end();
         let class_data_end = round_up(bodies.class_data.places().end());
         let sets_end = round_up(back.sets.written().places().end());
-        let ref_lists_end = round_up(back.ref_lists.places().end());
+        let ref_lists_end = round_up(back.ref_lists.end());
         [
             entry(Section::TypeLists, lists, round_up(from)),
             entry(Section::AnnotationItems, annotations, lists_end),

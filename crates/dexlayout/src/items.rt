@@ -5,7 +5,7 @@ ghost use Rattle.std.specs.List.{flat_map};
 ghost use Rattle.dexspec.specs.Bytes.{uint};
 ghost use Rattle.dexspec.specs.Spellings.{offsets_bytes};
 ghost use Rattle.dexlayout.specs.internal.Encoding.{align_next, encode_use, end_item, no_items_from, pass_use};
-ghost use Rattle.dexlayout.specs.internal.Placing.{shared_by};
+ghost use Rattle.dexlayout.specs.internal.Placing.{shared_at, shared_by};
 
 use crate::item_number::ItemNumber;
 use crate::offsets::{Offsets, padding};
@@ -104,10 +104,10 @@ impl Items {
     }
 }
 
-// A list of offsets, encoded as how many they are, and each.
+/// A list of offsets, encoded as how many they are, and each.
 #[derive(Drop)]
-struct OffsetList<'o> {
-    offsets: &'o [u32],
+pub(crate) struct OffsetList<'o> {
+    pub(crate) offsets: &'o [u32],
 }
 
 impl Encode for OffsetList<'_> {
@@ -127,6 +127,54 @@ pub fn encode_numbers<O: Output>(numbers: &[u32], out: &mut O)
 {
     for number in numbers {
         out.u32(*number);
+    }
+}
+
+/// The items of one kind that are written, equal ones once, in the order of their first use, without their bytes: how
+/// many they are, and their offsets.
+#[derive(Drop)]
+pub struct SharedOffsets {
+    pub(crate) count: usize,
+    pub(crate) places: Offsets,
+}
+
+impl Model for SharedOffsets {
+    ghost use Rattle.dexlayout.specs.Places.{SharedPlaces};
+
+    ghost Value = { SharedPlaces };
+
+    ghost view = { λ o. record { count = o.count; places = o.places } };
+}
+
+impl SharedOffsets {
+    /// How many items are written.
+    pub fn count(&self) -> usize
+        ensures { result ≡ self.now.count }
+    {
+        self.count
+    }
+
+    /// Their offsets: one for each use, or 0 where it has no item.
+    pub fn places(&self) -> &Offsets
+        ensures { result.now ≡ self.now.places }
+    {
+        &self.places
+    }
+
+    /// The offset of the item of each use, from those of the items that are written. `numbers` has for each use the
+    /// number of its item, if it has one.
+    pub(crate) fn of(
+        alloc: Global,
+        written: &Offsets,
+        numbers: &[ItemNumber],
+    ) -> Result<SharedOffsets, AllocError>
+        requires { All (λ number. IfSome number (λ i. i < length written.now.offsets)) numbers.now }
+        ensures { IfOk result (λ items. items ≡ shared_at numbers.now written.now) }
+    {
+        Ok(SharedOffsets {
+            count: written.offsets().len(),
+            places: place_shared(alloc, numbers, written)?,
+        })
     }
 }
 

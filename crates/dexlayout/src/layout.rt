@@ -1,18 +1,23 @@
 //! Layouts of canonical files.
 
 ghost use Rattle.std.specs.Prelude.{◌≡◌, ◌≤◌, IfOk, length};
-ghost use Rattle.dexspec.specs.Canonical.{canonical};
-ghost use Rattle.dexlayout.specs.Laid.{AreWritable, IsLaid, IsWritable, IsLayoutOf};
+ghost use Rattle.dexspec.specs.Canonical.{canonical, code_section, ref_list_section, type_list_section};
+ghost use Rattle.dexspec.specs.Mentions.{Mentions};
+ghost use Rattle.dexspec.specs.Placing.{section_bytes};
+ghost use Rattle.dexlayout.specs.Laid.{AreWritable, IsLaid, IsWritable, IsLayoutOf, ordered_of};
 ghost use Rattle.dexlayout.specs.internal.Placing.{StatesParts};
 
+use crate::codes::{Codes, encode_codes};
 use crate::data::{Data, place_data};
-use crate::items::{Items, SharedItems};
+use crate::directories::encode_ref_lists;
+use crate::items::{Items, SharedItems, SharedOffsets};
 use crate::map_entries::place_map;
 use crate::offsets::Offsets;
 use crate::sets::Sets;
 use crate::tables::Tables;
+use crate::type_lists::encode_type_lists;
 use dexclass::{Class, Program};
-use dexhead::Head;
+use dexhead::{Head, Output};
 use dexlaws::size::fitting_size_law;
 use dexpool::Numbering;
 use std::alloc::{AllocError, Global};
@@ -90,7 +95,7 @@ fn build_layout<'p, 'a>(
 
 impl Layout {
     /// The layout of a program's canonical file. Time is linear in what is written, memory some 8 bytes for each
-    /// use and item, and the bytes of all items but texts.
+    /// use and item, and the bytes of all items but texts, type lists, lists of sets, and code of more than 8 MB.
     pub fn of(alloc: Global, program: &Program<'_>) -> Result<Layout, AllocError>
         ensures laid { IfOk result (IsLayoutOf program.now) }
         ensures writable { IsWritable program.now }
@@ -119,11 +124,31 @@ impl Layout {
         self.head.file_size
     }
 
-    /// The type lists, encoded, and their offsets: for each proto, and then for each class.
-    pub fn type_lists(&self) -> &SharedItems
+    /// The offsets of the type lists: for each proto, and then for each class.
+    pub fn type_lists(&self) -> &SharedOffsets
         ensures { result.now ≡ self.now.type_lists }
     {
         &self.placed.first_sections.type_lists
+    }
+
+    /// Writes the type lists: those of the protos of the numbering, and then those of the classes, each at its first use.
+    ///
+    /// Condition: the layout is that of the file of these classes.
+    ///
+    /// Source: "type_list".
+    pub fn encode_type_lists<O: Output>(
+        &self,
+        numbering: &Numbering<'_>,
+        classes: &[Class<'_>],
+        out: &mut O,
+    )
+        requires writable { AreWritable numbering.now classes.now }
+        requires laid { IsLaid numbering.now classes.now self.now }
+        ensures { O.gives (section_bytes (type_list_section (ordered_of numbering.now classes.now)))
+            out.old out.new }
+    {
+        let offsets = self.type_lists().places().offsets();
+        encode_type_lists(numbering, classes, offsets, self.head.data_off, out);
     }
 
     /// The annotations of the sets that are written, encoded, and the offset of each.
@@ -154,11 +179,27 @@ impl Layout {
         &self.placed.bodies.debugs
     }
 
-    /// The code, encoded, and its offsets: for each method.
-    pub fn codes(&self) -> &Items
+    /// The code, encoded unless its bytes are too many to be kept, and its offsets: for each method.
+    pub fn codes(&self) -> &Codes
         ensures { result.now ≡ self.now.codes }
     {
         &self.placed.bodies.codes
+    }
+
+    /// Writes the code of each method of each class, the direct ones first, with the zeros that align it.
+    ///
+    /// Condition: the layout is that of the file of these classes.
+    ///
+    /// Source: "code_item".
+    pub fn encode_codes<O: Output>(&self, classes: &[Class<'_>], out: &mut O)
+        requires { (m : Mentions) × AreWritable m classes.now × IsLaid m classes.now self.now }
+        ensures { (m : Mentions) → AreWritable m classes.now → IsLaid m classes.now self.now
+            → O.gives (section_bytes (code_section (ordered_of m classes.now))) out.old out.new }
+    {
+        match self.codes().bytes() {
+            Some(bytes) => out.bytes(bytes),
+            None => encode_codes(classes, self.debugs().places(), out),
+        }
     }
 
     /// The class data, encoded, and their offsets: for each class.
@@ -175,11 +216,25 @@ impl Layout {
         &self.placed.back.sets
     }
 
-    /// The lists of the sets of parameters, encoded, and their offsets: for each method.
-    pub fn ref_lists(&self) -> &Items
+    /// The offset of the list of the sets of the parameters of each method, or 0 where it has none.
+    pub fn ref_lists(&self) -> &Offsets
         ensures { result.now ≡ self.now.ref_lists }
     {
         &self.placed.back.ref_lists
+    }
+
+    /// Writes the lists of the sets of the parameters of each method of each class, the direct ones first.
+    ///
+    /// Condition: the layout is that of the file of these classes.
+    ///
+    /// Source: "annotation_set_ref_list".
+    pub fn encode_ref_lists<O: Output>(&self, classes: &[Class<'_>], out: &mut O)
+        requires { (m : Mentions) × AreWritable m classes.now × IsLaid m classes.now self.now }
+        ensures { (m : Mentions) → AreWritable m classes.now → IsLaid m classes.now self.now
+            → O.gives (section_bytes (ref_list_section (ordered_of m classes.now)))
+            out.old out.new }
+    {
+        encode_ref_lists(classes, self.sets(), out);
     }
 
     /// The annotations directories, encoded, and their offsets: for each class.

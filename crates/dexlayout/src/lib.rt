@@ -8,6 +8,7 @@
 #![tactic(auto)]
 
 mod bodies;
+mod codes;
 mod data;
 mod directories;
 mod input;
@@ -23,7 +24,8 @@ mod tables;
 mod type_lists;
 mod values;
 
-pub use items::{Items, SharedItems, encode_numbers};
+pub use codes::Codes;
+pub use items::{Items, SharedItems, SharedOffsets, encode_numbers};
 pub use layout::Layout;
 pub use offsets::Offsets;
 pub use sets::Sets;

@@ -1,17 +1,22 @@
 //! Type lists: those of the parameters of protos, and of the interfaces of classes.
 
-ghost use Rattle.std.specs.Prelude.{◌≡◌, ◌^◌, ◌<◌, ◌≤◌, All, IfOk};
-ghost use Rattle.dexspec.specs.Canonical.{data_start};
+ghost use Rattle.std.specs.Prelude.{◌≡◌, ◌^◌, ◌<◌, ◌≤◌, ◌+◌, ◌++◌, All, IfOk, OnOk, Some, [], length};
+ghost use Rattle.dexspec.specs.Bytes as bytes;
+ghost use Rattle.dexspec.specs.Canonical.{data_start, type_list_section};
+ghost use Rattle.dexspec.specs.Placing.{section_bytes, uses_offsets};
 ghost use Rattle.dexlayout.specs.Laid.{AreTypeLists, AreWritable, ordered_of};
 ghost use Rattle.dexlayout.specs.internal.SharedUses.{AreTypes, SharesLists};
 ghost use Rattle.dexlayout.specs.internal.Adding.{AddsUses, AddsParameters, list_uses, AreKnownClasses, interfaces_uses};
+ghost use Rattle.dexlayout.specs.internal.Encoding.{encode_use, list_bytes, without_bytes};
 ghost use Rattle.dexlayout.specs.internal.Placing.{HaveTypeLists, encoded_lists};
 
 use crate::input::Input;
-use crate::items::{Items, SharedItems};
+use crate::items::SharedOffsets;
 use crate::keys::ListKey;
+use crate::offsets::{Offsets, padding, round_up};
 use crate::sharing::{Shared, Sharing};
 use dexclass::Class;
+use dexhead::{Encode, Output};
 use dexpool::{Numbering, SymbolKind};
 use dexrows::TypeNumbers;
 use std::alloc::{AllocError, Global};
@@ -63,28 +68,87 @@ fn share_type_lists<'p>(input: &Input<'p, '_>) -> Result<Shared<ListKey<'p>>, Al
     sharing.finish(input.alloc)
 }
 
-// Encodes the type lists that are written, from an offset on.
-fn encode_written(alloc: Global, lists: &[ListKey<'_>], from: u32) -> Result<Items, AllocError>
-    requires few { All (λ list. All (λ i. i < 65536) list) lists.now }
-    requires fits { (encoded_lists from lists.now).places.end ≤ 2 ^ 30 }
-    ensures { IfOk result (λ items. items ≡ encoded_lists from lists.now) }
+// The offsets of the type lists that are written, from an offset on.
+fn place_written(alloc: Global, lists: &[ListKey<'_>], from: u32) -> Result<Offsets, AllocError>
+    requires { (encoded_lists from lists.now).places.end ≤ 2 ^ 30 }
+    ensures { IfOk result (λ places. places ≡ (encoded_lists from lists.now).places) }
 {
-    let mut items = Items::starting_at(alloc, from, lists.len())?;
+    let mut places = Offsets::starting_at(alloc, from, lists.len())?;
     for key in lists {
-        items.put(key, 4 + 2 * key.list.len())?;
+        put_list(key, &mut places)?;
     }
-    Ok(items)
+    Ok(places)
 }
 
-/// The type lists, encoded, and their offsets: for each proto, and then for each class. They are after the tables.
+// Adds the offset of a list, aligned to 4 bytes.
+fn put_list(key: &ListKey<'_>, places: &mut Offsets) -> Result<(), AllocError>
+    requires { (encode_use 4 (without_bytes places.old) (Some (list_bytes key.now))).places.end
+        ≤ 2 ^ 30 }
+    ensures { OnOk result (places.new
+        ≡ (encode_use 4 (without_bytes places.old) (Some (list_bytes key.now))).places) }
+{
+    places.align();
+    places.put_next(4 + 2 * key.list.len())
+}
+
+/// The offsets of the type lists: for each proto, and then for each class. They are after the tables.
 ///
 /// Source: "type_list".
-pub(crate) fn place_type_lists(input: &Input<'_, '_>, from: u32) -> Result<SharedItems, AllocError>
+pub(crate) fn place_type_lists(
+    input: &Input<'_, '_>,
+    from: u32,
+) -> Result<SharedOffsets, AllocError>
     requires classes { AreWritable input.now.numbering.now input.now.classes.now }
     requires from { from ≡ data_start (ordered_of input.now.numbering.now input.now.classes.now) }
     ensures { IfOk result (AreTypeLists input.now.numbering.now input.now.classes.now) }
 {
     let Shared { written, numbers } = share_type_lists(input)?;
-    let items = encode_written(input.alloc, &written, from)?;
-    SharedItems::of(input.alloc, items, &numbers)
+    let places = place_written(input.alloc, &written, from)?;
+    SharedOffsets::of(input.alloc, &places, &numbers)
+}
+
+/// Writes the type lists, from an offset on: those of protos, and then those of classes, each at its first use. Each use
+/// has one of `offsets`.
+///
+/// Source: "type_list".
+pub(crate) fn encode_type_lists<O: Output>(
+    numbering: &Numbering<'_>,
+    classes: &[Class<'_>],
+    offsets: &[u32],
+    from: u32,
+    out: &mut O,
+)
+    requires classes { AreWritable numbering.now classes.now }
+    requires offsets { offsets.now
+        ≡ uses_offsets (type_list_section (ordered_of numbering.now classes.now)) }
+    requires from { from ≡ data_start (ordered_of numbering.now classes.now) }
+    ensures { O.gives (section_bytes (type_list_section (ordered_of numbering.now classes.now)))
+        out.old out.new }
+{
+    let mut at = from;
+    let protos = numbering.count(SymbolKind::Proto);
+    for i in 0..protos {
+        at = encode_list(numbering.proto(i).parameters(), offsets[i], at, out);
+    }
+    for i in 0..classes.len() {
+        at = encode_list(classes[i].interfaces(), offsets[protos + i], at, out);
+    }
+}
+
+// Writes a list after the zeros that align it at an offset, and returns where it ends; or nothing, if its own offset is
+// before that one, as it is where the list is empty, or written before.
+fn encode_list<O: Output>(list: TypeNumbers<'_>, offset: u32, at: u32, out: &mut O) -> u32
+    requires few { All (λ i. i < 65536) list }
+    requires fits { at ≤ offset → bytes.round_up 4 at + length (list_bytes list) ≤ 2 ^ 30 }
+    ensures skipped { offset < at → (result ≡ at) × O.gives [] out.old out.new }
+    ensures written { at ≤ offset → (result ≡ bytes.round_up 4 at + length (list_bytes list.entry))
+        × O.gives (bytes.padding 4 at ++ list_bytes list.entry) out.old out.new }
+{
+    if offset < at {
+        return at;
+    }
+    let end = round_up(at) + 4 + 2 * list.len() as u32;
+    out.bytes(padding(at));
+    ListKey { list }.encode(out);
+    end
 }

@@ -11,7 +11,7 @@ use Rattle.dexval.specs.Numbered.{values_in}
 use Rattle.dexmembers.specs.Numbered.{NumberedMembers, fields_of, methods_of}
 use Rattle.dexmembers.specs.Spelled.{numbered_class_data_bytes}
 use Rattle.dexclass.specs.Numbered.{NumberedClass}
-use Rattle.dexlayout.specs.Places.{EncodedItems}
+use Rattle.dexlayout.specs.Places.{EncodedItems, ItemPlaces}
 use Rattle.dexlayout.specs.internal.Running.{none_from, pass, align_end, put_next}
 
 -- ---- use by use
@@ -19,6 +19,10 @@ use Rattle.dexlayout.specs.internal.Running.{none_from, pass, align_end, put_nex
 -- no items yet: the first will be at `from` or after it
 abbrev pub no_items_from : ℕ → EncodedItems
 no_items_from from = record { bytes = []; places = none_from from }
+
+-- no bytes, at these places
+abbrev pub without_bytes : ItemPlaces → EncodedItems
+without_bytes p = record { bytes = []; places = p }
 
 -- a use more, without an item
 abbrev pub pass_use : EncodedItems → EncodedItems

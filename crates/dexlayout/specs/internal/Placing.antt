@@ -7,9 +7,9 @@ use Rattle.dexspec.specs.Bytes.{round_up}
 use Rattle.dexspec.specs.Texts.{string_data}
 use Rattle.dexspec.specs.Mentions.{Mentions}
 use Rattle.dexspec.specs.Sections.{Section, HeaderItem, MapList}
-use Rattle.dexspec.specs.Placing.{Ordered, offsets_from, end_from, end, Placed}
+use Rattle.dexspec.specs.Placing.{Ordered, offsets_from, end_from, end, Placed, section_bytes}
 use Rattle.dexspec.specs.Canonical.{data_start, type_list_items, set_items, debug_section, code_section}
-use Rattle.dexspec.specs.Canonical.{class_data_section, placed_tables, map_bytes}
+use Rattle.dexspec.specs.Canonical.{class_data_section, ref_list_section, placed_tables, map_bytes}
 use Rattle.dexhead.specs.declared.head.Head.{Head}
 use Rattle.dexhead.specs.declared.map_list.MapEntry.{MapEntry}
 use Rattle.dexhead.specs.Laid.{StatesLayout, map_start}
@@ -22,7 +22,7 @@ use Rattle.dexlayout.specs.declared.data.Back.{Back}
 use Rattle.dexlayout.specs.declared.data.Data.{Data}
 use Rattle.dexlayout.specs.declared.sharing.Shared.{Shared}
 use Rattle.dexlayout.specs.declared.tables.Tables.{Tables}
-use Rattle.dexlayout.specs.Places.{ItemPlaces, EncodedItems, EncodedSharedItems, SetPlaces}
+use Rattle.dexlayout.specs.Places.{ItemPlaces, EncodedItems, KeptItems, EncodedSharedItems, SharedPlaces, SetPlaces}
 use Rattle.dexlayout.specs.Laid.{ordered_of, file_end, AreWritable, AreLaidSo, AreLaidIn, AreAnnotations, AreCodes}
 use Rattle.dexlayout.specs.Laid.{AreClassData, AreDirectories, AreRefLists, AreSets, AreShared}
 use Rattle.dexlayout.specs.internal.Parts.{AreTables, AreBack, AreData, entry_of, section_parts}
@@ -40,9 +40,15 @@ abbrev pub CanPlaceCodes : List NumberedClass → ItemPlaces → Type 0
 CanPlaceCodes cs debugs = (m : Mentions) × AreWritable m cs × AreLaidIn (debug_section (ordered_of m cs)) debugs
 
 -- it is placed so
-abbrev pub PlacedCodes : List NumberedClass → ItemPlaces → EncodedItems → Type 0
+abbrev pub PlacedCodes : List NumberedClass → ItemPlaces → KeptItems → Type 0
 PlacedCodes cs debugs p =
     (m : Mentions) → AreWritable m cs → AreLaidIn (debug_section (ordered_of m cs)) debugs → AreCodes m cs p
+
+-- an output is given the bytes of the code after debug programs at these offsets
+abbrev pub GivesCodes : {O : Type 0} → (List ℕ → O → O → Type 0) → List NumberedClass → ItemPlaces → O → O → Type 0
+GivesCodes gives cs debugs old new =
+    (m : Mentions) → AreWritable m cs → AreLaidIn (debug_section (ordered_of m cs)) debugs
+    → gives (section_bytes (code_section (ordered_of m cs))) old new
 
 -- the class data can be placed after code at these offsets
 abbrev pub CanPlaceClassData : List NumberedClass → ItemPlaces → Type 0
@@ -52,6 +58,12 @@ CanPlaceClassData cs codes = (m : Mentions) × AreWritable m cs × AreLaidIn (co
 abbrev pub PlacedClassData : List NumberedClass → ItemPlaces → EncodedItems → Type 0
 PlacedClassData cs codes p =
     (m : Mentions) → AreWritable m cs → AreLaidIn (code_section (ordered_of m cs)) codes → AreClassData m cs p
+
+-- an output is given the bytes of the lists of sets, by these offsets of the sets
+abbrev pub GivesRefLists : {O : Type 0} → (List ℕ → O → O → Type 0) → List NumberedClass → SetPlaces → O → O → Type 0
+GivesRefLists gives cs sets old new =
+    (m : Mentions) → AreWritable m cs → AreSets m cs sets
+    → gives (section_bytes (ref_list_section (ordered_of m cs))) old new
 
 -- the sets and what is after them can be placed from the offset on, by these offsets of the annotations
 abbrev pub CanPlaceSets : List NumberedClass → EncodedItems → ℕ → Type 0
@@ -71,15 +83,15 @@ abbrev pub CanPlaceRefLists : List NumberedClass → SetPlaces → Type 0
 CanPlaceRefLists cs sets = (m : Mentions) × AreWritable m cs × AreSets m cs sets
 
 -- they are placed so
-abbrev pub PlacedRefLists : List NumberedClass → SetPlaces → EncodedItems → Type 0
+abbrev pub PlacedRefLists : List NumberedClass → SetPlaces → ItemPlaces → Type 0
 PlacedRefLists cs sets p = (m : Mentions) → AreWritable m cs → AreSets m cs sets → AreRefLists m cs p
 
 -- the directories can be placed, by these offsets of the sets and of the lists of sets
-abbrev pub CanPlaceDirectories : List NumberedClass → SetPlaces → EncodedItems → Type 0
+abbrev pub CanPlaceDirectories : List NumberedClass → SetPlaces → ItemPlaces → Type 0
 CanPlaceDirectories cs sets lists = (m : Mentions) × AreWritable m cs × AreSets m cs sets × AreRefLists m cs lists
 
 -- they are placed so
-abbrev pub PlacedDirectories : List NumberedClass → SetPlaces → EncodedItems → EncodedItems → Type 0
+abbrev pub PlacedDirectories : List NumberedClass → SetPlaces → ItemPlaces → EncodedItems → Type 0
 PlacedDirectories cs sets lists p =
     (m : Mentions) → AreWritable m cs → AreSets m cs sets → AreRefLists m cs lists → AreDirectories m cs p
 
@@ -104,6 +116,11 @@ shared_places numbers written = record {
   offsets = use_offsets numbers written.offsets;
   end = written.end;
 }
+
+-- the same of items, with their number
+abbrev pub shared_at : List (Option ℕ) → ItemPlaces → SharedPlaces
+shared_at numbers written =
+    record { count = length written.offsets; places = shared_places numbers written }
 
 -- the same of encoded items
 abbrev pub shared_by : List (Option ℕ) → EncodedItems → EncodedSharedItems

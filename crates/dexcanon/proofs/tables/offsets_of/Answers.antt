@@ -1,11 +1,11 @@
-use Rattle.dexcanon.proofs.Common.{◌≡◌, ◌+◌, ℕ, List, length, get_or, ap, arith, sym, ◌∙◌, uses_offsets, type_list_section, directory_section, class_data_section, array_section, ItemPlaces, EncodedItems, EncodedSharedItems, ordered_of}
+use Rattle.dexcanon.proofs.Common.{◌≡◌, ◌+◌, ℕ, List, length, get_or, ap, arith, sym, ◌∙◌, uses_offsets, type_list_section, directory_section, class_data_section, array_section, ItemPlaces, EncodedItems, SharedPlaces, ordered_of}
 use Rattle.dexcanon.proofs.Rows.{class_offsets_at, count_lists, count_directories, count_class_data, count_static_values}
 use Rattle.dexcanon.proofs.tables.offsets_of.Goals as goal
 use Rattle.dexcanon.proofs.tables.offsets_of.Goals.{After-offsets-static_values}
 
 -- the offsets of each kind are those of the file
 lists_are : (c : After-offsets-static_values) → c.offsets-lists.result.now ≡ uses_offsets (type_list_section (ordered_of c.args.contents.now.numbering.now c.args.contents.now.classes.now))
-lists_are c = c.offsets-lists.ensures ∙ ap (λ (p : ItemPlaces). p.offsets) (c.places.ensures ∙ ap (λ (d : EncodedSharedItems). d.places) c.type_lists.ensures) ∙ c.requires.ready.laid.type_lists_are.places_are.offsets_are
+lists_are c = c.offsets-lists.ensures ∙ ap (λ (p : ItemPlaces). p.offsets) (c.places.ensures ∙ ap (λ (d : SharedPlaces). d.places) c.type_lists.ensures) ∙ c.requires.ready.laid.type_lists_are.places_are.offsets_are
 
 directories_are : (c : After-offsets-static_values) → c.offsets-directories.result.now ≡ uses_offsets (directory_section (ordered_of c.args.contents.now.numbering.now c.args.contents.now.classes.now))
 directories_are c = c.offsets-directories.ensures ∙ ap (λ (p : ItemPlaces). p.offsets) (c.places-2.ensures ∙ ap (λ (d : EncodedItems). d.places) c.directories.ensures) ∙ c.requires.ready.laid.directories_are.places_are.offsets_are

@@ -1,4 +1,4 @@
-use Rattle.dexlayout.proofs.Common.{◌≡◌, ℕ, List, [], length, drop, sym, ap, ◌∙◌, subst, arith, drop_all, Mentions, end, uses_offsets, ref_list_section, ItemPlaces, ordered_of, AreDirectories, AreRefLists, directory_items, encode_uses}
+use Rattle.dexlayout.proofs.Common.{◌≡◌, ℕ, List, [], length, drop, sym, ap, ◌∙◌, subst, arith, drop_all, Mentions, end, uses_offsets, ref_list_section, ordered_of, AreDirectories, AreRefLists, directory_items, encode_uses}
 use Rattle.dexlayout.proofs.EncodedUses.{all_encoded_by}
 use Rattle.dexlayout.proofs.Ends.{end_in_file}
 use Rattle.dexlayout.proofs.SetDirectories.{directories_fit, directories_more, directories_laid, own_count, field_count, method_count, length-ref_list_offsets}
@@ -7,11 +7,11 @@ use Rattle.dexlayout.proofs.directories.place_directories.Goals.{After-end-from}
 
 -- the offsets of the lists of sets, over each numbering
 lists_are : (c : After-end-from) (m : Mentions) → AreRefLists m c.args.classes.now c.args.ref_lists.now → c.offsets-lists.result.now ≡ uses_offsets (ref_list_section (ordered_of m c.args.classes.now))
-lists_are c m lists = c.offsets-lists.ensures ∙ ap (λ (q : ItemPlaces). q.offsets) c.places.ensures ∙ lists.places_are.offsets_are
+lists_are c m lists = c.offsets-lists.ensures ∙ lists.offsets_are
 
 -- their end
 from_is : (c : After-end-from) (m : Mentions) → AreRefLists m c.args.classes.now c.args.ref_lists.now → c.end-from.result ≡ end (ref_list_section (ordered_of m c.args.classes.now))
-from_is c m lists = c.end-from.ensures ∙ ap (λ (q : ItemPlaces). q.end) c.places-2.ensures ∙ lists.places_are.end_is
+from_is c m lists = c.end-from.ensures ∙ lists.end_is
 
 pub loop-i-init : goal.loop-i-init
 loop-i-init c =

@@ -1,4 +1,4 @@
-use Rattle.dexcanon.proofs.Common.{refl, append-nil, ◌≡◌, ◌<◌, ℕ, List, [], length, get_or, ap, sym, subst, arith, ◌∙◌, zip_with, uses_offsets, proto_row_bytes, type_list_section, length-type_list_offsets, ItemPlaces, EncodedSharedItems, ordered_of, ranks_are_numbers}
+use Rattle.dexcanon.proofs.Common.{refl, append-nil, ◌≡◌, ◌<◌, ℕ, List, [], length, get_or, ap, sym, subst, arith, ◌∙◌, zip_with, uses_offsets, proto_row_bytes, type_list_section, length-type_list_offsets, ItemPlaces, SharedPlaces, ordered_of, ranks_are_numbers}
 use Rattle.dexcanon.proofs.Rows.{next_part, proto_row_at, no_proto}
 use Rattle.dexcanon.proofs.WholeFile.{count_proto_rows, texts_few}
 use Rattle.dexcanon.proofs.tables.ProtoIdsItemList.encode_item.Goals as goal
@@ -6,7 +6,7 @@ use Rattle.dexcanon.proofs.tables.ProtoIdsItemList.encode_item.Goals.{After-offs
 
 -- the offsets of the lists of all protos and classes
 offsets_are : (g : _) (c : After-offsets-list_offs g) → c.offsets-list_offs.result.now ≡ uses_offsets (type_list_section (ordered_of c.args.contents.now.numbering.now c.args.contents.now.classes.now))
-offsets_are g c = c.offsets-list_offs.ensures ∙ ap (λ (p : ItemPlaces). p.offsets) (c.places.ensures ∙ ap (λ (d : EncodedSharedItems). d.places) c.type_lists.ensures) ∙ c.requires.ready.laid.type_lists_are.places_are.offsets_are
+offsets_are g c = c.offsets-list_offs.ensures ∙ ap (λ (p : ItemPlaces). p.offsets) (c.places.ensures ∙ ap (λ (d : SharedPlaces). d.places) c.type_lists.ensures) ∙ c.requires.ready.laid.type_lists_are.places_are.offsets_are
 
 -- there is one for the proto
 within : (g : _) (c : After-offsets-list_offs g) → c.args.i < length c.offsets-list_offs.result.now

@@ -1,0 +1,12 @@
+use Rattle.dexlayout.proofs.Common.{◌+◌, ◌++◌, drop, methods_of, encode_uses, no_items_from, class_parameter_counts, list_item, offset_lists, parameter_counts}
+use Rattle.dexlayout.proofs.EncodedUses.{IsGiven}
+use Rattle.dexlayout.proofs.RefLists.{ListsLeft}
+use Rattle.dexlayout.proofs.directories.encode_ref_lists.Given as goal
+
+-- encoding what is left gives the whole
+abbrev pub invariant-loop-class : goal.invariant-loop-class
+invariant-loop-class g l = ListsLeft (IsGiven g.O.Output.gives l.fn.out l.at l.out) (class_parameter_counts (drop l.class-index l.classes)) l.rest (encode_uses 4 (no_items_from l.sets.written.places.end) (offset_lists list_item (class_parameter_counts l.classes) l.sets.parameters))
+
+-- what is left of a class, and the classes after it
+abbrev pub invariant-loop-i : goal.invariant-loop-i
+invariant-loop-i g l = ListsLeft (IsGiven g.O.Output.gives l.fn.out l.at l.out) (parameter_counts (drop l.i (methods_of l.members)) ++ class_parameter_counts (drop (l.class-index + 1) l.classes)) l.rest (encode_uses 4 (no_items_from l.sets.written.places.end) (offset_lists list_item (class_parameter_counts l.classes) l.sets.parameters))

@@ -139,6 +139,11 @@ impl<'a> Interfaces<'a> {
         }
     }
 
+    /// The allocator for numbers.
+    pub(crate) fn allocator(&self) -> Global {
+        self.alloc
+    }
+
     /// The numbers, in their order.
     pub(crate) fn numbers(&self) -> TypeNumbers<'_>
         ensures { result ≡ self.now }

@@ -7,6 +7,7 @@ ghost use Rattle.dexclass.specs.Renumbering.{remapped, renumbered, ClassHasPlace
 use crate::classes::Class;
 use crate::interface_lists::Interfaces;
 use dexpool::{Remap, SymbolKind};
+use dexval::RemappedItems;
 use std::alloc::AllocError;
 
 /// The image of the number of a type, or the number itself if it has none.
@@ -49,22 +50,25 @@ impl<'a> Class<'a> {
         ensures unchanged { OnErr result (self.new ≡ self.old) }
     {
         let interfaces = self.interfaces.renumbered(remap)?;
-        self.renumber_with(remap, interfaces)
+        let mut items = RemappedItems::of(self.interfaces.allocator(), remap);
+        self.renumber_with(&mut items, interfaces)
     }
 
     /// As [`Class::renumber`], with the interfaces remapped already, or `None` if they stay.
     pub(crate) fn renumber_with(
         &mut self,
-        remap: &Remap,
+        items: &mut RemappedItems<'_>,
         interfaces: Option<Interfaces<'a>>,
     ) -> Result<(), AllocError>
-        requires places { ClassHasPlaces remap.now self.old }
+        requires places { ClassHasPlaces items.old self.old }
         requires interfaces { unwrap_or interfaces self.old.interfaces
-            ≡ map (remapped remap.now.types) self.old.interfaces }
-        ensures renumbered { OnOk result (self.new ≡ renumbered remap.now self.old) }
+            ≡ map (remapped items.old.types) self.old.interfaces }
+        ensures items { items.new ≡ items.old }
+        ensures renumbered { OnOk result (self.new ≡ renumbered items.old self.old) }
         ensures unchanged { OnErr result (self.new ≡ self.old) }
     {
-        self.members.renumber(remap)?;
+        let remap = items.remap();
+        self.members.renumber(items)?;
         self.name = type_number(remap, self.name);
         self.superclass = optional_type_number(remap, self.superclass);
         self.interfaces.replace(interfaces);

@@ -10,7 +10,7 @@ use crate::interface_lists::{Interfaces, remapped_types};
 use crate::list_parts::{ListPlace, SharedPart};
 use dexpool::Remap;
 use dexrows::TypeNumbers;
-use dexval::SharedItems;
+use dexval::RemappedItems;
 use std::alloc::{AllocError, Global};
 use std::collections::HashMap;
 use std::marker::Model;
@@ -180,25 +180,16 @@ fn wholes_of<'a>(
     Ok(wholes)
 }
 
-// Shares again what a class shared before it was remapped. If an allocation fails, some of it stays in memory of its own:
-// the class is the same.
-fn share_again(class: &mut Class<'_>, items: &mut SharedItems)
-    ensures { class.new ≡ class.old }
-{
-    let _ = class.members.share(items);
-}
-
 /// A map of numbers, for the classes of a program. If lists of interfaces that come from one file have more numbers
-/// together than what they are parts of, each number of this is remapped once. What classes share besides is shared
-/// again once it is remapped. Contracts see the map.
+/// together than what they are parts of, each number of this is remapped once. What classes share besides is remapped
+/// once too. Contracts see the map.
 #[derive(Drop)]
 pub struct Renumbering<'r, 'a> {
-    remap: &'r Remap,
+    // The map, and what classes share besides lists.
+    items: RemappedItems<'r>,
     // What lists of each file are parts of, and its number by the file.
     numbers: HashMap<u128, usize>,
     wholes: Vec<Whole<'a>>,
-    // What remapped classes share.
-    items: SharedItems,
 }
 
 impl<'r, 'a> Model for Renumbering<'r, 'a> {
@@ -208,9 +199,9 @@ impl<'r, 'a> Model for Renumbering<'r, 'a> {
 
     ghost Value = { Maps };
 
-    ghost view = { λ r. r.remap.now };
+    ghost view = { λ r. r.items };
 
-    ghost invariant = { λ r. All (IsRemapped r.remap.now) r.wholes.items };
+    ghost invariant = { λ r. All (IsRemapped r.items) r.wholes.items };
 }
 
 impl<'r, 'a> Renumbering<'r, 'a> {
@@ -227,10 +218,9 @@ impl<'r, 'a> Renumbering<'r, 'a> {
         let Coverings { numbers, all } = Coverings::of(alloc, classes)?;
         let wholes = wholes_of(alloc, remap, classes, &all)?;
         Ok(Renumbering {
-            remap,
+            items: RemappedItems::of(alloc, remap),
             numbers,
             wholes,
-            items: SharedItems::none(alloc),
         })
     }
 
@@ -267,12 +257,11 @@ impl<'r, 'a> Renumbering<'r, 'a> {
         if let Some(images) = self.images_of(list)? {
             return Ok(Some(list.part(images)));
         }
-        list.renumbered(self.remap)
+        list.renumbered(self.items.remap())
     }
 
-    /// Remaps each number of a class, as [`Class::renumber`] does. Interfaces that several classes share are remapped
-    /// once. What else they share has memory of its own until it is remapped, and is then shared with the equal items
-    /// of the classes that were remapped before.
+    /// Remaps each number of a class, as [`Class::renumber`] does. What several classes share is remapped once: lists of
+    /// interfaces, sets of annotations and values of static fields.
     ///
     /// Condition: as of [`Class::renumber`]. Error: an allocation failed; the class is as it was.
     pub fn renumber(&mut self, class: &mut Class<'a>) -> Result<(), AllocError>
@@ -281,12 +270,7 @@ impl<'r, 'a> Renumbering<'r, 'a> {
         ensures renumbered { OnOk result (class.new ≡ renumbered self.old class.old) }
         ensures unchanged { OnErr result (class.new ≡ class.old) }
     {
-        let is_sharing = class.members.is_sharing();
         let interfaces = self.renumbered_list(&class.interfaces)?;
-        class.renumber_with(self.remap, interfaces)?;
-        if is_sharing {
-            share_again(class, &mut self.items);
-        }
-        Ok(())
+        class.renumber_with(&mut self.items, interfaces)
     }
 }

@@ -1,10 +1,9 @@
 -- What a class declares, as it is held: each set once, in a table, and members with the places of theirs.
 use Rattle.std.specs.Prelude.{map, All}
-use Rattle.dexval.specs.Code.{value_of}
-use Rattle.dexval.specs.Numbered.{values_of_list}
 use Rattle.dexval.specs.Tables.{IsPlaceIn, set_at}
 use Rattle.dexmembers.specs.Numbered.{NumberedMembers, AreFew}
 use Rattle.dexmembers.specs.Held.{field_of, method_of, IsHeldField, IsHeldMethod}
+use Rattle.dexmembers.specs.StaticValues.{values_in}
 use Rattle.dexmembers.specs.declared.members.Contents.{Contents}
 
 -- what is held, with sets instead of their places
@@ -15,7 +14,7 @@ contents_in x = record {
   instance_fields = map (field_of x.table.sets) x.instance_fields.items;
   direct_methods = map (method_of x.table) x.direct_methods;
   virtual_methods = map (method_of x.table) x.virtual_methods;
-  static_values = values_of_list (map value_of x.static_values.items);
+  static_values = values_in x.static_values;
 }
 
 -- each place is one of the table's

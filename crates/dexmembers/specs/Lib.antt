@@ -9,6 +9,7 @@ pub mod Numbered
 pub mod Reading
 pub mod Renumbering
 pub mod Spelled
+pub mod StaticValues
 pub mod Uses
 pub mod Weighing
 pub mod Weight

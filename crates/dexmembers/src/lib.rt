@@ -28,6 +28,7 @@ mod reading;
 mod row_reader;
 mod same;
 mod short_strings;
+mod static_values;
 mod weighing;
 
 pub use checking::{Checks, check_members};

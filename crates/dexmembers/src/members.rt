@@ -9,12 +9,11 @@ ghost use Rattle.dexmembers.specs.Stripped.{stripped_members};
 
 use crate::method_list::MethodList;
 use crate::places::Place;
+use crate::static_values::StaticValues;
 use crate::{Fields, Methods};
 use dexflags::FieldFlags;
 use dexpool::{Remap, Renumber, SymbolKind, renumber_all};
-use dexval::{
-    AnnotationSet, SetTable, SharedItems, Value, copied_values, remapped, renumber_values,
-};
+use dexval::{AnnotationSet, RemappedItems, SetTable, SharedItems, Value, remapped};
 use std::alloc::AllocError;
 use std::marker::Model;
 
@@ -68,7 +67,7 @@ pub(crate) struct Contents<'a> {
     pub(crate) instance_fields: Vec<DeclaredField>,
     pub(crate) direct_methods: MethodList<'a>,
     pub(crate) virtual_methods: MethodList<'a>,
-    pub(crate) static_values: Vec<Value>,
+    pub(crate) static_values: StaticValues,
 }
 
 impl<'a> Model for Members<'a> {
@@ -176,7 +175,7 @@ impl<'a> Members<'a> {
     pub fn static_values(&self) -> &[Value]
         ensures { values_of_list (map value_of result.now) ≡ self.now.static_values }
     {
-        &self.contents.static_values
+        self.contents.static_values.values()
     }
 
     /// Returns a copy of the members, with lists of their own. The units of code are borrowed as before.
@@ -192,7 +191,7 @@ impl<'a> Members<'a> {
                 instance_fields: Vec::from_slice(alloc, &self.contents.instance_fields)?,
                 direct_methods: self.contents.direct_methods.copy()?,
                 virtual_methods: self.contents.virtual_methods.copy()?,
-                static_values: copied_values(&self.contents.static_values)?,
+                static_values: self.contents.static_values.copy()?,
             },
         })
     }
@@ -202,34 +201,34 @@ impl<'a> Members<'a> {
     /// Condition: each number has an image that fits its place: below 2^16 in an instruction but for
     /// const-string/jumbo, below 2^32 - 1 in a debug program, and below 2^32 elsewhere.
     /// [`members_cut_law`](crate::members_cut_law) and [`members_joined_law`](crate::members_joined_law) say when it has.
-    /// Error: the class shares sets of annotations with others, and the allocation of memory of its own for them failed;
-    /// the members are as they were.
-    pub fn renumber(&mut self, remap: &Remap) -> Result<(), AllocError>
-        requires { MembersHavePlaces remap.now self.old }
-        ensures renumbered { OnOk result (self.new ≡ renumbered_members remap.now self.old) }
+    /// Error: the class shares sets of annotations or values with others, and the allocation of their images failed; the
+    /// members are as they were.
+    pub fn renumber(&mut self, items: &mut RemappedItems<'_>) -> Result<(), AllocError>
+        requires { MembersHavePlaces items.old self.old }
+        ensures items { items.new ≡ items.old }
+        ensures renumbered { OnOk result (self.new ≡ renumbered_members items.old self.old) }
         ensures unchanged { OnErr result (self.new ≡ self.old) }
     {
-        self.contents.table.renumber(remap)?;
+        let remap = items.remap();
+        self.contents.static_values.prepare(items)?;
+        self.contents.table.renumber(items)?;
         renumber_all(&mut self.contents.static_fields, remap);
         renumber_all(&mut self.contents.instance_fields, remap);
         self.contents.direct_methods.renumber(remap);
         self.contents.virtual_methods.renumber(remap);
-        renumber_values(&mut self.contents.static_values, remap);
+        self.contents.static_values.renumber(remap);
         Ok(())
     }
 
-    /// Returns whether the class shares sets of annotations with others. No clause speaks of it.
-    pub fn is_sharing(&self) -> bool {
-        self.contents.table.is_sharing()
-    }
-
-    /// Moves each set of annotations into the memory of an equal one that other classes have, if there is one.
+    /// Moves each set of annotations, and the values of static fields, into the memory of equal ones that other classes
+    /// have, if there are some.
     ///
-    /// Error: an allocation failed; some sets may be moved.
+    /// Error: an allocation failed; some may be moved.
     pub fn share(&mut self, items: &mut SharedItems) -> Result<(), AllocError>
         ensures { self.new ≡ self.old }
     {
-        self.contents.table.share(items)
+        self.contents.table.share(items)?;
+        self.contents.static_values.share(items)
     }
 
     /// Leaves out the debug programs of all methods. Instructions and tries stay, and so do the texts that a

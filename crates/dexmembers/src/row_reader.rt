@@ -15,11 +15,12 @@ use crate::class_data::ClassData;
 use crate::class_def::ClassDef;
 use crate::members::Contents;
 use crate::naming::names_declared;
+use crate::static_values::StaticValues;
 use dexhead::{Condition, Frame};
 use dexinsn::Scratch;
 use dexpool::{ItemFault, Pools};
 use dexval::{
-    CheckedSets, SetTable, SharedDirectory, Value, check_directory, check_statics,
+    CheckedSets, SetTable, SharedDirectory, Value, check_directory, check_statics, item_key,
     read_shared_directory_within, read_statics,
 };
 use std::alloc::Global;
@@ -201,6 +202,8 @@ impl<'f> RowReader<'_, 'f, '_> {
             &mut scratch,
         )?;
         let static_values = self.read_static_values()?;
+        let key = item_key(self.frame, self.row.static_values_off);
+        let static_values = StaticValues::own(key, static_values);
         let sets = &directory.fields;
         let contents = Contents {
             static_fields: attach_fields(alloc, &declared.static_fields, sets)?,

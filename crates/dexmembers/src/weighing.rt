@@ -121,6 +121,6 @@ impl Contents<'_> {
             .saturating_add(fields_weight(&Fields::of(&self.table, &self.instance_fields)))
             .saturating_add(methods_weight(&Methods::of(&self.table, &self.direct_methods)))
             .saturating_add(methods_weight(&Methods::of(&self.table, &self.virtual_methods)))
-            .saturating_add(statics_weight(&self.static_values))
+            .saturating_add(statics_weight(self.static_values.values()))
     }
 }

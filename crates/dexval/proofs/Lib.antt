@@ -16,6 +16,7 @@ pub mod Heads
 pub mod Images
 pub mod CachedSets
 pub mod Keeping
+pub mod KeptImages
 pub mod LowBytes
 pub mod Marked
 pub mod Meanings

@@ -1,6 +1,6 @@
 -- Sets of a table that are moved, or remapped, one at a time.
 use Rattle.dexval.proofs.Common.{◌≡◌, ℕ, zero, suc, ◌+◌, ◌<◌, ◌≤◌, List, [], ◌∷◌, length, map, get_or, set, refl, ap, sym, ◌∙◌, subst, arith, inl, inr, Option, Some, None, All, cases_lt, length-set, get_or_default, get_or-set_same, get_or-set_other, Maps, IsRemappedSet, set_at}
-use Rattle.dexval.specs.KeptSets.{set_in, IsOwn}
+use Rattle.dexval.specs.KeptSets.{set_in, IsReady}
 use Rattle.dexval.specs.declared.kept_set.KeptSet.{KeptSet}
 
 -- ---- moved
@@ -11,17 +11,17 @@ one_moved [] i x y e same = refl
 one_moved (z ∷ zs) zero x y e same = ap (λ s. s ∷ map set_in zs) (same ∙ ap set_in e)
 one_moved (z ∷ zs) (suc i) x y e same = ap (λ ss. set_in z ∷ ss) (one_moved zs i x y e same)
 
--- the first i sets are in memory of their own
-abbrev pub AreOwn : ℕ → List KeptSet → Type 0
-AreOwn i xs = (k : ℕ) (d : KeptSet) → k < i → k < length xs → IsOwn (get_or xs k d)
+-- the first i sets can be remapped
+abbrev pub AreReady : Maps → ℕ → List KeptSet → Type 0
+AreReady r i xs = (k : ℕ) (d : KeptSet) → k < i → k < length xs → IsReady r (get_or xs k d)
 
--- one more set is in memory of its own
-pub one_owned : (xs : List KeptSet) (i : ℕ) (y : KeptSet) → AreOwn i xs → IsOwn y → AreOwn (i + 1) (set xs i y)
-one_owned xs i y own is k d less inside = elim (cases_lt k i) [
-  | inl before ↦ subst IsOwn (sym (get_or-set_other xs i k y d (λ same. omega (arith, same, before)))) (own k d before (omega (arith, inside, length-set xs i y)))
+-- one more set can be remapped
+pub one_ready : (r : Maps) (xs : List KeptSet) (i : ℕ) (y : KeptSet) → AreReady r i xs → IsReady r y → AreReady r (i + 1) (set xs i y)
+one_ready r xs i y own is k d less inside = elim (cases_lt k i) [
+  | inl before ↦ subst (IsReady r) (sym (get_or-set_other xs i k y d (λ same. omega (arith, same, before)))) (own k d before (omega (arith, inside, length-set xs i y)))
   | inr ge ↦
       let same : i ≡ k = omega (arith, ge, less) in
-      subst IsOwn (sym (get_or-set_same xs i y d (omega (arith, inside, same, length-set xs i y))) ∙ ap (λ (n : ℕ). get_or (set xs i y) n d) same) is
+      subst (IsReady r) (sym (get_or-set_same xs i y d (omega (arith, inside, same, length-set xs i y))) ∙ ap (λ (n : ℕ). get_or (set xs i y) n d) same) is
 ]
 
 -- ---- remapped
@@ -48,9 +48,9 @@ one_settled r old new i x y h lt e is =
       size = length-set new i y ∙ h.size;
     }
 
--- the next set is in memory of its own
-pub next_is_own : (r : Maps) (old new : List KeptSet) (i : ℕ) (x : KeptSet) → AreSettled r i old new → All IsOwn old → i < length old → x ≡ get_or new i x → IsOwn x
-next_is_own r old new i x h own lt e = subst IsOwn (sym (e ∙ h.rest i x (omega arith))) (own i x lt)
+-- the next set can be remapped
+pub next_is_ready : (r : Maps) (old new : List KeptSet) (i : ℕ) (x : KeptSet) → AreSettled r i old new → All (IsReady r) old → i < length old → x ≡ get_or new i x → IsReady r x
+next_is_ready r old new i x h ready lt e = subst (IsReady r) (sym (e ∙ h.rest i x (omega arith))) (ready i x lt)
 
 -- all of them, by their places
 pub all_settled : (r : Maps) (old new : List KeptSet) (i : ℕ) → AreSettled r i old new → length old ≤ i → (place : Option ℕ) → IsRemappedSet r (set_at (map set_in old) place) (set_at (map set_in new) place)

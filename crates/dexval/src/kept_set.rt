@@ -1,13 +1,15 @@
 //! Sets of annotations that are in memory of their own, or in that of several tables.
 
-ghost use Rattle.std.specs.Prelude.{◌≡◌, All, IfOk, OnOk, length, map};
+ghost use Rattle.std.specs.Prelude.{◌≡◌, All, IfOk, OnOk, MatchOption, length, map};
+ghost use Rattle.dexpool.specs.Numberings.{Maps};
 ghost use Rattle.dexval.specs.Code.{set_of};
 ghost use Rattle.dexval.specs.Tables.{AreRemappedSets, IsRemappedSet};
-ghost use Rattle.dexval.specs.KeptSets.{set_in, IsOwn};
+ghost use Rattle.dexval.specs.KeptSets.{set_in, IsReady};
 
-use crate::{AnnotationSet, SharedItems};
+use crate::{AnnotationSet, RemappedItems, SharedItems};
 use dexpool::Remap;
 use std::alloc::AllocError;
+use std::mem;
 use std::rc::Rc;
 
 /// Who has the memory of a set.
@@ -17,6 +19,8 @@ pub(crate) enum Holder {
     Own(AnnotationSet),
     /// Several tables.
     Shared(Rc<AnnotationSet>),
+    /// Several tables, and the set remapped is there too.
+    Remapped(Rc<AnnotationSet>, Rc<AnnotationSet>),
 }
 
 /// A set of a table. Contracts see the set.
@@ -27,8 +31,8 @@ pub(crate) struct KeptSet {
     holder: Holder,
 }
 
-// Replaces each number of a symbol in a set by the one that it maps to, if each has an image below 2^32.
-fn renumber_fitting(set: &mut AnnotationSet, remap: &Remap)
+/// Replaces each number of a symbol in a set by the one that it maps to, if each has an image below 2^32.
+pub(crate) fn renumber_fitting(set: &mut AnnotationSet, remap: &Remap)
     ensures { IsRemappedSet remap.now (set_of set.old) (set_of set.new) }
 {
     if set.fits(remap) {
@@ -53,7 +57,18 @@ impl KeptSet {
     {
         match &self.holder {
             Holder::Own(set) => set,
-            Holder::Shared(set) => set.as_ref(),
+            Holder::Shared(set) | Holder::Remapped(set, _) => set.as_ref(),
+        }
+    }
+
+    // The set where other tables have it too, or `None` where it is in memory of its own.
+    fn shared(&self) -> Option<&Rc<AnnotationSet>>
+        ensures { MatchOption result ((r : Maps) → IsReady r self.now)
+            (λ set. set_of set.now.value ≡ set_in self.now) }
+    {
+        match &self.holder {
+            Holder::Own(_) => None,
+            Holder::Shared(set) | Holder::Remapped(set, _) => Some(set),
         }
     }
 
@@ -63,26 +78,23 @@ impl KeptSet {
     {
         match &self.holder {
             Holder::Own(set) => Ok(KeptSet::own(self.key, set.copy()?)),
-            Holder::Shared(set) => Ok(KeptSet {
+            Holder::Shared(set) | Holder::Remapped(set, _) => Ok(KeptSet {
                 key: self.key,
                 holder: Holder::Shared(set.clone()?),
             }),
         }
     }
 
-    /// Returns whether other tables share the set. No clause speaks of it.
-    pub(crate) fn is_shared(&self) -> bool {
-        matches!(self.holder, Holder::Shared(_))
-    }
-
-    // Moves the set into memory that no other has. Error: the allocation failed; the set is as it was.
-    fn unshare(&mut self) -> Result<(), AllocError>
+    // Makes a set ready to be remapped: one that other tables have too gets its image beside it. Error: an allocation
+    // failed; the set is as it was.
+    fn prepare(&mut self, items: &mut RemappedItems<'_>) -> Result<(), AllocError>
         ensures set { set_in self.new ≡ set_in self.old }
-        ensures own { OnOk result (IsOwn self.new) }
+        ensures items { items.new ≡ items.old }
+        ensures ready { OnOk result (IsReady items.old self.new) }
     {
-        if let Holder::Shared(set) = &self.holder {
-            let own = set.as_ref().copy()?;
-            self.holder = Holder::Own(own);
+        if let Some(set) = self.shared() {
+            let image = items.set_image(self.key, set)?;
+            self.holder = Holder::Remapped(set.clone()?, image);
         }
         Ok(())
     }
@@ -99,25 +111,30 @@ impl KeptSet {
 
     // Replaces each number of a symbol in the set by the one that it maps to, if each has an image below 2^32.
     //
-    // Condition: the set is in memory of its own.
+    // Condition: the set is ready to be remapped.
     fn renumber(&mut self, remap: &Remap)
-        requires { IsOwn self.old }
+        requires { IsReady remap.now self.old }
         ensures { IsRemappedSet remap.now (set_in self.old) (set_in self.new) }
     {
         match &mut self.holder {
             Holder::Own(set) => renumber_fitting(set, remap),
             Holder::Shared(_) => {}
+            Holder::Remapped(set, image) => mem::swap(set, image),
         }
     }
 }
 
-/// Moves sets into memory that no other has. Error: an allocation failed; the sets are as they were.
-pub(crate) fn unshare_sets(sets: &mut Vec<KeptSet>) -> Result<(), AllocError>
+/// Makes sets ready to be remapped. Error: an allocation failed; the sets are as they were.
+pub(crate) fn prepare_sets(
+    sets: &mut Vec<KeptSet>,
+    items: &mut RemappedItems<'_>,
+) -> Result<(), AllocError>
     ensures sets { map set_in sets.new.items ≡ map set_in sets.old.items }
-    ensures own { OnOk result (All IsOwn sets.new.items) }
+    ensures items { items.new ≡ items.old }
+    ensures ready { OnOk result (All (IsReady items.old) sets.new.items) }
 {
     for i in 0..sets.len() {
-        sets[i].unshare()?;
+        sets[i].prepare(items)?;
     }
     Ok(())
 }
@@ -135,9 +152,9 @@ pub(crate) fn share_sets(sets: &mut Vec<KeptSet>, items: &mut SharedItems) -> Re
 /// Replaces each number of a symbol in sets by the one that it maps to. A set with a number that has no image below
 /// 2^32 is unchanged.
 ///
-/// Condition: the sets are in memory of their own.
+/// Condition: the sets are ready to be remapped.
 pub(crate) fn renumber_sets(sets: &mut Vec<KeptSet>, remap: &Remap)
-    requires { All IsOwn sets.old.items }
+    requires { All (IsReady remap.now) sets.old.items }
     ensures size { length sets.new.items ≡ length sets.old.items }
     ensures sets { AreRemappedSets remap.now (map set_in sets.old.items) (map set_in sets.new.items) }
 {

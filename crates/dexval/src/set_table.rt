@@ -7,11 +7,11 @@ ghost use Rattle.dexval.specs.KeptSets.{set_in};
 ghost use Rattle.dexval.specs.Directories.{set_weight_in, sets_weight_in};
 ghost use Rattle.dexval.specs.Tables.{Extends, IsPlaceIn, set_at, places_at, sets_at, AreRemappedSets, with_list};
 
-use crate::kept_set::{KeptSet, renumber_sets, share_sets, unshare_sets};
+use crate::kept_set::{KeptSet, prepare_sets, renumber_sets, share_sets};
+use crate::remapped_items::RemappedItems;
 use crate::set::AnnotationSet;
 use crate::shared_items::SharedItems;
 use crate::weight::listed_weight;
-use dexpool::Remap;
 use std::alloc::{AllocError, Global};
 use std::marker::Model;
 
@@ -133,23 +133,19 @@ impl SetTable {
 
     /// Replaces each number of a symbol in the sets by the one that it maps to. A set with a number that has no image
     /// below 2^32 is unchanged; [`fits`](AnnotationSet::fits) reports which sets are remapped. A set that other tables
-    /// share gets memory of its own.
+    /// share is remapped once, and its image is shared.
     ///
-    /// Error: the allocation of that memory failed; the table is as it was.
-    pub fn renumber(&mut self, remap: &Remap) -> Result<(), AllocError>
+    /// Error: the allocation of memory for such an image failed; the table is as it was.
+    pub fn renumber(&mut self, items: &mut RemappedItems<'_>) -> Result<(), AllocError>
+        ensures items { items.new ≡ items.old }
         ensures size { length self.new.sets ≡ length self.old.sets }
         ensures lists { self.new.lists ≡ self.old.lists }
-        ensures sets { OnOk result (AreRemappedSets remap.now self.old.sets self.new.sets) }
+        ensures sets { OnOk result (AreRemappedSets items.old self.old.sets self.new.sets) }
         ensures unchanged { OnErr result (self.new ≡ self.old) }
     {
-        unshare_sets(&mut self.sets)?;
-        renumber_sets(&mut self.sets, remap);
+        prepare_sets(&mut self.sets, items)?;
+        renumber_sets(&mut self.sets, items.remap());
         Ok(())
-    }
-
-    /// Returns whether other tables share a set of this one. No clause speaks of it.
-    pub fn is_sharing(&self) -> bool {
-        self.sets.iter().any(|set| set.is_shared())
     }
 
     /// Moves each set into the memory of an equal one that other tables have, if there is one.

@@ -36,8 +36,8 @@ pub struct SharedItems {
     values: HashMap<u128, Rc<Vec<Value>>>,
 }
 
-// Returns whether values are the same, one for one.
-fn are_same(values: &Vec<Value>, others: &Vec<Value>) -> bool
+/// Returns whether values are the same, one for one.
+pub(crate) fn are_same(values: &Vec<Value>, others: &Vec<Value>) -> bool
     ensures { IsTrue result → values_of values.now.items ≡ values_of others.now.items }
 {
     let nowhere = Remap::none(*values.allocator());

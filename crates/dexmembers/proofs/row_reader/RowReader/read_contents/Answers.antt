@@ -65,7 +65,7 @@ returns-clause-read c = λ r row pools is.
         instance_fields = instances i;
         direct_methods = directs i;
         virtual_methods = virtuals i;
-        static_values = values_of_list (map value_of c.in_ok-static_values.static_values.items);
+        static_values = c.own-static_values.ensures i;
       };
       weight = omega (arith, c.saturating_add.ensures, c.in_ok-direct_methods.ensures.weight, c.in_ok-virtual_methods.ensures.weight);
     }

@@ -1,4 +1,4 @@
-use Rattle.dexmerge.proofs.Common.{◌∙◌, ◌<◌, ◌∷◌, [], ap, Bool, true, length-set, slice_set, ◌++◌, List, length, map, sym, subst, arith, Contains, map-id, YieldsList-from_vec, YieldsList-turn, YieldsList-end, definitions, mentions, NumberedClass, definition_of, renumbered, remapped}
+use Rattle.dexmerge.proofs.Common.{refl, append-nil, Definition, ◌∙◌, ◌<◌, ◌∷◌, [], ap, Bool, true, length-set, slice_set, ◌++◌, List, length, map, sym, subst, arith, Contains, map-id, YieldsList-from_vec, YieldsList-turn, YieldsList-end, definitions, mentions, NumberedClass, definition_of, renumbered, remapped}
 use Rattle.dexpool.specs.Numberings.{Maps}
 use Rattle.dexclass.specs.Renumbering.{ClassHasPlaces}
 use Rattle.dexmerge.specs.internal.Collecting.{AreCollected}
@@ -12,6 +12,13 @@ member : (c : In-Some) → Contains c.into_classes-classes.result.items c.in-Som
 member c =
     let t = YieldsList-turn (YieldsList-from_vec {s = c.into_iter-class-iterator.result} c.into_classes-classes.result.items c.into_iter-class-iterator.ensures.into_iter_gives.0 (omega (arith, c.into_iter-class-iterator.ensures.into_iter_gives.1))) c.loop-class.yielded c.loop-class.class-iterator c.loop-class.yielded_by c.next.result c.next.new.self c.in-Some.class c.in-Some.is c.next.ensures.steps in
     (length c.loop-class.yielded, t.0, sym t.1)
+
+pub loop-class-init : goal.loop-class-init
+loop-class-init c = record {
+  kept = c.in_ok-renumbering.ensures;
+  count = refl;
+  collected = λ m D part h. subst (λ (l : List Definition). AreCollected m l c.args.self.now.classes.items c.args.self.now.is_name.items) (sym (append-nil D)) h;
+}
 
 pub push-requires-clause-places : goal.push-requires-clause-places
 push-requires-clause-places c =

@@ -1,5 +1,7 @@
 -- Signatures of files, and the digests of classes.
 use Rattle.dexcanon.proofs.Common.{◌≡◌, ℕ, List, [], ◌∷◌, ◌++◌, length, take, drop, map, sym, ap, ◌∙◌, subst, arith, inl, inr, Contains, take_at, drop_at, drop-append-add, sha1, uint, adler_32, Definition, Collection, definitions, Defines, Denotes, IsCollectionOf, Ordered, magic, unsigned_file, with_sums, canonical, length-uint, Head, with_sums_set, StatesLayout, after_header, field_bytes, head_bytes, class_alone, class_digest, IsFileAlone}
+use Rattle.std.specs.Prelude.{reverse}
+use Rattle.std.proofs.lemmas.List.{append_assoc, map-append, reverse-append, take-append-drop}
 use Rattle.dexspec.specs.WellFormed.{AreWellFormed}
 use Rattle.dexspec.specs.Merging.{IsConsistent, IsGood, greatest_caps}
 use Rattle.dexspec.specs.Accepted.{IsAccepted}
@@ -51,9 +53,19 @@ unfolding class_digest
 digest_of d K signature is e = e ∙ ap (λ L. take 20 (drop 12 (canonical L))) (one_collection d K is)
 
 -- it is appended
-pub one_digest : (part : List Definition) (K : Collection) (signature : List ℕ) (old new : List (List ℕ)) → length part ≡ 1 → IsCollectionOf part K → signature ≡ take 20 (drop 12 (canonical K)) → new ≡ old ++ signature ∷ [] → new ≡ old ++ map class_digest part
+pub one_digest : (part : List Definition) (K : Collection) (signature : List ℕ) (old new : List (List ℕ)) → length part ≡ 1 → IsCollectionOf part K → signature ≡ take 20 (drop 12 (canonical K)) → new ≡ old ++ signature ∷ [] → new ≡ old ++ reverse (map class_digest part)
 one_digest (d ∷ []) K signature old new count is e put = put ∙ ap (λ x. old ++ x ∷ []) (digest_of d K signature is e)
 one_digest _ _ signature old new count is e put = absurd (omega (arith, count))
+
+-- ---- many classes
+
+-- the digests of the last classes are appended: those of the first are left
+pub digests_more : (whole now new : List (List ℕ)) (parts left last : List Definition) (at : ℕ) → now ++ reverse (map class_digest parts) ≡ whole → left ≡ take at parts → last ≡ drop at parts → new ≡ now ++ reverse (map class_digest last) → new ++ reverse (map class_digest left) ≡ whole
+digests_more whole now new parts left last at before first second put =
+    let all : left ++ last ≡ parts = ap (λ z. z ++ last) first ∙ ap (λ z. take at parts ++ z) second ∙ take-append-drop at parts in
+    let joined : reverse (map class_digest last) ++ reverse (map class_digest left) ≡ reverse (map class_digest parts) =
+    sym (reverse-append (map class_digest left) (map class_digest last)) ∙ ap reverse (sym (map-append class_digest left last) ∙ ap (map class_digest) all) in
+    ap (λ z. z ++ reverse (map class_digest left)) put ∙ append_assoc now (reverse (map class_digest last)) (reverse (map class_digest left)) ∙ ap (λ z. now ++ z) joined ∙ before
 
 -- ---- files of one class
 

@@ -1,6 +1,6 @@
 //! The digest of each class of a program: the signature of the canonical file of the class alone.
 
-ghost use Rattle.std.specs.Prelude.{◌≡◌, ◌++◌, map, take, drop, IfOk, OnOk};
+ghost use Rattle.std.specs.Prelude.{◌≡◌, ◌<◌, ◌≤◌, ◌++◌, length, map, reverse, take, drop, IfOk, OnOk};
 ghost use Rattle.std.specs.List.{Contains};
 ghost use Rattle.dexspec.specs.Classes.{Definition};
 ghost use Rattle.dexspec.specs.Files.{definitions};
@@ -16,8 +16,8 @@ use dexlayout::Layout;
 use sha1::Sha1;
 use std::alloc::{AllocError, Global};
 
-// How many parts a part is split into. With more of them a class is renumbered fewer times, and the tables of a part
-// are read more often.
+// How many parts a part is split into at least. With more of them a class is renumbered fewer times, and the tables of a
+// part are read more often.
 const WAYS: usize = 8;
 
 /// The digest of each class, in the order of [`Program::classes`]: the signature of the canonical file of the class
@@ -56,12 +56,25 @@ fn digests_of(alloc: Global, part: Part<'_>) -> Result<Vec<[u8; 20]>, AllocError
 {
     let mut digests = Vec::with_capacity(alloc, part.len())?;
     put_digests(alloc, part, &mut digests)?;
+    digests.reverse();
     Ok(digests)
 }
 
-// Appends the digest of each class of a part.
+// How many classes each part of a part has. Where the classes weigh much more than the tables, the parts are many.
+fn part_size(part: &Part<'_>) -> usize
+    requires { 2 ≤ length part.now }
+    ensures some { 0 < result }
+    ensures fewer { result < length part.now }
+{
+    let count = part.len();
+    let ways = WAYS.max(part.density().saturating_mul(4) as usize);
+    ((count - 1) / ways + 1).min(count - 1)
+}
+
+// Appends the digest of each class of a part, from the last to the first.
 fn put_digests(alloc: Global, part: Part<'_>, digests: &mut Vec<[u8; 20]>) -> Result<(), AllocError>
-    ensures { OnOk result (digests.new.items ≡ digests.old.items ++ map class_digest part.entry) }
+    ensures { OnOk result (digests.new.items
+        ≡ digests.old.items ++ reverse (map class_digest part.entry)) }
 {
     let count = part.len();
     if count == 0 {
@@ -72,9 +85,11 @@ fn put_digests(alloc: Global, part: Part<'_>, digests: &mut Vec<[u8; 20]>) -> Re
         digests.push(signature(alloc, &program)?)?;
         return Ok(());
     }
-    let parts = part.split(alloc, (count - 1) / WAYS + 1)?;
-    for smaller in parts {
-        put_digests(alloc, smaller, digests)?;
+    let size = part_size(&part);
+    let mut parts = part.into_parts();
+    while parts.len() > 0 {
+        let last = parts.split_off(alloc, parts.len().saturating_sub(size))?;
+        put_digests(alloc, last, digests)?;
     }
     Ok(())
 }

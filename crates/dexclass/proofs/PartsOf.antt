@@ -119,15 +119,6 @@ module _ (m : Mentions) (cs : List NumberedClass) where
   pub trimmed_good : AreGoodClasses m cs → (n : Mentions) (new : List NumberedClass) → AreTrimmed D n new → AreMergeable n new
   trimmed_good h n new trimmed = trimmed_mergeable D n new trimmed (one_place (λ (d : Definition). d.0) D (seen_apart (λ (d : Definition). d.0) D h.names_differ)) h.good h.formed
 
--- one more part of the first of the classes
-pub one_more_part : (f : NumberedClass → Definition) (parts : List (List Definition)) (part : List Definition) (cs front back : List NumberedClass) (n : ℕ) (whole : List Definition) → flat_map (λ p. p) parts ++ map f cs ≡ whole → front ≡ take n cs → back ≡ drop n cs → part ≡ map f front
-    → flat_map (λ p. p) (parts ++ part ∷ []) ++ map f back ≡ whole
-one_more_part f parts part cs front back n whole joined first second is =
-    ap (λ z. z ++ map f back) (flat_map-append (λ (p : List Definition). p) parts (part ∷ []) ∙ ap (λ z. flat_map (λ (p : List Definition). p) parts ++ z) (append-nil part ∙ is ∙ ap (map f) first))
-    ∙ append_assoc (flat_map (λ (p : List Definition). p) parts) (map f (take n cs)) (map f back)
-    ∙ ap (λ z. flat_map (λ (p : List Definition). p) parts ++ z) (ap (λ z. map f (take n cs) ++ map f z) second ∙ sym (map-append f (take n cs) (drop n cs)) ∙ ap (map f) (take-append-drop n cs))
-    ∙ joined
-
 -- ---- the classes of a program
 
 -- they can be merged

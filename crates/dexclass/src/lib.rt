@@ -30,7 +30,7 @@ pub use checking::{check, check_frame};
 pub use classes::Class;
 pub use dexflags::{ClassFlags, FieldFlags, MethodFlags};
 pub use laws::{renumbering_law, same_law, uses_law};
-pub use parts::Part;
+pub use parts::{Part, Parts};
 pub use programs::Program;
 pub use reading::read;
 pub use renumbering::renumber;

@@ -1,7 +1,6 @@
 //! Parts of a program: some of its classes, over the numbering of just what these mention.
 
-ghost use Rattle.std.specs.Prelude.{◌≡◌, ◌<◌, ◌≤◌, All, length, map, not, vec_len, IfOk};
-ghost use Rattle.std.specs.List.{flat_map};
+ghost use Rattle.std.specs.Prelude.{◌≡◌, ◌≤◌, length, map, not, take, drop, vec_len, IfOk, OnOk};
 ghost use Rattle.dexpool.specs.Cut.{kept};
 ghost use Rattle.dexspec.specs.Files.{definitions, IsCollectionOf};
 ghost use Rattle.dexspec.specs.Depth.{in_class_order};
@@ -97,34 +96,23 @@ impl<'a> Part<'a> {
         self.classes.len()
     }
 
-    /// The classes in parts of `size` each, and fewer in the last, in their order. The time for each part grows with
-    /// the tables of this one and with what the part's classes mention.
-    ///
-    /// Condition: `size` is not 0.
-    ///
-    /// Source: this project's rule, that a file has the symbols that its classes mention and no others.
-    pub fn split(self, alloc: Global, size: usize) -> Result<Vec<Part<'a>>, AllocError>
-        requires { 0 < size }
-        ensures joined { IfOk result (λ parts. flat_map (λ part. part) parts.items ≡ self.entry) }
-        ensures short { IfOk result (λ parts. All (λ part. length part ≤ size) parts.items) }
-    {
-        let Part {
-            numbering,
-            mut classes,
-        } = self;
-        numbering.is_numbering();
-        let mut parts = Vec::new(alloc);
-        while !classes.is_empty() {
-            let others = classes.split_off(size.min(classes.len()))?;
-            let trimmed = trim(alloc, &numbering, &mut classes)?;
-            let part = Part {
-                numbering: trimmed,
-                classes,
-            };
-            parts.push(part)?;
-            classes = others;
+    /// How many times what their symbols weigh the classes weigh: many times where they share items. No clause speaks of
+    /// it.
+    pub fn density(&self) -> u64 {
+        let mut bodies: u64 = 0;
+        for class in &self.classes {
+            bodies = bodies.saturating_add(class.weight);
         }
-        Ok(parts)
+        bodies / self.numbering.weight().max(1)
+    }
+
+    /// The classes, to be split off in parts.
+    pub fn into_parts(self) -> Parts<'a>
+        ensures { result ≡ self.entry }
+    {
+        let Part { numbering, classes } = self;
+        numbering.is_numbering();
+        Parts { numbering, classes }
     }
 
     /// The classes whose flags are set, and the others, each in their order. The time grows with the tables of this
@@ -167,6 +155,64 @@ impl<'a> Part<'a> {
     {
         let Part { numbering, classes } = self;
         Program::of(alloc, numbering, classes)
+    }
+}
+
+/// Classes of a part that are not yet split off in parts of their own. Contracts see the list of their definitions.
+pub struct Parts<'a> {
+    // It may have more symbols than the classes mention.
+    numbering: Numbering<'a>,
+    classes: Vec<Class<'a>>,
+}
+
+impl Drop for Parts<'_> {
+    fn drop(self) {
+        let Parts {
+            numbering: _,
+            classes: _,
+        } = self;
+    }
+}
+
+impl<'a> Model for Parts<'a> {
+    ghost use Rattle.std.specs.Prelude.{List, map};
+    ghost use Rattle.std.specs.Coded.{coded_list};
+    ghost use Rattle.dexspec.specs.Classes.{Definition};
+    ghost use Rattle.dexspec.specs.internal.Codes.{definition_code};
+    ghost use Rattle.dexclass.specs.Numbered.{definition_of};
+    ghost use Rattle.dexclass.specs.internal.Parts.{AreGoodClasses};
+
+    ghost Value = { List Definition };
+
+    ghost coded = { coded_list definition_code };
+
+    ghost view = { λ p. map (definition_of p.numbering) p.classes.items };
+
+    ghost invariant = { λ p. AreGoodClasses p.numbering p.classes.items };
+}
+
+impl<'a> Parts<'a> {
+    /// The number of classes that are left.
+    pub fn len(&self) -> usize
+        ensures { result ≡ length self.now }
+    {
+        self.classes.len()
+    }
+
+    /// The classes from a place on, in a part of their own; those before it are left. The time grows with the tables of
+    /// the whole part and with what the classes mention.
+    ///
+    /// Condition: there are at least as many classes. Error: an allocation failed.
+    ///
+    /// Source: this project's rule, that a file has the symbols that its classes mention and no others.
+    pub fn split_off(&mut self, alloc: Global, at: usize) -> Result<Part<'a>, AllocError>
+        requires { at ≤ length self.old }
+        ensures left { OnOk result (self.new ≡ take at self.old) }
+        ensures part { IfOk result (λ part. part ≡ drop at self.old) }
+    {
+        let mut classes = self.classes.split_off(at)?;
+        let numbering = trim(alloc, &self.numbering, &mut classes)?;
+        Ok(Part { numbering, classes })
     }
 }
 

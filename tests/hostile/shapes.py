@@ -59,6 +59,10 @@ class Shape:
     bad: bool = False
 
 
+# The bytes of a type in a file, with its text of eight characters: a row each, and the length and the end of the text.
+NAMED_TYPE = 4 + 4 + 10
+
+
 @dataclasses.dataclass
 class Built:
     """A file, about what it weighs, and about how many bytes the canonical files of its classes have, each alone."""
@@ -134,7 +138,8 @@ def body_weight(shape):
 
 def alone(file, shape):
     """Returns about how many bytes the canonical files of the classes have, each alone: in one only code is repeated."""
-    one = 300 + 2 * shape.interfaces + 8 * shape.annotations + 40 * (shape.fields + shape.methods)
+    one = 300 + 2 * shape.interfaces + (8 + NAMED_TYPE) * shape.annotations + 40 * (shape.fields + shape.methods)
+    one += NAMED_TYPE * shape.interfaces if shape.defined else 0
     if shape.code:
         units, tries, following = shape.code.put(file)
         one += (16 + 2 * len(units) + 8 * tries + len(following)) * shape.methods

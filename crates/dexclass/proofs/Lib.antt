@@ -28,3 +28,5 @@ pub mod EmptyPrograms
 pub mod ProgramsOf
 pub mod PartsOf
 pub mod SharedLists
+pub mod FirstEqual
+pub mod ClassesListed

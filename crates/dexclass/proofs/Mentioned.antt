@@ -7,7 +7,7 @@ use Rattle.dexclass.specs.{HaveMarked}
 -- ---- symbols of a kind and a number
 
 -- kinds that are one
-same_is : (k j : SymbolKind) → same_kind k j ≡ true → k ≡ j
+pub same_is : (k j : SymbolKind) → same_kind k j ≡ true → k ≡ j
 same_is kinds.Text kinds.Text e = refl
 same_is kinds.Typ kinds.Typ e = refl
 same_is kinds.Proto kinds.Proto e = refl
@@ -49,6 +49,10 @@ module _ (m : Mentions) (marks : Marks) where
   is_kept _ i _ e at of = absurd of
 
 -- ---- what is marked is what occurs
+
+-- a symbol that occurs is marked
+pub marked_use : (us : List Use) (marks : Marks) → HaveMarked us marks → (u : Use) → Contains us u → IsMarkedUse marks u
+marked_use us marks h u c = h u.kind u.number ∙ list_any-member (λ (v : Use). same_kind v.kind u.kind && v.number == u.number) us u c (ap (λ (b : Bool). b && u.number == u.number) (is_same u.kind) ∙ eq-eqb u.number u.number refl)
 
 both_among : (xs ys zs : List Symbol) → AreAmong xs zs → AreAmong ys zs → AreAmong (xs ++ ys) zs
 both_among xs ys zs f g s c = elim (Contains-append_cases xs ys s c) [ inl l ↦ f s l | inr r ↦ g s r ]
@@ -92,7 +96,7 @@ module _ (m : Mentions) (us : List Use) (ss : List Symbol) (marks : Marks) (zip 
 
   -- what occurs is marked
   pub is_marked : (u : Use) → Contains us u → IsMarkedUse marks u
-  is_marked u c = h u.kind u.number ∙ list_any-member (λ (v : Use). same_kind v.kind u.kind && v.number == u.number) us u c (ap (λ (b : Bool). b && u.number == u.number) (is_same u.kind) ∙ eq-eqb u.number u.number refl)
+  is_marked u c = marked_use us marks h u c
 
   pub occurring_marked : AreAmong ss (marked m marks)
   occurring_marked s c =

@@ -3,6 +3,7 @@ pub mod Numbered
 pub mod Uses
 pub mod Renumbering
 pub mod Parents
+pub mod EqualLists
 pub mod Programs
 pub mod Laws
 pub mod internal
@@ -11,5 +12,6 @@ unfoldable pub use Numbered.*
 unfoldable pub use Uses.*
 unfoldable pub use Renumbering.*
 unfoldable pub use Parents.*
+unfoldable pub use EqualLists.*
 unfoldable pub use Programs.*
 unfoldable pub use Laws.*

@@ -1,6 +1,7 @@
 -- Words of the contracts of private functions: no public contract reaches them.
 pub mod Rows
 pub mod Listed
+pub mod ClassLists
 pub mod Wholes
 pub mod Checked
 pub mod Ordered

@@ -1,6 +1,6 @@
 //! The interfaces of a class: a list in the bytes of a file, or numbers of its own.
 
-ghost use Rattle.std.specs.Prelude.{◌≡◌, ◌/◌, [], length, map, unwrap_or, IfOk, IsTrue};
+ghost use Rattle.std.specs.Prelude.{◌≡◌, ◌/◌, [], length, map, take, drop, unwrap_or, IfOk, IfSome, IsTrue};
 ghost use Rattle.dexspec.specs.Bytes.{ushorts_at};
 ghost use Rattle.dexclass.specs.internal.Rows.{interface_indices, HasInterfaceList};
 ghost use Rattle.dexclass.specs.Renumbering.{remapped};
@@ -78,6 +78,36 @@ fn listed_bytes<'a>(frame: &Frame<'a>, off: u32, count: u32) -> &'a [u8]
     let (_, list) = frame.rest(off).split_at(4);
     let (numbers, _) = list.split_at(2 * count as usize);
     numbers
+}
+
+// Returns whether the numbers of two bytes each from a place on are those of a list.
+fn are_shorts_at(whole: &[u8], place: usize, list: &[u8]) -> bool
+    ensures { IsTrue result → ushorts_at list.now 0 (length list.now / 2)
+        ≡ take (length list.now / 2) (drop place (ushorts_at whole.now 0 (length whole.now / 2))) }
+{
+    let count = list.len() / 2;
+    let Some(room) = (whole.len() / 2).checked_sub(place) else {
+        return false;
+    };
+    if room < count || list.len() % 2 != 0 {
+        return false;
+    }
+    let (_, rest) = whole.split_at(2 * place);
+    rest.split_at(2 * count).0 == list
+}
+
+// Returns whether the numbers from a place on are those of a list.
+fn are_words_at(whole: &[usize], place: usize, list: &[usize]) -> bool
+    ensures { IsTrue result → list.now ≡ take (length list.now) (drop place whole.now) }
+{
+    let Some(room) = whole.len().checked_sub(place) else {
+        return false;
+    };
+    if room < list.len() {
+        return false;
+    }
+    let (_, rest) = whole.split_at(place);
+    rest.split_at(list.len()).0 == list
 }
 
 // Returns whether the numbers of types are their own images.
@@ -158,6 +188,59 @@ impl<'a> Interfaces<'a> {
             return TypeNumbers::words(part.numbers());
         }
         TypeNumbers::words(&[])
+    }
+
+    // The bytes of the list, if it is in a file.
+    fn bytes(&self) -> Option<&'a [u8]>
+        ensures { IfSome result (λ bytes. self.now ≡ ushorts_at bytes.now 0 (length bytes.now / 2)) }
+    {
+        if let Kept::File(list) = &self.kept {
+            return Some(list.bytes);
+        }
+        None
+    }
+
+    // The numbers, if they are in a list of which others are parts too.
+    fn shared(&self) -> Option<&[usize]>
+        ensures { IfSome result (λ numbers. self.now ≡ numbers.now) }
+    {
+        if let Kept::Shared(part) = &self.kept {
+            return Some(part.numbers());
+        }
+        None
+    }
+
+    /// Returns whether the lists are kept in the same way and are equal. They are compared many numbers at a time.
+    pub(crate) fn is_same(&self, other: &Interfaces<'_>) -> bool
+        ensures { IsTrue result → self.now ≡ other.now }
+    {
+        if let Some(mine) = self.bytes() {
+            return match other.bytes() {
+                Some(theirs) => mine == theirs,
+                None => false,
+            };
+        }
+        match (self.shared(), other.shared()) {
+            (Some(mine), Some(theirs)) => mine == theirs,
+            _ => false,
+        }
+    }
+
+    /// Returns whether the numbers from a place on are those of a list that is kept in the same way. They are compared
+    /// many at a time.
+    pub(crate) fn has_at(&self, place: usize, list: &Interfaces<'_>) -> bool
+        ensures { IsTrue result → list.now ≡ take (length list.now) (drop place self.now) }
+    {
+        if let Some(whole) = self.bytes() {
+            return match list.bytes() {
+                Some(list) => are_shorts_at(whole, place, list),
+                None => false,
+            };
+        }
+        match (self.shared(), list.shared()) {
+            (Some(whole), Some(list)) => are_words_at(whole, place, list),
+            _ => false,
+        }
     }
 
     /// The same list: the bytes of a file are borrowed as before.

@@ -1,7 +1,7 @@
 //! Marks on the symbols that occur in classes.
 
-ghost use Rattle.std.specs.Prelude.{All, map};
-ghost use Rattle.dexpool.specs.Uses.{HasMark, AreMarkedToo};
+ghost use Rattle.std.specs.Prelude.{All, IsTrue, map};
+ghost use Rattle.dexpool.specs.Uses.{HasMark, AreMarkedToo, IsMarkedUse};
 ghost use Rattle.dexclass.specs.Uses.{use_of, type_use, class_uses};
 
 use crate::classes::Class;
@@ -28,6 +28,17 @@ fn mark_types(types: &TypeNumbers<'_>, marks: &mut Marks)
     }
 }
 
+// Marks types, unless they are marked.
+fn mark_unless(are_marked: bool, types: &TypeNumbers<'_>, marks: &mut Marks)
+    requires known { All (HasMark marks.old) (map type_use types.now) }
+    requires marked { IsTrue are_marked → All (IsMarkedUse marks.old) (map type_use types.now) }
+    ensures { AreMarkedToo (map type_use types.now) marks.old marks.new }
+{
+    if !are_marked {
+        mark_types(types, marks);
+    }
+}
+
 impl<'a> Class<'a> {
     /// Marks each symbol that occurs in the class: its type, its superclass, its interfaces, its source text, its
     /// fields and methods, and what their code, annotations and values name. Marks that are set stay.
@@ -39,9 +50,19 @@ impl<'a> Class<'a> {
         requires { All (HasMark marks.old) (class_uses self.now) }
         ensures { AreMarkedToo (class_uses self.now) marks.old marks.new }
     {
+        self.mark_with(false, marks);
+    }
+
+    /// As [`Class::mark`]. Of interfaces that are marked no number is read.
+    pub(crate) fn mark_with(&self, are_interfaces_marked: bool, marks: &mut Marks)
+        requires known { All (HasMark marks.old) (class_uses self.now) }
+        requires marked { IsTrue are_interfaces_marked
+            → All (IsMarkedUse marks.old) (map type_use self.now.interfaces) }
+        ensures { AreMarkedToo (class_uses self.now) marks.old marks.new }
+    {
         marks.mark(SymbolKind::Typ, self.name);
         mark_all(SymbolKind::Typ, self.superclass.as_slice(), marks);
-        mark_types(&self.interfaces.numbers(), marks);
+        mark_unless(are_interfaces_marked, &self.interfaces.numbers(), marks);
         mark_all(SymbolKind::Text, self.source.as_slice(), marks);
         self.members.mark(marks);
     }

@@ -15,8 +15,10 @@ ghost use Rattle.dexclass.specs.Programs.{AreMergeable, AreClassesOf, IsClassAt}
 
 use crate::arranging::arrange;
 use crate::classes::Class;
+use crate::equal_lists::first_equal;
 use crate::ordering::{known_depths, names};
-use dexorder::{class_order, depths_of};
+use crate::shared_depths::depths_with_firsts;
+use dexorder::class_order;
 use dexpool::{Numbering, SymbolKind};
 use std::alloc::{AllocError, Global};
 use std::marker::Model;
@@ -199,7 +201,8 @@ impl<'a> Program<'a> {
             });
         }
         let types = numbering.count(SymbolKind::Typ);
-        let depths = depths_of(alloc, &classes, types)?;
+        let firsts = first_equal(alloc, &classes)?;
+        let depths = depths_with_firsts(alloc, &classes, types, &firsts)?;
         Program::arranged(alloc, numbering, classes, &depths, total)
     }
 

@@ -1,12 +1,12 @@
 //! Reading a whole file.
 
-ghost use Rattle.std.specs.Prelude.{◌≡◌, ℕ, ◌+◌, ◌*◌, ◌<◌, ◌≤◌, All, length, IfOk, IfErr, MatchOption};
+ghost use Rattle.std.specs.Prelude.{◌≡◌, ℕ, List, ◌+◌, ◌*◌, ◌<◌, ◌≤◌, All, length, IfOk, IfErr, MatchOption};
+ghost use Rattle.dexspec.specs.Mentions.{Mentions};
 ghost use Rattle.dexspec.specs.Header.{ClassDefs, table_size};
 ghost use Rattle.dexspec.specs.Accepted.{HoldBelow, IsFrame};
 ghost use Rattle.dexspec.specs.Weight.{most_weight};
 ghost use Rattle.dexpool.specs.Pools.{ArePools};
-ghost use Rattle.dexmembers.specs.ClassDefs.{IsClassDef};
-ghost use Rattle.dexmembers.specs.Reading.{AreReadWithin, IsMembersFaultWithin, InClass};
+ghost use Rattle.dexmembers.specs.SharedMembers.{AreSharedMembers};
 ghost use Rattle.dexids.specs.declared.faults.ReadFault.TheVariants.{Refused, Memory};
 ghost use Rattle.dexclass.specs.internal.Rows.{HasInterfaceList, interface_indices};
 ghost use Rattle.dexclass.specs.internal.Checked.{IsFaultAtRow};
@@ -22,10 +22,9 @@ use crate::programs::Program;
 use crate::trimming::into_trimmed;
 use dexhead::{Condition, Frame, Refusal, Table};
 use dexlaws::denotes::good::denoted_is_good;
-use dexmembers::{ClassDef, Members, read_members};
+use dexmembers::{ClassDef, SharedMembers, read_shared_members};
 use dexpool::{ItemFault, Numbering, Pools, ReadFault, type_list_len};
-use dexval::SharedItems;
-use std::alloc::{AllocError, Global};
+use std::alloc::Global;
 
 /// The most that a program may weigh.
 pub(crate) const MOST_WEIGHT: u64 = 1 << 30;
@@ -93,51 +92,20 @@ struct Bodies<'a> {
     weight: u64,
 }
 
-// Moves what other classes have too into memory that they share, if there is some.
-fn shared<'a>(
-    mut members: Members<'a>,
-    items: &mut Option<SharedItems>,
-) -> Result<Members<'a>, AllocError>
-    ensures { IfOk result (λ shared. shared ≡ members.entry) }
-{
-    let Some(items) = items else {
-        return Ok(members);
-    };
-    members.share(items)?;
-    Ok(members)
-}
-
-// Reads what a class row declares, as `read_members` does. What other rows have too is shared, if items are.
-fn read_shared_members<'a>(
-    alloc: Global,
-    frame: &Frame<'a>,
-    pools: &Pools<'_>,
-    row: &ClassDef,
-    most: u32,
-    items: &mut Option<SharedItems>,
-) -> Result<(Members<'a>, u32), ItemFault>
-    ensures read { (r : ℕ) → IsClassDef frame.now r row.now
-        → InClass frame.now pools.now r (IfOk result (AreReadWithin frame.now r pools.now most)) }
-    ensures refused { (r : ℕ) → IsClassDef frame.now r row.now
-        → InClass frame.now pools.now r (IfErr result (IsMembersFaultWithin frame.now r most)) }
-{
-    let (members, weight) = read_members(alloc, frame, pools, row, most)?;
-    let members = shared(members, items)?;
-    Ok((members, weight))
-}
-
 // Reads the class rows, from row 0 on, until the classes weigh more than `most`. What the members of a row may weigh is
-// what is left for them: what is read is not weighed again. What several rows have is shared, if items are.
+// what is left for them: what is read is not weighed again. What several rows have is in the memory of `shared`, if that
+// is not nothing.
 fn read_bodies_within<'a>(
     alloc: Global,
     frame: &Frame<'a>,
     pools: &Pools<'a>,
     most: u64,
-    mut items: Option<SharedItems>,
+    mut shared: SharedMembers<'a>,
 ) -> Result<Bodies<'a>, ReadFault>
     requires pools { ArePools frame.now pools.now }
     requires before { HoldBelow 17 frame.now }
     requires most { most ≤ most_weight }
+    requires shared { AreSharedMembers frame.now pools.now shared }
     ensures accepted { IfOk result
         (AreBodies frame.now pools.now (table_size frame.now ClassDefs)) }
     ensures refused { IfErr result (IsFaultWithin most frame.now) }
@@ -155,7 +123,12 @@ fn read_bodies_within<'a>(
         let before = bodies.weight + own;
         let left = most.saturating_sub(before) as u32;
         let (members, weight) = match read_shared_members(
-            alloc, frame, pools, &row, left, &mut items,
+            alloc,
+            frame,
+            pools,
+            &row,
+            left,
+            &mut shared,
         ) {
             Ok(found) => found,
             Err(fault) => return Err(at_row(fault, r)),
@@ -190,6 +163,17 @@ fn most_unchecked(frame: &Frame<'_>) -> u64
         .min(MOST_WEIGHT)
 }
 
+// What the classes of a file share: nothing where it has one class, which then has all in memory of its own.
+fn shared_members<'a>(alloc: Global, frame: &Frame<'_>) -> SharedMembers<'a>
+    ensures { (b : List ℕ) (m : Mentions) → AreSharedMembers b m result }
+{
+    if frame.size(Table::ClassDefs) > 1 {
+        SharedMembers::empty(alloc)
+    } else {
+        SharedMembers::none()
+    }
+}
+
 // Reads the class rows. If the classes weigh much more than the file, as where many rows share an item, all rows are
 // checked before more of them is kept, and what is kept of an item is shared.
 fn read_bodies<'a>(
@@ -203,7 +187,8 @@ fn read_bodies<'a>(
         (AreBodies frame.now pools.now (table_size frame.now ClassDefs)) }
     ensures refused { IfErr result (IsFaultOf frame.now) }
 {
-    let refusal = match read_bodies_within(alloc, frame, pools, most_unchecked(frame), None) {
+    let most = most_unchecked(frame);
+    let refusal = match read_bodies_within(alloc, frame, pools, most, SharedMembers::none()) {
         Ok(bodies) => return Ok(bodies),
         Err(ReadFault::Memory) => return Err(ReadFault::Memory),
         Err(ReadFault::Refused(refusal)) => refusal,
@@ -212,8 +197,8 @@ fn read_bodies<'a>(
         return Err(ReadFault::Refused(refusal));
     }
     check_rows(alloc, frame, pools)?;
-    let items = SharedItems::none(alloc);
-    read_bodies_within(alloc, frame, pools, MOST_WEIGHT, Some(items))
+    let shared = shared_members(alloc, frame);
+    read_bodies_within(alloc, frame, pools, MOST_WEIGHT, shared)
 }
 
 /// The weight of classes with all symbols of a numbering, or `None` if it is too much; `bodies` is that of the classes

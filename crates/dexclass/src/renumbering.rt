@@ -6,8 +6,8 @@ ghost use Rattle.dexclass.specs.Renumbering.{remapped, renumbered, ClassHasPlace
 
 use crate::classes::Class;
 use crate::interface_lists::Interfaces;
+use dexmembers::RemappedMembers;
 use dexpool::{Remap, SymbolKind};
-use dexval::RemappedItems;
 use std::alloc::AllocError;
 
 /// The image of the number of a type, or the number itself if it has none.
@@ -50,14 +50,14 @@ impl<'a> Class<'a> {
         ensures unchanged { OnErr result (self.new ≡ self.old) }
     {
         let interfaces = self.interfaces.renumbered(remap)?;
-        let mut items = RemappedItems::of(self.interfaces.allocator(), remap);
+        let mut items = RemappedMembers::of(self.interfaces.allocator(), remap);
         self.renumber_with(&mut items, interfaces)
     }
 
     /// As [`Class::renumber`], with the interfaces remapped already, or `None` if they stay.
     pub(crate) fn renumber_with(
         &mut self,
-        items: &mut RemappedItems<'_>,
+        items: &mut RemappedMembers<'_, 'a>,
         interfaces: Option<Interfaces<'a>>,
     ) -> Result<(), AllocError>
         requires places { ClassHasPlaces items.old self.old }

@@ -1,6 +1,6 @@
 //! Classes of one program renumbered, where many have interfaces that overlap.
 
-ghost use Rattle.std.specs.Prelude.{◌≡◌, All, IfOk, IfSome, IsTrue, OnOk, OnErr, length, map, take, drop, unwrap_or};
+ghost use Rattle.std.specs.Prelude.{◌≡◌, All, IfOk, IfSome, OnOk, OnErr, map, unwrap_or};
 ghost use Rattle.dexpool.specs.Numberings.{Maps};
 ghost use Rattle.dexclass.specs.Renumbering.{remapped, renumbered, ClassHasPlaces};
 ghost use Rattle.dexclass.specs.internal.Wholes.{IsRemapped};
@@ -8,9 +8,8 @@ ghost use Rattle.dexclass.specs.internal.Wholes.{IsRemapped};
 use crate::classes::Class;
 use crate::interface_lists::{Interfaces, remapped_types};
 use crate::list_parts::{ListPlace, SharedPart};
+use dexmembers::RemappedMembers;
 use dexpool::Remap;
-use dexrows::TypeNumbers;
-use dexval::RemappedItems;
 use std::alloc::{AllocError, Global};
 use std::collections::HashMap;
 use std::marker::Model;
@@ -102,24 +101,6 @@ pub(crate) struct Whole<'a> {
     images: Rc<Vec<usize>>,
 }
 
-// Returns whether the numbers from a place on are those of a list.
-fn are_at(whole: &TypeNumbers<'_>, place: usize, list: &TypeNumbers<'_>) -> bool
-    ensures { IsTrue result → take (length list.now) (drop place whole.now) ≡ list.now }
-{
-    let Some(room) = whole.len().checked_sub(place) else {
-        return false;
-    };
-    if room < list.len() {
-        return false;
-    }
-    for k in 0..list.len() {
-        if whole.at(place + k) != list.at(k) {
-            return false;
-        }
-    }
-    true
-}
-
 impl<'a> Whole<'a> {
     // What covers lists of classes, remapped.
     fn of(
@@ -151,15 +132,14 @@ impl<'a> Whole<'a> {
         let Some(start) = place.start.checked_sub(self.low) else {
             return Ok(None);
         };
-        let numbers = list.numbers();
-        if !are_at(&self.numbers.numbers(), start, &numbers) {
+        if !self.numbers.has_at(start, list) {
             return Ok(None);
         }
         let from = ListPlace {
             source: place.source,
             start: self.low,
         };
-        let images = SharedPart::of(&self.images, from, start, numbers.len())?;
+        let images = SharedPart::of(&self.images, from, start, list.numbers().len())?;
         Ok(images)
     }
 }
@@ -186,7 +166,7 @@ fn wholes_of<'a>(
 #[derive(Drop)]
 pub struct Renumbering<'r, 'a> {
     // The map, and what classes share besides lists.
-    items: RemappedItems<'r>,
+    items: RemappedMembers<'r, 'a>,
     // What lists of each file are parts of, and its number by the file.
     numbers: HashMap<u128, usize>,
     wholes: Vec<Whole<'a>>,
@@ -218,7 +198,7 @@ impl<'r, 'a> Renumbering<'r, 'a> {
         let Coverings { numbers, all } = Coverings::of(alloc, classes)?;
         let wholes = wholes_of(alloc, remap, classes, &all)?;
         Ok(Renumbering {
-            items: RemappedItems::of(alloc, remap),
+            items: RemappedMembers::of(alloc, remap),
             numbers,
             wholes,
         })
@@ -261,7 +241,7 @@ impl<'r, 'a> Renumbering<'r, 'a> {
     }
 
     /// Remaps each number of a class, as [`Class::renumber`] does. What several classes share is remapped once: lists of
-    /// interfaces, sets of annotations and values of static fields.
+    /// interfaces, sets of annotations, values of static fields, code and debug programs.
     ///
     /// Condition: as of [`Class::renumber`]. Error: an allocation failed; the class is as it was.
     pub fn renumber(&mut self, class: &mut Class<'a>) -> Result<(), AllocError>

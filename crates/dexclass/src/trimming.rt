@@ -8,13 +8,14 @@ ghost use Rattle.dexclass.specs.internal.Trimming.{MarkClasses, AreTrimmed};
 ghost use Rattle.dexclass.specs.Renumbering.{renumbered, IsMappedClass};
 
 use crate::classes::Class;
+use crate::equal_lists::first_equal;
 use crate::laws::{renumbering_law, uses_law};
 use crate::shared_renumbering::Renumbering;
 use dexmembers::members_cut_law;
 use dexpool::{Marks, Numbering, Remap};
 use std::alloc::{AllocError, Global};
 
-// Marks what the classes name.
+// Marks what the classes name. A long list that several of them share is gone over once.
 fn marked(
     alloc: Global,
     numbering: &Numbering<'_>,
@@ -25,9 +26,10 @@ fn marked(
 {
     uses_law();
     numbering.is_numbering();
+    let firsts = first_equal(alloc, classes)?;
     let mut marks = Marks::none(alloc, numbering)?;
-    for class in classes {
-        class.mark(&mut marks);
+    for i in 0..classes.len() {
+        classes[i].mark_with(firsts[i] < i, &mut marks);
     }
     Ok(marks)
 }

@@ -1,5 +1,5 @@
 -- Code items read: what is at the offset, and which condition fails.
-use Rattle.dexcode.proofs.Common.{◌≡◌, ◌≢◌, ℕ, ◌+◌, ◌*◌, ◌%◌, Bool, false, List, [], length, map, get_or, Option, Some, None, refl, ap, sym, subst, ◌∙◌, inl, inr, arith, pos, All, All-nil, uint_at, ushort_at, Mentions, Cut, Piece, is_instruction_start, DebugAt, code_units, PiecesAt, RegistersAt, ItemFault, Refused, Memory, ArePools, AreRising, NumberedCode, ArePiecesAt, AreStartsAt, NumberedDebug, IsDebugAt, NumberedTry, debug_in, option_map, Debug, try_meant, TryItemsAt, TriesAt, IsTriesFault, IsCodeAt, IsCodeFault, IsDebugOf, Result, Ok, Err, IfOk, IfErr, sum_by-cons, Code, code_weight, debug_weight, NumberedPiece, IsDebugFault, HasCodeOf, HasProgramOf, HaveTriesOf, IsProgramFault, numbered_code_weight, NumberedItem, DenotesCode}
+use Rattle.dexcode.proofs.Common.{◌≡◌, ◌≢◌, ℕ, ◌+◌, ◌*◌, ◌%◌, Bool, false, List, [], length, map, get_or, Option, Some, None, refl, ap, sym, subst, ◌∙◌, inl, inr, arith, pos, All, All-nil, uint_at, ushort_at, Mentions, Cut, Piece, is_instruction_start, DebugAt, code_units, PiecesAt, RegistersAt, ItemFault, Refused, Memory, ArePools, AreRising, NumberedCode, ArePiecesAt, AreStartsAt, NumberedDebug, IsDebugAt, NumberedTry, debug_in, option_map, Debug, try_meant, TryItemsAt, TriesAt, IsTriesFault, IsCodeAt, IsCodeBeside, IsCodeFault, IsDebugOrNone, ArePartsAt, IsDebugOf, unwrap_or, Result, Ok, Err, IfOk, IfErr, sum_by-cons, Code, code_weight, debug_weight, NumberedPiece, IsDebugFault, HasCodeOf, HasPieces, HasProgramOf, HaveTriesOf, IsProgramFault, numbered_code_weight, NumberedItem, DenotesCode}
 use Rattle.dexspec.specs.Code as whole
 use Rattle.dexspec.proofs.wellformed.FormedRows.{length-ushorts_at}
 use Rattle.dexcode.proofs.Images.{all_back_map}
@@ -71,6 +71,9 @@ some_debug b off debug_off m d is some h = record {
   at = inr ((λ e. some (is ∙ e)), subst (λ (x : Debug). DebugAt b (uint_at b (off + 8)) x) (sym h.encodes.means) (subst (λ (o : ℕ). DebugAt b o h.program) is h.at));
 }
 
+pub pieces_there : {b : List ℕ} {off : ℕ} {m : Mentions} {ps : List NumberedPiece} → ArePiecesAt b off m ps → HasPieces b off
+pieces_there pieces = record { cuts = pieces.cuts; pieces = pieces.symbolic; at = pieces.at }
+
 pub code_found : (b : List ℕ) (off : ℕ) (m : Mentions) → ArePools b m → AreRising m → (starts : List Bool) → AreStartsAt b off starts → (body : NumberedCode) → RegistersAt b off body.registers body.ins body.outs → ArePiecesAt b off m body.pieces
     → (ts : List NumberedTry) → TriesAt starts (length m.types) b off ts → (d : Option NumberedDebug) → IsDebugOf b off m d → IsCodeAt b off m (record { body = body; tries = ts; debug = d })
 code_found b off m pools rising starts starts_are body registers pieces ts tries d debug = record {
@@ -92,12 +95,25 @@ code_found b off m pools rising starts starts_are body registers pieces ts tries
   };
 }
 
+-- parts with a debug program of the code_item are its code
+module _ {b : List ℕ} {off : ℕ} {m : Mentions} {parts : NumberedCode × Option (List NumberedTry)} (are : ArePartsAt b off m parts) {tries : List NumberedTry} (tries_are : tries ≡ unwrap_or parts.1 []) where
+  pub completed : {d : Option NumberedDebug} → IsDebugOf b off m d → IsCodeAt b off m (record { body = parts.0; tries = tries; debug = d })
+  completed {d} debug = subst (λ ts. IsCodeAt b off m (record { body = parts.0; tries = ts; debug = d })) (sym tries_are) (are.completed d debug)
+
+  -- and without one they are its code but for that
+  pub code_beside : {d : Option NumberedDebug} {debug_off : ℕ} → debug_off ≡ uint_at b (off + 8) → IsCodeBeside b off m (record { body = parts.0; tries = tries; debug = d }) debug_off
+  code_beside {debug_off = debug_off} is = record { debug_off_is = is; pieces = are.pieces; completed = λ d at. completed (debug_beside d at) }
+    where
+      debug_beside : (d : Option NumberedDebug) → IsDebugOrNone b debug_off m d → IsDebugOf b off m d
+      debug_beside None zero = no_debug b off m (sym is ∙ zero)
+      debug_beside (Some d) at = some_debug b off debug_off m d is at.0 at.1
+
 pub tries_fault : (b : List ℕ) (off : ℕ) (m : Mentions) → ArePools b m → AreRising m → (starts : List Bool) → AreStartsAt b off starts → (body : NumberedCode) → ArePiecesAt b off m body.pieces
     → (fault : ItemFault) → IsTriesFault ((ts : List NumberedTry) → TriesAt starts (length m.types) b off ts → ⊥) fault → IsCodeFault b off fault
 tries_fault b off m pools rising starts starts_are body pieces (Refused number) h =
     inr (inl (
       h.0,
-      record { cuts = pieces.cuts; pieces = pieces.symbolic; at = pieces.at },
+      pieces_there pieces,
       λ cuts ps tries at there. let back = tries_back b off m pools rising starts starts_are cuts ps at tries there in h.1 back.0 back.1,
     ))
 tries_fault b off m pools rising starts starts_are body pieces Memory h = tt
@@ -132,8 +148,8 @@ code_weighed law b off m pools rising starts starts_are s pieces tries program t
     }
 
 -- where there are pieces and no debug program, there is no code
-pub program_fault : {b : List ℕ} {off : ℕ} {m : Mentions} {ps : List NumberedPiece} → ArePiecesAt b off m ps → (fault : ItemFault) → IsProgramFault b off fault → IsCodeFault b off fault
-program_fault pieces (Refused number) h = inr (inr (h.0, record { cuts = pieces.cuts; pieces = pieces.symbolic; at = pieces.at }, h.1, h.2))
+pub program_fault : {b : List ℕ} {off : ℕ} → HasPieces b off → (fault : ItemFault) → IsProgramFault b off fault → IsCodeFault b off fault
+program_fault pieces (Refused number) h = inr (inr (h.0, pieces, h.1, h.2))
 program_fault pieces Memory h = tt
 
 -- the debug program at the offset is that of the code_item

@@ -52,10 +52,10 @@ pub use Rattle.dexspec.specs.Symbols.{FieldPool, FieldSymbol, MethodPool, Method
 pub use Rattle.dexspec.specs.Texts.{Text, text_cmp}
 pub use Rattle.dexspec.specs.Weight.{code_weight, debug_weight, tries_weight}
 pub use Rattle.indexmap.specs.IndexSet.{insert_key}
-pub use Rattle.dexcode.specs.{AreApart, AreApartFrom, AreNumbered, ArePlaces, AreStored, AreTypesApart, BeginsAt, CatchAllAt, CatchAt, CatchesRead, DenotesCode, HandlerAt, HasCodeOf, HasImages, HasPlaces, HasProgramOf, HasShortTypes, HasTypePlace, HaveTriesOf, IsCodeAt, IsCodeFault, IsFormedHandler, IsHandler, IsKnownCode, IsKnownTry, IsListAt, IsNumberPut, IsProgramFault, IsStart, IsTriesFault, IsWhole, ListedTryAt, NumberedHandler, NumberedItem, NumberedTry, NumbersFit, TriesAt, TriesRead, TryAt, TryItemsAt, all_named, catch_meant, catch_use, code_in, gap_bytes, handler_count, handler_decides, handler_equiv, handler_meant, handler_uses, handlers_of, handlers_weight, item_uses, named, no_handler, numbered_catch_bytes, numbered_code_bytes, numbered_code_weight, numbered_handler_bytes, numbered_handler_off, numbered_head_bytes, numbered_list_bytes, numbered_table_bytes, numbered_tries_bytes, numbered_tries_weight, numbered_try_bytes, place_of, placed_try_bytes, remapped_try, remapped_type, renumbered_catch, renumbered_handler, renumbered_item, renumbered_try, same_handler, tries_uses, try_meant, unit_count}
+pub use Rattle.dexcode.specs.{AreApart, AreApartFrom, AreNumbered, ArePlaces, AreStored, AreTypesApart, BeginsAt, CatchAllAt, CatchAt, CatchesRead, DenotesCode, HandlerAt, HasCodeOf, HasImages, HasPieces, HasPlaces, HasProgramOf, HasShortTypes, HasTypePlace, HaveTriesOf, IsCodeAt, IsCodeBeside, IsCodeFault, IsDebugOrNone, IsFormedHandler, IsHandler, IsKnownCode, IsKnownTry, IsListAt, IsNumberPut, IsProgramFault, IsStart, IsTriesFault, IsWhole, ListedTryAt, NumberedHandler, NumberedItem, NumberedTry, NumbersFit, TriesAt, TriesRead, TryAt, TryItemsAt, all_named, catch_meant, catch_use, code_in, gap_bytes, handler_count, handler_decides, handler_equiv, handler_meant, handler_uses, handlers_of, handlers_weight, item_uses, named, no_handler, numbered_catch_bytes, numbered_code_bytes, numbered_code_weight, numbered_handler_bytes, numbered_handler_off, numbered_head_bytes, numbered_list_bytes, numbered_table_bytes, numbered_tries_bytes, numbered_tries_weight, numbered_try_bytes, place_of, placed_try_bytes, remapped_try, remapped_type, renumbered_catch, renumbered_handler, renumbered_item, renumbered_try, same_handler, tries_uses, try_meant, unit_count}
 unfoldable pub use Rattle.dexcode.specs.{numbered_item_bytes}
 pub use Rattle.dexcode.specs.declared.handlers.Catch.{Catch}
 pub use Rattle.dexcode.specs.declared.tries.Try.{Try}
-pub use Rattle.dexcode.specs.internal.Extras.{IsDebugOf, debug_of, tries_of}
+pub use Rattle.dexcode.specs.internal.Extras.{ArePartsAt, IsDebugOf, debug_of, tries_of}
 pub use Rattle.dexcode.specs.internal.NamedHandlers.{AreKnown, AreListed, HasHandler, HasList, HaveCatches, IsHandlerAt, IsPutAt}
 pub use Rattle.dexcode.specs.internal.TriesReading.{NoTries}

@@ -93,3 +93,7 @@ pub record NumberedItem : Type 0 where
   pub body : NumberedCode
   pub tries : List NumberedTry
   pub debug : Option NumberedDebug
+
+-- the code with this debug program, or none, instead of its own
+abbrev pub with_debug : NumberedItem → Option NumberedDebug → NumberedItem
+with_debug c debug = record { body = c.body; tries = c.tries; debug = debug }

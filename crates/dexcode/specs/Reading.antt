@@ -13,7 +13,9 @@ use Rattle.dexpool.specs.declared.faults.ItemFault.{ItemFault}
 use Rattle.dexpool.specs.declared.faults.ItemFault.TheVariants.{Refused, Memory}
 use Rattle.dexcode.specs.declared.handlers.Catch.{Catch}
 use Rattle.dexcode.specs.declared.tries.Try.{Try}
-use Rattle.dexcode.specs.Numbered.{NumberedHandler, NumberedTry, NumberedItem, handlers_of, handlers_weight}
+use Rattle.dexdebug.specs.Debug.{NumberedDebug}
+use Rattle.dexdebug.specs.DebugReading.{IsDebugAt}
+use Rattle.dexcode.specs.Numbered.{NumberedHandler, NumberedTry, NumberedItem, handlers_of, handlers_weight, with_debug}
 use Rattle.dexcode.specs.Meaning.{DenotesCode}
 
 -- an instruction begins at the address
@@ -179,6 +181,17 @@ pub record HasPieces (b : List ℕ) (off : ℕ) : Type 0 where
   pub cuts : List Cut
   pub pieces : List Piece
   pub at : PiecesAt b off cuts pieces
+
+-- the debug program is the one at an offset; at 0 there is none
+abbrev pub IsDebugOrNone : List ℕ → ℕ → Mentions → Option NumberedDebug → Type 0
+IsDebugOrNone b off m None = off ≡ 0
+IsDebugOrNone b off m (Some d) = (off ≢ 0) × IsDebugAt b off m d
+
+-- the code is that of the code_item at an offset, once it has the debug program at another offset, or none at 0
+pub record IsCodeBeside (b : List ℕ) (off : ℕ) (m : Mentions) (c : NumberedItem) (debug_off : ℕ) : Type 0 where
+  pub debug_off_is : debug_off ≡ uint_at b (off + 8)
+  pub pieces : HasPieces b off
+  pub completed : (d : Option NumberedDebug) → IsDebugOrNone b debug_off m d → IsCodeAt b off m (with_debug c d)
 
 -- A condition that fails at the offset: that of pieces; or, if there are pieces, that of tries or that of the debug
 -- program. A failed allocation says nothing.

@@ -1,7 +1,10 @@
 //! Code items.
 
 ghost use Rattle.std.specs.Prelude.{◌≡◌, Some, None, MatchOption, IfOk};
+ghost use Rattle.std.specs.Option.{option_map};
+ghost use Rattle.dexcode.specs.Numbered.{with_debug};
 
+use crate::borrowed_code::BorrowedCode;
 use crate::extras::Extras;
 use crate::tries::Tries;
 use dexdebug::Debug;
@@ -73,6 +76,25 @@ impl<'a> Code<'a> {
             Extras::Debug(debug) => Some(debug),
             Extras::Tries(both) => both.debug.as_deref(),
         }
+    }
+
+    /// The code, borrowed with this debug program, or none, instead of its own.
+    pub fn with_debug<'m>(&'m self, debug: Option<&'m Debug<'a>>) -> BorrowedCode<'m, 'a>
+        ensures { result
+            ≡ with_debug self.now (option_map (λ debug. debug.now) debug.entry) }
+    {
+        BorrowedCode {
+            pieces: &self.pieces,
+            tries: self.tries(),
+            debug,
+        }
+    }
+
+    /// The code, borrowed with its debug program.
+    pub fn as_borrowed(&self) -> BorrowedCode<'_, 'a>
+        ensures { result ≡ self.now }
+    {
+        self.with_debug(self.debug())
     }
 
     /// Removes the debug program.

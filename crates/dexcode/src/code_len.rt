@@ -5,6 +5,7 @@ ghost use Rattle.dexcode.specs.CodePut.{handler_count, numbered_code_bytes, unit
 ghost use Rattle.dexcode.specs.Meaning.{ForDenoted};
 ghost use Rattle.dexspec.specs.Weight.{code_weight};
 
+use crate::borrowed_code::BorrowedCode;
 use crate::code::Code;
 use crate::code_laws::{code_bytes_law, code_weight_law};
 use crate::code_put::encode_list;
@@ -32,8 +33,8 @@ pub(crate) fn unit_count(pieces: &Pieces<'_>) -> u32
     pieces.units()
 }
 
-impl<'a> Code<'a> {
-    /// The number of bytes that [`put_code`](crate::put_code) appends, wherever the debug program is.
+impl BorrowedCode<'_, '_> {
+    /// The number of bytes of the [`CodeItem`](crate::CodeItem), wherever the debug program is.
     ///
     /// Source: "code_item".
     pub fn item_len(&self) -> usize
@@ -42,10 +43,9 @@ impl<'a> Code<'a> {
         ensures symbolic { IsCodeLen self.now result }
     {
         code_bytes_law();
-        let units = unit_count(&self.pieces);
+        let units = unit_count(self.pieces);
         let front = 16 + 2 * units as usize;
-        let tries = self.tries();
-        let (items, handlers) = tries.parts();
+        let (items, handlers) = self.tries.parts();
         if items.is_empty() {
             return front;
         }
@@ -68,7 +68,29 @@ pub(crate) fn tries_weight(tries: &Tries<'_>) -> u64
     8 * items.len() as u64 + handlers_weight(handlers).unwrap()
 }
 
+impl BorrowedCode<'_, '_> {
+    /// As [`Code::weight`].
+    pub fn weight(&self) -> u64
+        ensures numbered { result ≡ numbered_code_weight self.now }
+        ensures symbolic { ForDenoted self.now (λ m x. result ≡ code_weight x) }
+    {
+        code_weight_law();
+        24 + 2 * u64::from(unit_count(self.pieces)) + tries_weight(&self.tries)
+    }
+}
+
 impl<'a> Code<'a> {
+    /// The number of bytes that [`put_code`](crate::put_code) appends, wherever the debug program is.
+    ///
+    /// Source: "code_item".
+    pub fn item_len(&self) -> usize
+        ensures numbered { (debug_off : ℕ)
+            → result ≡ length (numbered_code_bytes debug_off self.now) }
+        ensures symbolic { IsCodeLen self.now result }
+    {
+        self.as_borrowed().item_len()
+    }
+
     /// Returns the weight without the debug program: at least 3 more than the bytes that [`put_code`](crate::put_code)
     /// appends. It is 24, 2 for each unit and, where there are tries, 8 for each of them, 5, and 10 for each handler
     /// that they name and 8 for each of its catches.
@@ -76,7 +98,6 @@ impl<'a> Code<'a> {
         ensures numbered { result ≡ numbered_code_weight self.now }
         ensures symbolic { ForDenoted self.now (λ m x. result ≡ code_weight x) }
     {
-        code_weight_law();
-        24 + 2 * u64::from(unit_count(&self.pieces)) + tries_weight(&self.tries())
+        self.as_borrowed().weight()
     }
 }

@@ -8,6 +8,7 @@ ghost use Rattle.dexspec.specs.internal.Writing.{Puts};
 ghost use Rattle.dexcode.specs.CodePut.{HasShortTypes, AreShort, ArePlaces, gap_bytes, handler_count, numbered_catch_bytes, numbered_handler_bytes, numbered_head_bytes, numbered_item_bytes, numbered_code_bytes, numbered_list_bytes, numbered_tries_bytes, placed_try_bytes, unit_count, DenotedWeighsMore, IsOkWithRoomForDenoted, PutsDenotedCode};
 ghost use Rattle.dexcode.specs.Numbered.{handlers_of, handlers_weight};
 
+use crate::borrowed_code::BorrowedCode;
 use crate::code::Code;
 use crate::code_laws::{code_bytes_law, code_weight_law};
 use crate::code_len::{handler_count, unit_count};
@@ -199,15 +200,15 @@ impl<'a> Code<'a> {
 #[derive(Drop)]
 pub struct CodeItem<'i, 'a> {
     /// The code.
-    pub code: &'i Code<'a>,
+    pub code: BorrowedCode<'i, 'a>,
     /// The offset of its debug program in bytes, or 0 for none.
     pub debug_off: u32,
 }
 
 impl Encode for CodeItem<'_, '_> {
-    ghost formed = { λ i. All HasShortTypes (handlers_of i.code.now.tries) };
+    ghost formed = { λ i. All HasShortTypes (handlers_of i.code.tries) };
 
-    ghost bytes = { λ i. numbered_code_bytes i.debug_off i.code.now };
+    ghost bytes = { λ i. numbered_code_bytes i.debug_off i.code };
 
     fn encode<O: Output>(&self, out: &mut O) {
         encode_item(self.code.pieces(), &self.code.tries(), self.debug_off, out);
@@ -242,5 +243,7 @@ pub fn put_code(
     numbering.is_numbering();
     code_bytes_law();
     code_weight_law();
-    put_with_len(&CodeItem { code, debug_off }, code.item_len(), out)
+    let len = code.item_len();
+    let code = code.as_borrowed();
+    put_with_len(&CodeItem { code, debug_off }, len, out)
 }

@@ -7,6 +7,7 @@
 //! "encoded_catch_handler_list", "encoded_catch_handler" and "encoded_type_addr_pair".
 #![tactic(auto)]
 
+pub use borrowed_code::BorrowedCode;
 pub use code::Code;
 pub use code_checking::{CodeShape, check_code, check_code_once};
 pub use code_laws::{
@@ -16,7 +17,7 @@ pub use code_laws::{
 };
 pub use code_numbers::renumber;
 pub use code_put::{CodeItem, put_code};
-pub use code_reading::{read_code, read_code_in};
+pub use code_reading::{read_code, read_code_in, read_without_debug};
 pub use dexdebug::{
     CheckedDebugs, Debug, DebugShape, NameIter, Operation, OperationIter, build_debug, check_debug,
     debug_bytes_law, debug_equality_law, debug_meaning_law, debug_remapped_law, debug_renumber_law,
@@ -25,6 +26,7 @@ pub use dexdebug::{
 pub use handlers::{Catch, Handler};
 pub use tries::{Tries, Try};
 
+mod borrowed_code;
 mod code;
 mod code_checking;
 mod code_laws;
@@ -35,6 +37,7 @@ mod code_reading;
 mod extras;
 mod handlers;
 mod named_handlers;
+mod sharing;
 mod stored_tries;
 mod tries;
 mod tries_numbers;

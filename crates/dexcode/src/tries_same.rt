@@ -1,6 +1,7 @@
 //! Whether tries mean the same.
 
 ghost use Rattle.std.specs.Prelude.{◌≡◌, ◌↔◌, ◌<◌, IsTrue, All, length};
+ghost use Rattle.dexcode.specs.declared.tries.Try.{Try};
 ghost use Rattle.dexcode.specs.Renumbering.{remapped_type, renumbered_handler, renumbered_try};
 ghost use Rattle.dexdebug.specs.internal.Same.{SameRemapped, EqualRemapped};
 ghost use Rattle.dexcode.specs.internal.Same.{AreCompared, EqualTries, SameTries};
@@ -94,6 +95,12 @@ impl RemappedTries<'_> {
     }
 }
 
+// Tries, as they are stored, are equal exactly where they are the same. It does nothing: its contract is the law, for the
+// comparison of lists of them.
+fn try_equality_law()
+    ensures { (x y : Try) → IsTrue (⟦<Try as PartialEq>⟧.eq x y) ↔ (x ≡ y) }
+{}
+
 impl Tries<'_> {
     // Returns whether these and other tries are equal once the types of each are remapped by a map of its own.
     pub(crate) fn same_mapped(&self, mine: &Remap, other: &Tries<'_>, theirs: &Remap) -> bool
@@ -113,5 +120,15 @@ impl Tries<'_> {
             remap: theirs,
         };
         own.eq_tries(&others)
+    }
+
+    /// Returns whether these and other tries are the same.
+    pub(crate) fn is_same(&self, other: &Tries<'_>) -> bool
+        ensures { IsTrue result → self.now ≡ other.now }
+    {
+        try_equality_law();
+        let (tries, handlers) = self.parts();
+        let (other_tries, other_handlers) = other.parts();
+        tries == other_tries && handlers == other_handlers
     }
 }

@@ -6,7 +6,7 @@ ghost use Rattle.dexdebug.specs.Debug.{image_or_none, renumbered_operation, renu
 ghost use Rattle.dexdebug.specs.internal.Same.{SameRemapped, image_key};
 
 use crate::debug::Debug;
-use crate::debug_laws::operation_equality_law;
+use crate::debug_laws::{debug_equality_law, operation_equality_law};
 use crate::debug_numbers::image;
 use crate::debug_operation::Operation;
 use crate::operations::{NameIter, OperationIter};
@@ -68,5 +68,13 @@ impl Debug<'_> {
                 other.parameter_names(),
             )
             && eq_operations(mine, self.operations(), theirs, other.operations())
+    }
+
+    /// Returns whether two debug programs are the same.
+    pub fn is_same(&self, other: &Debug<'_>) -> bool
+        ensures { IsTrue result → self.now ≡ other.now }
+    {
+        debug_equality_law();
+        *self == *other
     }
 }

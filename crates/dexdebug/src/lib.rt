@@ -31,3 +31,4 @@ mod debug_reading;
 mod debug_same;
 mod indices;
 mod operations;
+mod sharing;

@@ -3,6 +3,7 @@
 ghost use Rattle.std.specs.Prelude.{◌≡◌, ◌↔◌, ◌≤◌, ◌*◌, IsTrue, All, length, map};
 ghost use Rattle.std.specs.List.{AllZip};
 ghost use Rattle.dexinsn.specs.Units.{units_in};
+ghost use Rattle.dexinsn.specs.declared.pieces.Index.{Index};
 ghost use Rattle.dexinsn.specs.Numbered.{renumbered, renumbered_piece};
 ghost use Rattle.dexinsn.specs.Stored.{IsIndexed, Follow};
 ghost use Rattle.dexinsn.specs.internal.Same.{Agree, AgreeBeside, AreEqualMapped};
@@ -74,6 +75,12 @@ fn eq_indices(
     true
 }
 
+// Indices are equal exactly where they are the same. It does nothing: its contract is the law, for the comparison of lists
+// of them.
+fn index_equality_law()
+    ensures { (x y : Index) → IsTrue (⟦<Index as PartialEq>⟧.eq x y) ↔ (x ≡ y) }
+{}
+
 impl<'a> Pieces<'a> {
     // Returns whether the pieces are the same once remapped.
     fn eq_pieces(&self, mine: &Remap, other: &Pieces<'_>, theirs: &Remap) -> bool
@@ -101,5 +108,17 @@ impl<'a> Pieces<'a> {
             && self.ins == other.ins
             && self.outs == other.outs
             && self.eq_pieces(mine, other, theirs)
+    }
+
+    /// Returns whether these and other pieces have the same units and the same numbers. Where it is false they may still be
+    /// the same, spelled with other indices in the file.
+    pub fn is_same(&self, other: &Pieces<'_>) -> bool
+        ensures { IsTrue result → self.now ≡ other.now }
+    {
+        if self.registers != other.registers || self.ins != other.ins || self.outs != other.outs {
+            return false;
+        }
+        index_equality_law();
+        self.bytes == other.bytes && self.indices == other.indices
     }
 }

@@ -13,6 +13,7 @@ pub mod RefLists
 pub mod SetDirectories
 pub mod SetsCollected
 pub mod SetsAreAt
+pub mod SharedEncodings
 pub mod SharedKinds
 pub mod SharedUses
 pub mod StaticItems

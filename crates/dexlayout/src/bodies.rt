@@ -1,15 +1,16 @@
 //! The bodies of methods: debug programs, code that names them, and class data, which name the code.
 
-ghost use Rattle.std.specs.Prelude.{IfOk, MatchOption, None, OnOk, Some, [], length, ◌^◌, ◌∷◌, ◌≡◌, ◌≤◌};
+ghost use Rattle.std.specs.Prelude.{IfOk, MatchOption, None, OnOk, Some, [], length, ◌+◌, ◌^◌, ◌∷◌, ◌≡◌, ◌≤◌};
 ghost use Rattle.dexspec.specs.Placing.{end};
 ghost use Rattle.dexspec.specs.Canonical.{string_section};
 ghost use Rattle.dexspec.specs.Mentions.{Mentions};
 ghost use Rattle.dexmembers.specs.Numbered.{methods_of};
+ghost use Rattle.dexmembers.specs.SharedDebugs.{debug_of, AreSameBefore};
 ghost use Rattle.dexlayout.specs.Laid.{AreDebugs, AreWritable, ordered_of};
 ghost use Rattle.dexlayout.specs.ItemKeys.{same_bytes};
 ghost use Rattle.dexlayout.specs.internal.Adding.{AreOfUses};
 ghost use Rattle.dexlayout.specs.internal.Encoding.{class_data_item, encode_use, has_no_members};
-ghost use Rattle.dexlayout.specs.internal.Encodings.{AddsEncodings, all_debug_encodings, debug_encoding, debug_encodings, debug_of};
+ghost use Rattle.dexlayout.specs.internal.Encodings.{AddsEncodings, all_debug_encodings, debug_encoding, debug_encodings};
 ghost use Rattle.dexlayout.specs.internal.Placing.{CanPlaceClassData, PlacedClassData, PlacedFrom, encoded_debugs};
 ghost use Rattle.dexlayout.specs.internal.Parts.{AreBodies};
 
@@ -21,7 +22,7 @@ use crate::offsets::Offsets;
 use crate::sharing::{Shared, Sharing};
 use dexclass::Class;
 use dexcode::{Debug, put_debug};
-use dexmembers::{Members, Method};
+use dexmembers::{Members, Method, Methods};
 use dexpool::Numbering;
 use std::alloc::{AllocError, Global};
 
@@ -56,8 +57,10 @@ impl Encodings<'_, '_> {
     // Adds the debug program of a method, if it has one. Programs are equal just where their encodings are, so only one
     // of them is held.
     fn add_method(&mut self, method: &Method<'_, '_>) -> Result<(), AllocError>
-        ensures { AddsEncodings result self.old self.new
+        ensures added { AddsEncodings result self.old self.new
             (debug_encoding method.now ∷ []) }
+        ensures more { OnOk result (length self.new.sharing.numbers.items
+            ≡ length self.old.sharing.numbers.items + 1) }
     {
         let Some(debug) = debug_of(method) else {
             return self.sharing.add(None);
@@ -70,15 +73,50 @@ impl Encodings<'_, '_> {
         self.sharing.add(Some(ItemKey { bytes }))
     }
 
+    // Adds the debug programs of methods.
+    fn add_methods(&mut self, methods: &Methods<'_, '_>) -> Result<(), AllocError>
+        ensures { AddsEncodings result self.old self.new (debug_encodings methods.now) }
+    {
+        match methods.shared_debugs(*self.room.allocator())? {
+            Some(places) => self.add_shared(methods, &places),
+            None => self.add_each(methods),
+        }
+    }
+
+    // Adds the debug programs of methods, none of which is known to be that of another.
+    fn add_each(&mut self, methods: &Methods<'_, '_>) -> Result<(), AllocError>
+        ensures { AddsEncodings result self.old self.new (debug_encodings methods.now) }
+    {
+        for i in 0..methods.len() {
+            self.add_method(&methods.get(i))?;
+        }
+        Ok(())
+    }
+
+    // Adds the debug programs of methods, each of which is that of the method at a place, its own or one before it. Each
+    // is encoded where the place is its own.
+    fn add_shared(&mut self, methods: &Methods<'_, '_>, places: &[usize]) -> Result<(), AllocError>
+        requires { AreSameBefore debug_of methods.now places.now }
+        ensures { AddsEncodings result self.old self.new (debug_encodings methods.now) }
+    {
+        let before = self.sharing.len();
+        for (i, place) in places.iter().enumerate() {
+            if *place < i {
+                self.sharing.add_again(before + *place)?;
+            } else {
+                self.add_method(&methods.get(i))?;
+            }
+        }
+        Ok(())
+    }
+
     // Adds the debug programs of the methods of a class.
     fn add_members(&mut self, members: &Members<'_>) -> Result<(), AllocError>
         ensures { AddsEncodings result self.old self.new
             (debug_encodings (methods_of members.now)) }
     {
-        for i in 0..members.method_count() {
-            self.add_method(&method_at(members, i))?;
-        }
-        Ok(())
+        self.add_methods(&members.direct_methods())?;
+        self.add_methods(&members.virtual_methods())
     }
 }
 

@@ -12,7 +12,7 @@ ghost use Rattle.dexlayout.specs.internal.Placing.{CanPlaceCodes, PlacedCodes, G
 use crate::input::{Input, method_at};
 use crate::offsets::{Offsets, padding, round_up};
 use dexclass::Class;
-use dexcode::{Code, CodeItem, code_bytes_law, code_types_law};
+use dexcode::{CodeItem, code_bytes_law, code_types_law};
 use dexhead::{Encode, Output};
 use dexmembers::Method;
 use std::alloc::{AllocError, Global};
@@ -86,20 +86,21 @@ impl Codes {
     }
 
     // Adds the code of a method, aligned to 4 bytes: encoded, or only measured where the bytes are not kept.
-    fn put(&mut self, code: &Code<'_>, debug_off: u32) -> Result<(), AllocError>
-        requires short { All HasShortTypes (handlers_of code.now.tries) }
+    fn put(&mut self, item: &CodeItem<'_, '_>) -> Result<(), AllocError>
+        requires short { All HasShortTypes (handlers_of item.now.code.tries) }
         requires fits { (encode_use 4 (no_items_from self.old.places.end)
-            (Some (numbered_code_bytes debug_off code.now))).places.end ≤ 2 ^ 30 }
-        ensures { KeepsUse result self.old self.new (Some (numbered_code_bytes debug_off code.now)) }
+            (Some (numbered_code_bytes item.now.debug_off item.now.code))).places.end ≤ 2 ^ 30 }
+        ensures { KeepsUse result self.old self.new
+            (Some (numbered_code_bytes item.now.debug_off item.now.code)) }
     {
         code_bytes_law();
-        let most = code.weight() as usize;
+        let most = item.code.weight() as usize;
         self.limit(most);
         let at = self.places.end();
         self.places.align();
         let len = match &mut self.bytes {
-            Some(bytes) => append(&CodeItem { code, debug_off }, most, at, bytes)?,
-            None => code.item_len(),
+            Some(bytes) => append(item, most, at, bytes)?,
+            None => item.code.item_len(),
         };
         self.places.put_next(len)
     }
@@ -112,12 +113,12 @@ fn append(
     at: u32,
     bytes: &mut Vec<u8>,
 ) -> Result<usize, AllocError>
-    requires short { All HasShortTypes (handlers_of item.now.code.now.tries) }
-    requires most { length (numbered_code_bytes item.now.debug_off item.now.code.now) ≤ most }
+    requires short { All HasShortTypes (handlers_of item.now.code.tries) }
+    requires most { length (numbered_code_bytes item.now.debug_off item.now.code) ≤ most }
     ensures len { IfOk result (λ len.
-        len ≡ length (numbered_code_bytes item.now.debug_off item.now.code.now)) }
+        len ≡ length (numbered_code_bytes item.now.debug_off item.now.code)) }
     ensures bytes { OnOk result (bytes.new.items ≡ bytes.old.items ++ (padding 4 at
-        ++ numbered_code_bytes item.now.debug_off item.now.code.now)) }
+        ++ numbered_code_bytes item.now.debug_off item.now.code)) }
 {
     bytes.extend_from_slice(padding(at))?;
     let before = bytes.len();
@@ -158,7 +159,7 @@ fn put_method(method: &Method<'_, '_>, debug_off: u32, codes: &mut Codes) -> Res
     ensures { KeepsUse result codes.old codes.new (code_item method.now debug_off) }
 {
     match method.code() {
-        Some(code) => codes.put(code, debug_off),
+        Some(code) => codes.put(&CodeItem { code, debug_off }),
         None => codes.pass(),
     }
 }
@@ -200,6 +201,7 @@ fn encode_method<O: Output>(method: &Method<'_, '_>, debug_off: u32, at: u32, ou
         return at;
     };
     out.bytes(padding(at));
-    CodeItem { code, debug_off }.encode(out);
-    round_up(at) + code.item_len() as u32
+    let item = CodeItem { code, debug_off };
+    item.encode(out);
+    round_up(at) + item.code.item_len() as u32
 }

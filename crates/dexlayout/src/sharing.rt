@@ -1,7 +1,7 @@
 //! Items that equal uses share.
 
 ghost use Rattle.std.specs.Prelude.{◌≡◌, List, [], Option, Some, None, IfOk};
-ghost use Rattle.std.specs.Prelude.{◌++◌, ◌<◌, ◌≤◌, All, IfSome, OnOk, drop, length, slice_index, take};
+ghost use Rattle.std.specs.Prelude.{◌∷◌, ◌++◌, ◌+◌, ◌<◌, ◌≤◌, All, IfSome, OnOk, drop, length, slice_index, slice_index_or, take};
 ghost use Rattle.std.specs.Option.{option_map_or};
 ghost use Rattle.dexlayout.specs.internal.Sharing.{HaveItems};
 ghost use Rattle.dexlayout.specs.internal.Adding.{HasUses, AddsUse, AreOfUses};
@@ -41,15 +41,38 @@ impl<T: Eq + Hash + Drop> Sharing<T> {
         })
     }
 
+    /// How many uses there are.
+    pub(crate) fn len(&self) -> usize
+        ensures { result ≡ length self.now.numbers.items }
+    {
+        self.numbers.len()
+    }
+
     /// Adds a use, of an item or of none.
     pub(crate) fn add(&mut self, used: Option<T>) -> Result<(), AllocError>
-        ensures { AddsUse T.eq result used self.old self.new }
+        ensures added { AddsUse T.eq result used self.old self.new }
+        ensures more { OnOk result
+            (length self.new.numbers.items ≡ length self.old.numbers.items + 1) }
     {
         let number = match used {
             Some(item) => Some(self.items.insert_full(item)?.0),
             None => None,
         };
         self.numbers.push(ItemNumber::of(number)?)?;
+        Ok(())
+    }
+
+    /// Adds a use of what an earlier use has.
+    ///
+    /// Condition: there are more uses than that.
+    pub(crate) fn add_again(&mut self, place: usize) -> Result<(), AllocError>
+        requires { place < length self.old.numbers.items }
+        ensures added { (uses : List (Option T)) → HasUses T.eq uses self.old
+            → OnOk result (HasUses T.eq (uses ++ slice_index_or uses place None ∷ []) self.new) }
+        ensures more { OnOk result
+            (length self.new.numbers.items ≡ length self.old.numbers.items + 1) }
+    {
+        self.numbers.push(self.numbers[place])?;
         Ok(())
     }
 

@@ -24,7 +24,7 @@ use crate::pieces::encode_counts;
 use crate::tries::encode_tries;
 use crate::values::{encode_initial, encode_set};
 use dexclass::Class;
-use dexcode::{Code, Debug};
+use dexcode::{BorrowedCode, Debug};
 use dexhead::{Encode, Output};
 use dexmembers::{Field, Fields, Method, Methods, ParameterSets};
 use dexout::encode_count;
@@ -47,7 +47,7 @@ fn encode_debug_of<O: Output>(numbering: &Numbering<'_>, debug: Option<&Debug<'_
 fn encode_full_code<O: Output>(
     numbering: &Numbering<'_>,
     method: usize,
-    code: &Code<'_>,
+    code: &BorrowedCode<'_, '_>,
     out: &mut O,
 )
     requires method { method < length numbering.now.methods }
@@ -133,7 +133,7 @@ fn encode_full_method<O: Output>(
     encode_set(numbering, b"    ", method.annotations(), out);
     encode_parameters(numbering, &method.parameter_annotations(), out);
     if let Some(code) = method.code() {
-        encode_full_code(numbering, method.number() as usize, code, out);
+        encode_full_code(numbering, method.number() as usize, &code, out);
     }
 }
 

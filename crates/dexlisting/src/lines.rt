@@ -70,7 +70,7 @@ fn encode_method_lines<O: Output>(
     method.flags().encode(out);
     out.byte(b'\n');
     if let Some(code) = method.code() {
-        encode_code(numbering, code, out);
+        encode_code(numbering, &code, out);
     }
 }
 

@@ -14,7 +14,7 @@ ghost use Rattle.dexlisting.specs.internal.Known.{IsKnownKind, named_text, kind_
 
 use crate::names::Names;
 use crate::parts::encode_symbol;
-use dexcode::Code;
+use dexcode::BorrowedCode;
 use dexhead::Output;
 use dexinsn::{Piece, PieceKind, Pieces, mnemonic};
 use dexout::{encode_count, encode_place};
@@ -105,7 +105,7 @@ fn encode_pieces<O: Output>(numbering: &Numbering<'_>, pieces: &Pieces<'_>, out:
 }
 
 /// Writes the line of what code has how many of.
-pub(crate) fn encode_counts<O: Output>(code: &Code<'_>, out: &mut O)
+pub(crate) fn encode_counts<O: Output>(code: &BorrowedCode<'_, '_>, out: &mut O)
     ensures { (m : Mentions) → O.gives (counts_line (code_in m code.now)) out.old out.new }
 {
     let pieces = code.pieces();
@@ -118,7 +118,11 @@ pub(crate) fn encode_counts<O: Output>(code: &Code<'_>, out: &mut O)
 }
 
 /// Writes the lines of code.
-pub(crate) fn encode_code<O: Output>(numbering: &Numbering<'_>, code: &Code<'_>, out: &mut O)
+pub(crate) fn encode_code<O: Output>(
+    numbering: &Numbering<'_>,
+    code: &BorrowedCode<'_, '_>,
+    out: &mut O,
+)
     requires { IsKnownCode numbering.now code.now }
     ensures { O.gives (code_lines (code_in numbering.now code.now)) out.old out.new }
 {

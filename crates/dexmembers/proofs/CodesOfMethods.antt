@@ -1,11 +1,19 @@
 -- The code of methods, one after the other.
-use Rattle.dexmembers.proofs.Common.{◌≡◌, ◌≢◌, ℕ, ◌+◌, ◌<◌, ◌≤◌, List, [], ◌∷◌, ◌++◌, length, take, drop, get_or, inl, inr, Option, Some, None, sym, subst, ap, arith, sum_by, AllZip, Contains, take-append-drop, take_more, sum_by_push, sum_by-cons, OrNone, SomeAt, BothOrNone, Code, CodeAt, Mentions, one_or_none, one_some, one_code_item, zip_push, ItemFault, Refused, Memory, NumberedItem, DenotesCode, IsCodeAt}
+use Rattle.dexmembers.proofs.Common.{◌≡◌, ◌≢◌, ℕ, ◌+◌, ◌<◌, ◌≤◌, List, [], ◌∷◌, ◌++◌, length, take, drop, get_or, inl, inr, Option, Some, None, sym, subst, ap, ◌∙◌, arith, sum_by, AllZip, Contains, take-append-drop, take_more, sum_by_push, sum_by-cons, OrNone, SomeAt, BothOrNone, Code, CodeAt, Mentions, one_or_none, one_some, one_code_item, zip_push, ItemFault, Refused, Memory, NumberedItem, DenotesCode, IsCodeAt}
+use Rattle.dexcode.specs.Reading.{IsCodeBeside}
+use Rattle.dexspec.specs.Debug.{DebugAt}
 use Rattle.dexmembers.specs.declared.class_data.EncodedMethod.{EncodedMethod}
-use Rattle.dexmembers.specs.internal.MethodCodes.{AreCodesAt, IsCodeOrNone, IsCodeOrNoneFault, AreCodesOf, IsCodesFault, IsCodesFaultWithin, optional_code_weight}
+use Rattle.dexmembers.specs.internal.MethodCodes.{AreCodesAt, IsCodeOrNone, IsCodeOrNoneFault, IsDebugOrNoneFault, AreCodesOf, IsCodesFault, IsCodesFaultWithin, optional_code_weight}
 
 -- code that was read is code or none
 pub some_code : (b : List ℕ) (off : ℕ) (m : Mentions) (code : NumberedItem) → off ≢ 0 → IsCodeAt b off m code → IsCodeOrNone b off m (Some code)
 some_code b off m code some is = record { symbolic = Some is.symbolic; at = inr (some, is.at); encodes = is.encodes }
+
+-- where its debug program is refused, so is the code
+pub debug_refused : {b : List ℕ} {off : ℕ} {m : Mentions} {code : NumberedItem} {debug_off : ℕ} → IsCodeBeside b off m code debug_off → off ≢ 0 → (fault : ItemFault) → IsDebugOrNoneFault b debug_off fault → IsCodeOrNoneFault b off fault
+debug_refused {b} code some Memory is = tt
+debug_refused {b} code some (Refused number) is =
+    (some, inr (inr (is.1.0, code.pieces, (λ e. is.0 (code.debug_off_is ∙ e)), λ d at. is.1.1 d (subst (λ (o : ℕ). DebugAt b o d) (sym code.debug_off_is) at))))
 
 -- a fault at the offset of one of the methods is one of their faults
 pub fault_among : (b : List ℕ) (xs : List EncodedMethod) (x : EncodedMethod) (fault : ItemFault) → Contains xs x → IsCodeOrNoneFault b x.code_off fault → IsCodesFault b xs fault

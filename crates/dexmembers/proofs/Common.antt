@@ -67,7 +67,7 @@ pub use Rattle.dexspec.specs.Texts.{Text, text_cmp}
 pub use Rattle.dexspec.specs.Values.{EncodedArrayItemAt, NoValues, Values, count_values}
 pub use Rattle.dexspec.specs.Weight.{code_weight, debug_weight, field_weight, method_weight, ref_list_weight, set_weight, static_values_weight}
 pub use Rattle.dexspec.specs.internal.Writing.{Puts}
-pub use Rattle.dexval.proofs.Weights.{set_weight_is, values_weight_is}
+pub use Rattle.dexval.proofs.Weights.{set_weight_is, statics_weigh}
 pub use Rattle.dexval.specs.Code.{set_of, value_of}
 pub use Rattle.dexval.specs.Directories.{HasMembers, directory_weight}
 pub use Rattle.dexval.specs.Numbered.{AreKnown, IsKnownAnnotation, IsKnownDirectory, IsKnownSet, NoValue, NumberedDirectory, NumberedSet, NumberedValues, ThenNext, annotation_in, directory_in, field_at, method_at, set_in, values_in, values_of_list}

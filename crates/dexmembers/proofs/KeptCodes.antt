@@ -1,37 +1,50 @@
--- Code that is kept once, and its places by its offsets.
-use Rattle.dexmembers.proofs.Common.{◌≡◌, ℕ, List, Option, Some, false, nat_eq, inl, inr, refl, subst, sym, NumberedItem, Mentions}
-use Rattle.dexval.proofs.CachedSets.{from_before}
-use Rattle.dexval.specs.Tables.{IsPlaceIn}
-use Rattle.dexmembers.specs.{code_at}
-use Rattle.dexmembers.specs.internal.MethodCodes.{IsKept, IsKeptAt, IsCodeOrNone}
-use Rattle.dexmembers.proofs.MethodLists.{kept_at}
-
-same_place : (p q : Option ℕ) → Some p ≡ Some q → p ≡ q
-same_place p q e = cc
+-- Code and debug programs that are kept once, and their places by their offsets.
+use Rattle.dexmembers.proofs.Common.{◌≡◌, ℕ, List, Option, Some, None, inl, inr, refl, sym, subst, ap, ◌∙◌, ◌∷◌, [], ◌++◌, get_or, length-map, map-append, All-push, option_map, IsPlaceIn, NumberedItem}
+use Rattle.dexcode.specs.Numbered.{with_debug}
+use Rattle.dexcode.proofs.Images.{all_back_map}
+use Rattle.dexdebug.specs.Debug.{NumberedDebug}
+use Rattle.dexmembers.specs.{AreStoredCodes, ArePlacesOf, IsAlone, code_with, codes_with, debug_places, item_at}
+use Rattle.dexmembers.specs.declared.code_list.StoredCode.{StoredCode}
+use Rattle.dexmembers.specs.declared.kept.Kept.{Kept}
+use Rattle.dexmembers.specs.internal.Kept.{AreNoted, IsKept, IsKeptAt, NotesMore}
+use Rattle.dexmembers.specs.internal.MethodCodes.{IsDebugKept}
+use Rattle.dexmembers.proofs.MethodLists.{kept_at, map_agree, places_more}
 
 -- a place was noted at one offset more
-pub noted_more : (P : ℕ → Option ℕ → Type 0) (f g : ℕ → Option (Option ℕ)) (o : ℕ) (place : Option ℕ) → ((q : ℕ) (p : Option ℕ) → f q ≡ Some p → P q p) → P o place → g o ≡ Some place → ((q : ℕ) → nat_eq o q ≡ false → g q ≡ f q) → (q : ℕ) (p : Option ℕ) → g q ≡ Some p → P q p
-noted_more P f g o place h new here others q p e =
-    elim (from_before f g o (Some place) here others q (Some p) e) [
-      | inl before ↦ h q p before
-      | inr both ↦ subst (P q) (same_place place p both.1) (subst (λ (r : ℕ). P r place) both.0 new)
-    ]
+pub noted_more : {X : Type 0} (P Q : ℕ → Option ℕ → Type 0) (old new : Kept X) (off : ℕ) (place : Option ℕ) → ((q : ℕ) (p : Option ℕ) → P q p → Q q p) → AreNoted P old → NotesMore off old new place → Q off place → AreNoted Q new
+noted_more P Q old new off place keeps h more here q p noted =
+    elim (more q p noted) [ inl before ↦ keeps q p (h q p before) | inr both ↦ subst (Q q) both.1 (subst (λ (r : ℕ). Q r place) both.0 here) ]
 
-module _ (code : Option NumberedItem) (old new : List NumberedItem) (place : Option ℕ) (kept : IsKeptAt code old new place) (f : ℕ → Option (Option ℕ)) where
-  -- the places that are noted stay
-  pub places_stay : ((q : ℕ) (p : Option ℕ) → f q ≡ Some p → IsPlaceIn old p) → (q : ℕ) (p : Option ℕ) → f q ≡ Some p → IsPlaceIn new p
-  places_stay h q p e = (kept.still p (h q p e)).0
+-- ---- code, whose debug programs are kept beside it
 
-  -- and have the code that they had
-  pub codes_stay : (b : List ℕ) (m : Mentions) → ((q : ℕ) (p : Option ℕ) → f q ≡ Some p → IsPlaceIn old p) → ((q : ℕ) (p : Option ℕ) → f q ≡ Some p → IsCodeOrNone b q m (code_at old p)) → (q : ℕ) (p : Option ℕ) → f q ≡ Some p → IsCodeOrNone b q m (code_at new p)
-  codes_stay b m places h q p e = subst (IsCodeOrNone b q m) (sym (kept.still p (places q p e)).1) (h q p e)
+-- the debug programs before stay where code is read
+module _ (debugs debugs' : List NumberedDebug) where
+  debugs_still : (code : Option (StoredCode NumberedItem)) → IsDebugKept code debugs debugs' → (p : Option ℕ) → IsPlaceIn debugs p → IsPlaceIn debugs' p × (item_at debugs' p ≡ item_at debugs p)
+  debugs_still None same p at = rw same (at, refl)
+  debugs_still (Some x) kept p at = kept.1.still p at
 
--- ---- code that was put there
+  -- and so the code before has those that it had
+  codes_same : (code : Option (StoredCode NumberedItem)) → IsDebugKept code debugs debugs' → (xs : List (StoredCode NumberedItem)) → AreStoredCodes debugs xs → codes_with debugs' xs ≡ codes_with debugs xs
+  codes_same code kept xs h =
+      let placed = all_back_map (IsPlaceIn debugs) (λ (x : StoredCode NumberedItem). x.debug) xs h.places.held in
+      map_agree (code_with debugs') (code_with debugs) xs (λ k d lt. ap (with_debug (get_or xs k d).code) (debugs_still code kept (get_or xs k d).debug (placed k d lt)).1)
 
--- the code at its place is what is there
-pub kept_itself : (code : Option NumberedItem) (old new : List NumberedItem) (place : Option ℕ) → IsKept code old new place → IsKeptAt (code_at new place) old new place
-kept_itself code old new place h = let k = kept_at code old new place h in record { still = k.still; held = k.held; is = refl; named = k.named }
+  module _ (xs xs' : List (StoredCode NumberedItem)) (place : Option ℕ) (h : AreStoredCodes debugs xs) where
+    codes_kept : (code : Option (StoredCode NumberedItem)) → IsDebugKept code debugs debugs' → IsKept code xs xs' place → IsKept (option_map (code_with debugs') code) (codes_with debugs xs) (codes_with debugs' xs') place
+    codes_kept None same k = (ap (codes_with debugs') k.0 ∙ codes_same None same xs h, k.1)
+    codes_kept (Some x) kept k = (
+      ap (codes_with debugs') k.0 ∙ map-append (code_with debugs') xs (x ∷ []) ∙ ap (λ l. l ++ code_with debugs' x ∷ []) (codes_same (Some x) kept xs h),
+      k.1 ∙ ap Some (sym (length-map xs (code_with debugs))),
+    )
 
--- and it is the code that was read
-pub read_there : (b : List ℕ) (off : ℕ) (m : Mentions) (code : Option NumberedItem) (old new : List NumberedItem) (place : Option ℕ) → IsKept code old new place → IsCodeOrNone b off m code → IsCodeOrNone b off m (code_at new place)
-read_there b off m code old new place h = subst (IsCodeOrNone b off m) (sym (kept_at code old new place h).is)
+    pub codes_kept_at : (code : Option (StoredCode NumberedItem)) → IsDebugKept code debugs debugs' → IsKept code xs xs' place → IsKeptAt (option_map (code_with debugs') code) (codes_with debugs xs) (codes_with debugs' xs') place
+    codes_kept_at code kept k = kept_at (option_map (code_with debugs') code) (codes_with debugs xs) (codes_with debugs' xs') place (codes_kept code kept k)
+
+    -- the code that is kept then has all debug programs
+    pub stored_more : (code : Option (StoredCode NumberedItem)) → IsDebugKept code debugs debugs' → IsKept code xs xs' place → AreStoredCodes debugs' xs'
+    stored_more None same k = rw (same, k.0) h
+    stored_more (Some x) kept k =
+        rw k.0 (record {
+          alone = All-push IsAlone xs x h.alone kept.0;
+          places = subst (ArePlacesOf debugs') (sym (map-append (λ (y : StoredCode NumberedItem). y.debug) xs (x ∷ []))) (places_more debugs debugs' (debug_places xs) x.debug (item_at debugs' x.debug) h.places kept.1);
+        })

@@ -1,6 +1,7 @@
 pub mod Common
 pub mod Attachments
 pub mod ClassDataSpelled
+pub mod CodeLists
 pub mod CodesApart
 pub mod CodesOfMethods
 pub mod DataCounts
@@ -35,6 +36,7 @@ pub mod RowRead
 pub mod RowsAreAt
 pub mod RowWeighed
 pub mod SameMembers
+pub mod SharedDebugs
 pub mod StaticValuesRead
 pub mod StrippedMembers
 pub mod Searched

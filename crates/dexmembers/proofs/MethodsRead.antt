@@ -1,8 +1,8 @@
 -- Methods of class data, with their code and the places of their sets, as they are read one after the other.
 use Rattle.dexmembers.proofs.Common.{◌≡◌, ℕ, ◌<◌, List, [], ◌∷◌, ◌++◌, length, map, refl, sym, ap, ◌∙◌, subst, arith, Option, All, IfSome, length-append, length-map, map-append, All-push, All-map, zip_with, NumberedItem}
-use Rattle.dexmembers.specs.{HeldMethod, StoredMethod, ArePlacesOf, code_at, code_places, held_in}
+use Rattle.dexmembers.specs.{HeldMethod, StoredMethod, ArePlacesOf, item_at, code_places, held_in}
 use Rattle.dexmembers.specs.internal.Attaching.{EntriesRise, PlacesBelow, HaveSetsBelow, HaveListsBelow, held_codes, held_method, place_for}
-use Rattle.dexmembers.specs.internal.MethodCodes.{IsKeptAt}
+use Rattle.dexmembers.specs.internal.Kept.{IsKeptAt}
 use Rattle.dexmembers.specs.declared.class_data.EncodedMethod.{EncodedMethod as MethodRead}
 use Rattle.dexmembers.proofs.MethodLists.{places_more, codes_more}
 
@@ -12,7 +12,7 @@ stored_method sets lists x place = record { number = x.index; flags = x.flags; c
 
 -- the code of methods as they are stored
 abbrev pub stored_codes : List NumberedItem → List StoredMethod → List (Option NumberedItem)
-stored_codes codes methods = map (code_at codes) (code_places methods)
+stored_codes codes methods = map (item_at codes) (code_places methods)
 
 -- the methods of a list were read
 pub record HaveReadMethods (sets lists : List (ℕ × ℕ)) (xs : List MethodRead) (codes : List NumberedItem) (methods : List StoredMethod) : Type 0 where
@@ -68,19 +68,19 @@ module _ (sets lists : List (ℕ × ℕ)) (xs : List MethodRead) (codes new : Li
 
   -- its code is the last
   pub code_more : stored_codes new more ≡ stored_codes codes methods ++ code ∷ []
-  code_more = ap (map (code_at new)) places_are ∙ codes_more codes new (code_places methods) place code have.places kept
+  code_more = ap (map (item_at new)) places_are ∙ codes_more codes new (code_places methods) place code have.places kept
 
 -- ---- as they are held
 
 -- the code of each
 pub held_codes_are : (codes : List NumberedItem) (methods : List StoredMethod) → held_codes (map (held_in codes) methods) ≡ stored_codes codes methods
 held_codes_are codes [] = refl
-held_codes_are codes (x ∷ xs) = ap (λ l. code_at codes x.code ∷ l) (held_codes_are codes xs)
+held_codes_are codes (x ∷ xs) = ap (λ l. item_at codes x.code ∷ l) (held_codes_are codes xs)
 
-held_stored : (sets lists : List (ℕ × ℕ)) (codes : List NumberedItem) (xs : List MethodRead) (places : List (Option ℕ)) → map (held_in codes) (zip_with (stored_method sets lists) xs places) ≡ zip_with (held_method sets lists) xs (map (code_at codes) places)
+held_stored : (sets lists : List (ℕ × ℕ)) (codes : List NumberedItem) (xs : List MethodRead) (places : List (Option ℕ)) → map (held_in codes) (zip_with (stored_method sets lists) xs places) ≡ zip_with (held_method sets lists) xs (map (item_at codes) places)
 held_stored sets lists codes [] places = refl
 held_stored sets lists codes (x ∷ xs) [] = refl
-held_stored sets lists codes (x ∷ xs) (p ∷ ps) = ap (λ l. held_method sets lists x (code_at codes p) ∷ l) (held_stored sets lists codes xs ps)
+held_stored sets lists codes (x ∷ xs) (p ∷ ps) = ap (λ l. held_method sets lists x (item_at codes p) ∷ l) (held_stored sets lists codes xs ps)
 
 module _ (sets lists : List (ℕ × ℕ)) (xs : List MethodRead) (codes : List NumberedItem) (methods : List StoredMethod) (have : HaveReadMethods sets lists xs codes methods) where
   pub methods_held_are : EntriesRise sets → EntriesRise lists → map (held_in codes) methods ≡ zip_with (held_method sets lists) xs (held_codes (map (held_in codes) methods))

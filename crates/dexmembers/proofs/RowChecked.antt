@@ -3,7 +3,7 @@ use Rattle.dexmembers.proofs.Common.{◌≡◌, ◌≢◌, ℕ, ◌+◌, ◌-◌
 use Rattle.dexcode.specs.Checking.{HasCodeOf}
 use Rattle.dexval.specs.Checking.{HasStaticsOf}
 use Rattle.dexval.specs.CheckedSets.{HasDirectoryOf}
-use Rattle.dexval.proofs.CachedSets.{from_before}
+use Rattle.dexval.proofs.CachedSets.{item_added}
 use Rattle.dexmembers.specs.internal.ClassData.{encoded_field_in, class_data_in, IsDataOf}
 use Rattle.dexmembers.specs.internal.Naming.{NamesRead}
 use Rattle.dexmembers.specs.internal.MethodCodes.{HaveCodes}
@@ -19,16 +19,9 @@ use Rattle.dexmembers.proofs.RowsAreAt.{many_codes, row_readable, row_made}
 
 -- ---- code
 
-same_some : (v w : ℕ) → Some v ≡ Some w → v ≡ w
-same_some v w e = cc
-
 -- code was checked at one offset more
 pub code_added : (b : List ℕ) (f g : ℕ → Option ℕ) (o weight : ℕ) → ((q w : ℕ) → f q ≡ Some w → HasCodeOf b q w) → HasCodeOf b o weight → g o ≡ Some weight → ((q : ℕ) → nat_eq o q ≡ false → g q ≡ f q) → (q w : ℕ) → g q ≡ Some w → HasCodeOf b q w
-code_added b f g o weight h new here others q w e =
-    elim (from_before f g o (Some weight) here others q (Some w) e) [
-      | inl before ↦ h q w before
-      | inr both ↦ subst (HasCodeOf b q) (same_some weight w both.1) (subst (λ (p : ℕ). HasCodeOf b p weight) both.0 new)
-    ]
+code_added b = item_added (HasCodeOf b)
 
 -- code is code or none
 pub some_code_of : (b : List ℕ) (off weight : ℕ) → off ≢ 0 → HasCodeOf b off weight → HasCodeOrNoneOf b off weight

@@ -1,6 +1,5 @@
 -- Static values of a row, checked and then read.
-use Rattle.dexmembers.proofs.Common.{◌≡◌, ◌≢◌, ℕ, ◌<◌, ◌≤◌, List, map, inl, inr, ap, sym, subst, ◌∙◌, arith, OrNone, Mentions, Values, NoValues, count_values, EncodedArrayItemAt, StaticValuesAt, static_values_off, static_values_weight, one_or_none, one_array, ItemFault, Refused, Memory, value_of, NumberedValues, values_in, values_of_list, AreStaticsAt, IsStaticsFault}
-use Rattle.dexval.specs.declared.value.Value.{Value as ValueRead}
+use Rattle.dexmembers.proofs.Common.{◌≡◌, ◌≢◌, ℕ, ◌<◌, ◌≤◌, List, inl, inr, ap, sym, subst, ◌∙◌, arith, OrNone, Mentions, Values, NoValues, count_values, EncodedArrayItemAt, StaticValuesAt, static_values_off, static_values_weight, one_or_none, one_array, ItemFault, Refused, Memory, NumberedValues, values_in, AreStaticsAt, IsStaticsFault}
 use Rattle.dexmembers.specs.internal.StaticValues.{HasValuesFor, AreValuesOf, IsValuesFault, IsValuesFaultWithin}
 use Rattle.dexmembers.specs.{HasValuesOf}
 
@@ -28,14 +27,13 @@ module _ (b : List ℕ) (r off : ℕ) (at : off ≡ static_values_off b r) (some
   no_statics fields Memory is = tt
   no_statics fields (Refused number) is = none_there fields number is.0 (λ vs has. no_array vs is.1 has.at)
 
-  module _ (m : Mentions) (items : List ValueRead) (are : AreStaticsAt b off m (values_of_list (map value_of items))) where
+  module _ (m : Mentions) (xs : NumberedValues) (are : AreStaticsAt b off m xs) where
     -- the row's values are those that were read
-    same_values : (vs : Values) → OrNone StaticValuesAt NoValues b (static_values_off b r) vs → vs ≡ values_in m (values_of_list (map value_of items))
-    same_values vs h =
-        one_or_none StaticValuesAt NoValues b (static_values_off b r) vs _ (λ s t. (one_array b (static_values_off b r) vs _ s.0 t.0 s.1.array t.1.array).0) h (statics_at m (values_of_list (map value_of items)) are)
+    same_values : (vs : Values) → OrNone StaticValuesAt NoValues b (static_values_off b r) vs → vs ≡ values_in m xs
+    same_values vs h = one_or_none StaticValuesAt NoValues b (static_values_off b r) vs _ (λ s t. (one_array b (static_values_off b r) vs _ s.0 t.0 s.1.array t.1.array).0) h (statics_at m xs are)
 
     -- they are those that were checked
-    pub read_values : (fields most weight : ℕ) → HasValuesOf b r fields weight → weight ≤ most → AreValuesOf b r m fields most (values_of_list (map value_of items))
+    pub read_values : (fields most weight : ℕ) → HasValuesOf b r fields weight → weight ≤ most → AreValuesOf b r m fields most xs
     read_values fields most weight h light =
         let same = same_values h.values h.are.at in
         record { known = are.known; are = subst (HasValuesFor b r fields) same h.are; light = omega (arith, light, h.weighs, ap static_values_weight same) }

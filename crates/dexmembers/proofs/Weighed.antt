@@ -1,5 +1,5 @@
 -- What members weigh by their numbers is what the members that they denote weigh.
-use Rattle.dexmembers.proofs.Common.{◌≡◌, ℕ, ◌+◌, List, [], ◌∷◌, ◌++◌, map, Option, Some, None, option_to_list, refl, ap, ◌∙◌, arith, sum_by, IfSome, All, option_map, length-map, map-append, All-head, All-tail, All-append, sum_by-cons, Mentions, code_weight, debug_weight, set_weight, ref_list_weight, static_values_weight, field_weight, method_weight, NumberedSet, NumberedValues, NoValue, ThenNext, set_in, values_in, numbered_set_weight, numbered_sets_weight, numbered_statics_weight, set_weight_is, values_weight_is, NumberedItem, debug_in, IsKnownDebug, code_in, IsKnownCode, Code}
+use Rattle.dexmembers.proofs.Common.{◌≡◌, ℕ, ◌+◌, List, [], ◌∷◌, ◌++◌, map, Option, Some, None, option_to_list, refl, ap, ◌∙◌, arith, sum_by, IfSome, All, option_map, length-map, map-append, All-head, All-tail, All-append, sum_by-cons, Mentions, code_weight, debug_weight, set_weight, ref_list_weight, field_weight, method_weight, NumberedSet, set_in, numbered_set_weight, numbered_sets_weight, set_weight_is, statics_weigh, NumberedItem, debug_in, IsKnownDebug, code_in, IsKnownCode, Code}
 use Rattle.dexdebug.specs.Debug.{NumberedDebug}
 use Rattle.dexcode.specs.CodePut.{numbered_code_weight}
 use Rattle.dexmembers.specs.{NumberedMethod, NumberedMembers, field_in, method_in, members_in, fields_of, methods_of, IsKnownMethod, AreKnownMembers, members_weight, numbered_field_weight, numbered_debug_weight, numbered_whole_weight, numbered_method_weight, numbered_members_weight}
@@ -27,11 +27,6 @@ pub sets_are : (m : Mentions) (xs : List NumberedSet) → numbered_sets_weight x
 sets_are m [] = refl
 sets_are m (x ∷ xs) = omega (arith, length-map xs (set_in m), sums_are (λ y. Unit {0}) numbered_set_weight set_weight (set_in m) (λ y u. set_weight_is m y) (x ∷ xs) (λ i d lt. tt))
 
--- static values
-pub statics_are : (m : Mentions) (xs : NumberedValues) → numbered_statics_weight xs ≡ static_values_weight (values_in m xs)
-statics_are m NoValue = refl
-statics_are m (ThenNext x xs) = ap (λ (n : ℕ). 6 + n) (values_weight_is m (ThenNext x xs))
-
 -- ---- members
 
 -- what code weighs with its debug program
@@ -54,4 +49,4 @@ module _ (m : Mentions) (code_is : (c : NumberedItem) → IsKnownCode m c → nu
       let all = All-append (IsKnownMethod m) x.direct_methods x.virtual_methods known.direct_methods_known known.virtual_methods_known in
       let ms : sum_by numbered_method_weight (methods_of x) ≡ sum_by method_weight (map (method_in m) x.direct_methods ++ map (method_in m) x.virtual_methods) =
       sums_are (IsKnownMethod m) numbered_method_weight method_weight (method_in m) method_is (methods_of x) all ∙ ap (sum_by method_weight) (map-append (method_in m) x.direct_methods x.virtual_methods) in
-      omega (arith, set_weight_is m x.annotations, fs, ms, statics_are m x.static_values)
+      omega (arith, set_weight_is m x.annotations, fs, ms, statics_weigh m x.static_values)

@@ -11,13 +11,13 @@ abbrev pub IsBorrowedSet : Option (Bor AnnotationSet) → NumberedSet → Type 0
 IsBorrowedSet set is = MatchOption set (is ≡ []) (λ set. set_of set.now ≡ is)
 
 -- this is the code that is borrowed, or there is none
-abbrev pub IsBorrowedCode : Option (Bor NumberedItem) → Option NumberedItem → Type 0
-IsBorrowedCode code is = MatchOption code (is ≡ None) (λ code. is ≡ Some code.now)
+abbrev pub IsBorrowedCode : Option NumberedItem → Option NumberedItem → Type 0
+IsBorrowedCode code is = MatchOption code (is ≡ None) (λ code. is ≡ Some code)
 
 -- it holds of the set that is borrowed
 abbrev pub ForSet : Option (Bor AnnotationSet) → (NumberedSet → Type 0) → Type 0
 ForSet set P = (is : NumberedSet) → IsBorrowedSet set is → P is
 
 -- it holds of the code that is borrowed
-abbrev pub ForCode : Option (Bor NumberedItem) → (Option NumberedItem → Type 0) → Type 0
+abbrev pub ForCode : Option NumberedItem → (Option NumberedItem → Type 0) → Type 0
 ForCode code P = (is : Option NumberedItem) → IsBorrowedCode code is → P is

@@ -12,6 +12,7 @@ use Rattle.dexspec.specs.Weight.{static_values_weight}
 use Rattle.dexdebug.specs.Checking.{AreCheckedDebugs}
 use Rattle.dexcode.specs.Checking.{HasCodeOf}
 use Rattle.dexval.specs.CheckedSets.{IsWeighed, AreChecked}
+use Rattle.dexval.specs.CheckedStatics.{AreCheckedStatics}
 use Rattle.dexval.specs.Directories.{directory_weight}
 use Rattle.dexmembers.specs.Numbered.{Members}
 use Rattle.dexmembers.specs.Weight.{members_weight}
@@ -70,6 +71,7 @@ pub record HasValuesOf (b : List ℕ) (r fields weight : ℕ) : Type 0 where
 pub record AreChecks (b : List ℕ) (m : Mentions) (checks : Checks) : Type 0 where
   pub sets_checked : AreChecked b m checks.sets
   pub codes_checked : AreCheckedCodes b checks.codes
+  pub statics_checked : AreCheckedStatics b m checks.statics
 
 -- the row is readable, and what it declares weighs as much, or more than 2^64 - 1
 pub record HasMembersOf (b : List ℕ) (r weight : ℕ) : Type 0 where

@@ -4,10 +4,13 @@ pub mod ClassDefs
 pub mod Contents
 pub mod DirectoryPut
 pub mod Held
+pub mod HeldCodes
 pub mod Laws
 pub mod Numbered
 pub mod Reading
 pub mod Renumbering
+pub mod SharedDebugs
+pub mod SharedMembers
 pub mod Spelled
 pub mod StaticValues
 pub mod Uses
@@ -27,6 +30,7 @@ unfoldable pub use Laws.*
 unfoldable pub use Numbered.*
 unfoldable pub use Reading.*
 unfoldable pub use Renumbering.*
+unfoldable pub use SharedDebugs.*
 unfoldable pub use Spelled.*
 unfoldable pub use Uses.*
 unfoldable pub use Weighing.*

@@ -11,8 +11,8 @@ use Rattle.dexmembers.specs.declared.static_values.StaticValues.{StaticValues}
 -- the values that a holder has
 abbrev pub held_values : Holder → NumberedValues
 held_values (Own values) = values_of values.items
-held_values (Shared values) = values_of values.value.items
-held_values (Remapped values image) = values_of values.value.items
+held_values (Shared values) = values.value
+held_values (Remapped values image) = values.value
 
 -- the values
 abbrev pub values_in : StaticValues → NumberedValues
@@ -22,7 +22,7 @@ values_in x = held_values x.holder
 abbrev pub IsReadyHolder : Maps → Holder → Type 0
 IsReadyHolder r (Own values) = Unit {0}
 IsReadyHolder r (Shared values) = ⊥
-IsReadyHolder r (Remapped values image) = values_of image.value.items ≡ renumbered_values r (values_of values.value.items)
+IsReadyHolder r (Remapped values image) = image.value ≡ renumbered_values r values.value
 
 -- the values can be remapped
 abbrev pub AreReady : Maps → StaticValues → Type 0

@@ -13,15 +13,16 @@ use crate::codes::CheckedCodes;
 use crate::row_reader::RowReader;
 use dexhead::Frame;
 use dexpool::{ItemFault, Pools};
-use dexval::CheckedSets;
+use dexval::{CheckedSets, CheckedStatics};
 use std::alloc::Global;
 
-/// What was checked of a file, lent from one class row to the next: its code, its sets of annotations and its lists of
-/// sets. Each is checked once, however many rows name it.
+/// What was checked of a file, lent from one class row to the next: its code, its sets of annotations, its lists of sets
+/// and its static values. Each is checked once, however many rows name it.
 #[derive(Drop)]
 pub struct Checks {
     pub(crate) sets: CheckedSets,
     pub(crate) codes: CheckedCodes,
+    pub(crate) statics: CheckedStatics,
 }
 
 impl Checks {
@@ -32,6 +33,7 @@ impl Checks {
         Checks {
             sets: CheckedSets::none(alloc),
             codes: CheckedCodes::none(alloc),
+            statics: CheckedStatics::none(alloc),
         }
     }
 }
@@ -74,7 +76,7 @@ pub fn check_members(
     let annotations = reader.check_annotations(&mut checks.sets)?;
     let direct = reader.check_codes(&declared.direct_methods, &mut checks.codes)?;
     let virtuals = reader.check_codes(&declared.virtual_methods, &mut checks.codes)?;
-    let values = reader.check_static_values()?;
+    let values = reader.check_static_values(&mut checks.statics)?;
     let statics = 18u64.saturating_mul(declared.static_fields.len() as u64);
     let instances = 18u64.saturating_mul(declared.instance_fields.len() as u64);
     let fields = statics

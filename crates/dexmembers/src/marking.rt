@@ -9,7 +9,7 @@ ghost use Rattle.dexmembers.specs.Borrowed.{ForCode, ForSet};
 ghost use Rattle.dexmembers.specs.internal.Parts.{optional_code_uses};
 
 use crate::{Field, Fields, Members, Method, Methods, ParameterSets};
-use dexcode::Code;
+use dexcode::BorrowedCode;
 use dexpool::{Marks, SymbolKind, Symbols, Visitor, mark};
 use dexval::{AnnotationSet, visit_values};
 
@@ -53,7 +53,7 @@ impl Symbols for Fields<'_> {
 }
 
 // Passes the symbols of code, if there is some, to the visitor.
-fn visit_code<V: Visitor>(code: Option<&Code<'_>>, visitor: &mut V)
+fn visit_code<V: Visitor>(code: Option<BorrowedCode<'_, '_>>, visitor: &mut V)
     ensures { ForCode code.entry (λ visited.
         FoldsTo V.step visitor.old (optional_code_uses visited) visitor.new) }
 {

@@ -10,10 +10,10 @@ ghost use Rattle.dexmembers.specs.Stripped.{stripped_members};
 use crate::method_list::MethodList;
 use crate::places::Place;
 use crate::static_values::StaticValues;
-use crate::{Fields, Methods};
+use crate::{Fields, Methods, RemappedMembers};
 use dexflags::FieldFlags;
 use dexpool::{Remap, Renumber, SymbolKind, renumber_all};
-use dexval::{AnnotationSet, RemappedItems, SetTable, SharedItems, Value, remapped};
+use dexval::{AnnotationSet, SetTable, Value, remapped};
 use std::alloc::AllocError;
 use std::marker::Model;
 
@@ -201,34 +201,27 @@ impl<'a> Members<'a> {
     /// Condition: each number has an image that fits its place: below 2^16 in an instruction but for
     /// const-string/jumbo, below 2^32 - 1 in a debug program, and below 2^32 elsewhere.
     /// [`members_cut_law`](crate::members_cut_law) and [`members_joined_law`](crate::members_joined_law) say when it has.
-    /// Error: the class shares sets of annotations or values with others, and the allocation of their images failed; the
-    /// members are as they were.
-    pub fn renumber(&mut self, items: &mut RemappedItems<'_>) -> Result<(), AllocError>
+    /// Error: the class shares sets of annotations, values, code or debug programs with others, and the allocation of
+    /// their images failed; the members are as they were.
+    pub fn renumber(&mut self, items: &mut RemappedMembers<'_, 'a>) -> Result<(), AllocError>
         requires { MembersHavePlaces items.old self.old }
         ensures items { items.new ≡ items.old }
         ensures renumbered { OnOk result (self.new ≡ renumbered_members items.old self.old) }
         ensures unchanged { OnErr result (self.new ≡ self.old) }
     {
         let remap = items.remap();
-        self.contents.static_values.prepare(items)?;
-        self.contents.table.renumber(items)?;
+        let direct_images = self.contents.direct_methods.code_images(items)?;
+        let virtual_images = self.contents.virtual_methods.code_images(items)?;
+        items.prepare_values(&mut self.contents.static_values)?;
+        items.renumber_table(&mut self.contents.table)?;
         renumber_all(&mut self.contents.static_fields, remap);
         renumber_all(&mut self.contents.instance_fields, remap);
-        self.contents.direct_methods.renumber(remap);
-        self.contents.virtual_methods.renumber(remap);
+        self.contents.direct_methods.renumber(remap, direct_images);
+        self.contents
+            .virtual_methods
+            .renumber(remap, virtual_images);
         self.contents.static_values.renumber(remap);
         Ok(())
-    }
-
-    /// Moves each set of annotations, and the values of static fields, into the memory of equal ones that other classes
-    /// have, if there are some.
-    ///
-    /// Error: an allocation failed; some may be moved.
-    pub fn share(&mut self, items: &mut SharedItems) -> Result<(), AllocError>
-        ensures { self.new ≡ self.old }
-    {
-        self.contents.table.share(items)?;
-        self.contents.static_values.share(items)
     }
 
     /// Leaves out the debug programs of all methods. Instructions and tries stay, and so do the texts that a

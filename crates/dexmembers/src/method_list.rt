@@ -1,17 +1,20 @@
 //! Declared methods of one kind, with their code beside them.
 
-ghost use Rattle.std.specs.Prelude.{◌≡◌, IfOk, All, map};
-ghost use Rattle.dexmembers.specs.Borrowed.{IsBorrowedCode};
-ghost use Rattle.dexmembers.specs.internal.Stored.{code_at, remapped_stored, IsStoredMethodMapped};
+ghost use Rattle.std.specs.Prelude.{◌≡◌, IfOk, IfSome, All, map};
+ghost use Rattle.dexmembers.specs.internal.Stored.{remapped_stored, IsStoredMethodMapped};
+ghost use Rattle.dexmembers.specs.HeldCodes.{methods_in, AreCodesPlaced, AreReady};
 ghost use Rattle.dexmembers.specs.Renumbering.{remapped_method, IsHeldMethodMapped};
+ghost use Rattle.dexmembers.specs.SharedDebugs.{code_debug, AreSameBefore};
 ghost use Rattle.dexmembers.specs.Stripped.{stripped_held};
 
+use crate::held_codes::HeldCodes;
 use crate::places::Place;
-use dexcode::Code;
+use crate::remapped_members::RemappedMembers;
+use crate::shared_codes::SharedCodes;
 use dexflags::MethodFlags;
 use dexpool::{Remap, Renumber, SymbolKind, renumber_all};
 use dexval::remapped;
-use std::alloc::AllocError;
+use std::alloc::{AllocError, Global};
 use std::marker::Model;
 
 /// A declared method as it is stored, in 20 bytes: its number among the methods, its access flags, the place of its code
@@ -53,76 +56,78 @@ impl Renumber for DeclaredMethod {
     }
 }
 
-/// Methods of one kind that a class declares, by number. Most have code, which is in one vector.
+/// Methods of one kind that a class declares, by number. Most have code, which is in one list. Contracts see the
+/// methods with their code.
 #[derive(Drop)]
 pub(crate) struct MethodList<'a> {
     pub(crate) methods: Vec<DeclaredMethod>,
-    pub(crate) code_items: Vec<Code<'a>>,
-}
-
-impl<'a> Model for MethodList<'a> {
-    ghost use Rattle.std.specs.Prelude.{List, map};
-    ghost use Rattle.std.specs.Coded.{codes};
-    ghost use Rattle.dexval.specs.Stored.{elements_code};
-    ghost use Rattle.dexmembers.specs.Held.{HeldMethod};
-    ghost use Rattle.dexmembers.specs.internal.Stored.{held_in, code_places, ArePlacesOf};
-
-    ghost Value = { List HeldMethod };
-
-    ghost coded = { Prim.hlevel (codes, elements_code) };
-
-    ghost view = { λ x. map (held_in x.code_items.items) x.methods.items };
-
-    ghost invariant = { λ x. ArePlacesOf x.code_items.items (code_places x.methods.items) };
-}
-
-/// The code at a place, if there is one.
-pub(crate) fn code_at<'m, 'a>(codes: &'m [Code<'a>], place: Option<u32>) -> Option<&'m Code<'a>>
-    ensures { IsBorrowedCode result (code_at codes.now place) }
-{
-    codes.get(place? as usize)
+    pub(crate) code_items: HeldCodes<'a>,
 }
 
 impl<'a> MethodList<'a> {
     /// The methods without their code.
     pub(crate) fn declared(&self) -> &[DeclaredMethod]
-        ensures { map (λ x. x.number) result.now ≡ map (λ x. x.number) self.now }
+        ensures { map (λ x. x.number) result.now ≡ map (λ x. x.number) (methods_in self.now) }
     {
         &self.methods
     }
 
+    /// The images of the code where several lists have its memory, or `None` where this one has.
+    ///
+    /// Condition: each number has an image that fits its place; all code is that of methods.
+    pub(crate) fn code_images(
+        &self,
+        remapped: &mut RemappedMembers<'_, 'a>,
+    ) -> Result<Option<SharedCodes<'a>>, AllocError>
+        requires mapped { All (IsHeldMethodMapped remapped.old) (methods_in self.now) }
+        requires placed { AreCodesPlaced self.now }
+        ensures kept { remapped.new ≡ remapped.old }
+        ensures ready { IfOk result (AreReady remapped.old self.now.code_items) }
+    {
+        self.code_items.images(remapped)
+    }
+
     /// Replaces each number of a symbol in the methods and in their code by its image.
     ///
-    /// Condition: each number has an image that fits its place.
-    pub(crate) fn renumber(&mut self, remap: &Remap)
-        requires { All (IsHeldMethodMapped remap.now) self.old }
-        ensures { self.new ≡ map (remapped_method remap.now) self.old }
+    /// Condition: each number has an image that fits its place; all code is that of methods; where several lists have
+    /// its memory, these are its images.
+    pub(crate) fn renumber(&mut self, remap: &Remap, images: Option<SharedCodes<'a>>)
+        requires mapped { All (IsHeldMethodMapped remap.now) (methods_in self.old) }
+        requires placed { AreCodesPlaced self.old }
+        requires ready { AreReady remap.now self.old.code_items images }
+        ensures renumbered { methods_in self.new
+            ≡ map (remapped_method remap.now) (methods_in self.old) }
+        ensures placed { AreCodesPlaced self.new }
     {
         renumber_all(&mut self.methods, remap);
-        for i in 0..self.code_items.len() {
-            self.code_items[i].renumber(remap);
-        }
+        self.code_items.renumber(remap, images);
     }
 
     /// Leaves out the debug programs.
     pub(crate) fn drop_debug(&mut self)
-        ensures { self.new ≡ map stripped_held self.old }
+        ensures stripped { methods_in self.new ≡ map stripped_held (methods_in self.old) }
+        ensures placed { AreCodesPlaced self.old → AreCodesPlaced self.new }
     {
-        for i in 0..self.code_items.len() {
-            self.code_items[i].drop_debug();
-        }
+        self.code_items.drop_debug();
     }
 
-    /// Returns a copy of the methods, with code of their own, whose units are borrowed as before.
-    pub(crate) fn copy(&self) -> Result<MethodList<'a>, AllocError>
-        ensures { IfOk result (λ copy. copy ≡ self.now) }
+    /// For each method the place of the first one whose debug program is in the same memory, or its own; `None` where
+    /// those of no two methods are.
+    pub(crate) fn shared_debugs(&self, alloc: Global) -> Result<Option<Vec<usize>>, AllocError>
+        ensures { IfOk result (λ places. IfSome places (λ places.
+            AreSameBefore (λ x. code_debug x.code) (methods_in self.now) places.items)) }
     {
-        let alloc = *self.methods.allocator();
-        let methods = Vec::from_slice(alloc, &self.methods)?;
-        let mut code_items = Vec::with_capacity(alloc, self.code_items.len())?;
-        for code in &self.code_items {
-            code_items.push(code.copy()?)?;
-        }
+        self.code_items.shared_debugs(alloc, &self.methods)
+    }
+
+    /// Returns a copy of the methods. Code that other lists have too is in the same memory as before, and other code is
+    /// copied; its units are borrowed as before.
+    pub(crate) fn copy(&self) -> Result<MethodList<'a>, AllocError>
+        ensures same { IfOk result (λ copy. methods_in copy ≡ methods_in self.now) }
+        ensures placed { AreCodesPlaced self.now → IfOk result AreCodesPlaced }
+    {
+        let methods = Vec::from_slice(*self.methods.allocator(), &self.methods)?;
+        let code_items = self.code_items.copy()?;
         Ok(MethodList {
             methods,
             code_items,

@@ -1,16 +1,20 @@
 //! Views of declared methods.
 
-ghost use Rattle.std.specs.Prelude.{◌≡◌, ◌<◌, ◌==◌, ◌-◌, ◌^◌, ℕ, List, [], Some, None, length, map, min, slice_index_or, All, MatchOption};
+ghost use Rattle.std.specs.Prelude.{◌≡◌, ◌<◌, ◌==◌, ◌-◌, ◌^◌, ℕ, List, [], Some, None, length, map, min, slice_index_or, All, IfOk, IfSome, MatchOption};
 ghost use Rattle.dexval.specs.Code.{set_of};
 ghost use Rattle.dexval.specs.Spelled.{numbered_sets_weight};
 ghost use Rattle.dexval.specs.Tables.{IsPlaceIn, set_at};
 ghost use Rattle.dexmembers.specs.Held.{method_of, IsHeldMethod};
+ghost use Rattle.dexmembers.specs.HeldCodes.{methods_in};
+ghost use Rattle.dexmembers.specs.SharedDebugs.{debug_of, AreSameBefore};
 ghost use Rattle.dexmembers.specs.Borrowed.{IsBorrowedSet};
 
-use crate::method_list::{DeclaredMethod, MethodList, code_at};
-use dexcode::Code;
+use crate::held_codes::HeldCodes;
+use crate::method_list::{DeclaredMethod, MethodList};
+use dexcode::BorrowedCode;
 use dexflags::MethodFlags;
 use dexval::{AnnotationSet, SetTable};
+use std::alloc::{AllocError, Global};
 use std::marker::Model;
 
 /// Methods of one kind that a class declares, by number. They are borrowed.
@@ -28,14 +32,15 @@ impl<'m, 'a> Model for Methods<'m, 'a> {
     ghost use Rattle.dexval.specs.Stored.{elements_code};
     ghost use Rattle.dexmembers.specs.Numbered.{NumberedMethod};
     ghost use Rattle.dexmembers.specs.Held.{method_of, IsHeldMethod};
+    ghost use Rattle.dexmembers.specs.HeldCodes.{methods_in};
 
     ghost Value = { List NumberedMethod };
 
     ghost coded = { Prim.hlevel (codes, elements_code) };
 
-    ghost view = { λ x. map (method_of x.table.now) x.methods.now };
+    ghost view = { λ x. map (method_of x.table.now) (methods_in x.methods.now) };
 
-    ghost invariant = { λ x. All (IsHeldMethod x.table.now) x.methods.now };
+    ghost invariant = { λ x. All (IsHeldMethod x.table.now) (methods_in x.methods.now) };
 }
 
 /// A declared method, which is borrowed: its number among the methods, its access flags, its code, if it has some, its
@@ -46,7 +51,7 @@ impl<'m, 'a> Model for Methods<'m, 'a> {
 pub struct Method<'m, 'a> {
     table: &'m SetTable,
     method: &'m DeclaredMethod,
-    code_items: &'m [Code<'a>],
+    code_items: &'m HeldCodes<'a>,
 }
 
 impl<'m, 'a> Model for Method<'m, 'a> {
@@ -54,15 +59,16 @@ impl<'m, 'a> Model for Method<'m, 'a> {
     ghost use Rattle.dexval.specs.Stored.{elements_code};
     ghost use Rattle.dexmembers.specs.Numbered.{NumberedMethod};
     ghost use Rattle.dexmembers.specs.Held.{method_of, IsHeldMethod};
+    ghost use Rattle.dexmembers.specs.HeldCodes.{codes_in};
     ghost use Rattle.dexmembers.specs.internal.Stored.{held_in};
 
     ghost Value = { NumberedMethod };
 
     ghost coded = { Prim.hlevel (codes, elements_code) };
 
-    ghost view = { λ x. method_of x.table.now (held_in x.code_items.now x.method.now) };
+    ghost view = { λ x. method_of x.table.now (held_in (codes_in x.code_items.now) x.method.now) };
 
-    ghost invariant = { λ x. IsHeldMethod x.table.now (held_in x.code_items.now x.method.now) };
+    ghost invariant = { λ x. IsHeldMethod x.table.now (held_in (codes_in x.code_items.now) x.method.now) };
 }
 
 /// The sets of annotations of a method's parameters, from left to right. They are borrowed.
@@ -95,8 +101,8 @@ impl<'m, 'a> Methods<'m, 'a> {
     ///
     /// Condition: their places are the table's.
     pub(crate) fn of(table: &'m SetTable, methods: &'m MethodList<'a>) -> Methods<'m, 'a>
-        requires { All (IsHeldMethod table.now) methods.now }
-        ensures { result ≡ map (method_of table.now) methods.now }
+        requires { All (IsHeldMethod table.now) (methods_in methods.now) }
+        ensures { result ≡ map (method_of table.now) (methods_in methods.now) }
     {
         Methods { table, methods }
     }
@@ -133,6 +139,22 @@ impl<'m, 'a> Methods<'m, 'a> {
     }
 }
 
+impl Methods<'_, '_> {
+    /// For each method the place of the first one whose debug program is in the same memory, or its own; `None` where
+    /// those of no two methods are. Methods whose code names the same debug_info_item of the file that they were read
+    /// from have its debug program in the same memory.
+    ///
+    /// Error: the memory for the places was refused.
+    ///
+    /// Source: "code_item", the field `debug_info_off`.
+    pub fn shared_debugs(&self, alloc: Global) -> Result<Option<Vec<usize>>, AllocError>
+        ensures { IfOk result (λ places. IfSome places (λ places.
+            AreSameBefore debug_of self.now places.items)) }
+    {
+        self.methods.shared_debugs(alloc)
+    }
+}
+
 impl<'m, 'a> Method<'m, 'a> {
     /// The number of the method.
     ///
@@ -157,12 +179,11 @@ impl<'m, 'a> Method<'m, 'a> {
     /// The code, if the method has some.
     ///
     /// Source: "code_item".
-    pub fn code(&self) -> Option<&'m Code<'a>>
-        ensures { MatchOption result (self.now.code ≡ None) (λ code.
-            self.now.code ≡ Some code.now) }
+    pub fn code(&self) -> Option<BorrowedCode<'m, 'a>>
+        ensures { MatchOption result (self.now.code ≡ None) (λ code. self.now.code ≡ Some code) }
     {
-        let method = self.method;
-        code_at(self.code_items, method.code.get())
+        let (items, method) = (self.code_items, self.method);
+        items.get(method.code)
     }
 
     /// The annotations; `None` says that the method has none.

@@ -1,6 +1,6 @@
 //! Places in tables, in four bytes each.
 
-ghost use Rattle.std.specs.Prelude.{◌≡◌, IfOk, OnErr, Some};
+ghost use Rattle.std.specs.Prelude.{◌≡◌, IfOk, None, OnErr, Some};
 
 use std::alloc::AllocError;
 use std::marker::Model;
@@ -32,6 +32,13 @@ impl Model for Place {
 }
 
 impl Place {
+    /// No place.
+    pub(crate) fn none() -> Place
+        ensures { result ≡ None }
+    {
+        Place { number: NO_PLACE }
+    }
+
     /// The place, or none if there is none.
     ///
     /// Error: exactly where it is 2^32 - 1, for which there is no room.

@@ -1,13 +1,15 @@
 //! What class rows declare, read from a file.
 
-ghost use Rattle.std.specs.Prelude.{ℕ, IfOk, IfErr};
+ghost use Rattle.std.specs.Prelude.{ℕ, IfOk, IfErr, OnOk};
+ghost use Rattle.dexpool.specs.Pools.{ArePools};
 ghost use Rattle.dexmembers.specs.ClassDefs.{IsClassDef};
 ghost use Rattle.dexmembers.specs.Reading.{AreReadWithin, IsMembersFaultWithin, InClass};
+ghost use Rattle.dexmembers.specs.SharedMembers.{AreSharedMembers};
 ghost use Rattle.dexmembers.specs.internal.RowParts.{IsPartFault};
 
 use crate::class_data::read_class_data;
 use crate::row_reader::{RowReader, too_heavy};
-use crate::{Checks, ClassDef, Members, check_members, members_weight_law};
+use crate::{Checks, ClassDef, Members, SharedMembers, check_members, members_weight_law};
 use dexcode::code_meaning_law;
 use dexhead::{Condition, Frame};
 use dexpool::{ItemFault, Pools};
@@ -20,7 +22,11 @@ fn read_row<'a>(
     pools: &Pools<'_>,
     row: &ClassDef,
     most: u32,
+    shared: &mut SharedMembers<'a>,
 ) -> Result<(Members<'a>, u32), ItemFault>
+    requires { ArePools frame.now pools.now → AreSharedMembers frame.now pools.now shared.old }
+    ensures shared { ArePools frame.now pools.now
+        → OnOk result (AreSharedMembers frame.now pools.now shared.new) }
     ensures read { (r : ℕ) → IsClassDef frame.now r row.now
         → InClass frame.now pools.now r (IfOk result (AreReadWithin frame.now r pools.now most)) }
     ensures refused { (r : ℕ) → IsClassDef frame.now r row.now
@@ -38,7 +44,7 @@ fn read_row<'a>(
         declared: &declared,
         most: u64::from(most),
     };
-    let (contents, codes) = reader.read_contents()?;
+    let (contents, codes) = reader.read_contents(shared)?;
     let weight = contents.weight_with(codes);
     if weight > u64::from(most) {
         return Err(too_heavy());
@@ -68,7 +74,35 @@ pub fn read_members<'a>(
     ensures refused { (r : ℕ) → IsClassDef frame.now r row.now
         → InClass frame.now pools.now r (IfErr result (IsMembersFaultWithin frame.now r most)) }
 {
-    let number = match read_row(alloc, frame, pools, row, most) {
+    let mut shared = SharedMembers::none();
+    read_shared_members(alloc, frame, pools, row, most, &mut shared)
+}
+
+/// Reads what a class row declares, as [`read_members`] does. If classes share what they declare, its sets of
+/// annotations, static values, code and debug programs are in the memory of `shared`; sets and values are read only if
+/// they were not before.
+///
+/// Condition: what is shared is of this file. Error: as of [`read_members`]; the contents of `shared` are then
+/// unspecified.
+///
+/// Source: "class_def_item", the fields `annotations_off`, `class_data_off` and `static_values_off`.
+pub fn read_shared_members<'a>(
+    alloc: Global,
+    frame: &Frame<'a>,
+    pools: &Pools<'_>,
+    row: &ClassDef,
+    most: u32,
+    shared: &mut SharedMembers<'a>,
+) -> Result<(Members<'a>, u32), ItemFault>
+    requires { ArePools frame.now pools.now → AreSharedMembers frame.now pools.now shared.old }
+    ensures shared { ArePools frame.now pools.now
+        → OnOk result (AreSharedMembers frame.now pools.now shared.new) }
+    ensures read { (r : ℕ) → IsClassDef frame.now r row.now
+        → InClass frame.now pools.now r (IfOk result (AreReadWithin frame.now r pools.now most)) }
+    ensures refused { (r : ℕ) → IsClassDef frame.now r row.now
+        → InClass frame.now pools.now r (IfErr result (IsMembersFaultWithin frame.now r most)) }
+{
+    let number = match read_row(alloc, frame, pools, row, most, shared) {
         Ok(read) => return Ok(read),
         Err(ItemFault::Memory) => return Err(ItemFault::Memory),
         Err(ItemFault::Refused(number)) => number,

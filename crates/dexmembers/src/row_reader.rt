@@ -1,27 +1,35 @@
 //! The parts of class rows beside their class data, read or only checked: annotations, code and static values.
 
-ghost use Rattle.std.specs.Prelude.{◌≡◌, [], length, IfOk, OnOk};
+ghost use Rattle.std.specs.Prelude.{◌≡◌, ◌≢◌, [], length, IfErr, IfOk, OnOk};
 ghost use Rattle.dexpool.specs.declared.faults.ItemFault.TheVariants.{Refused};
 ghost use Rattle.dexval.specs.CheckedSets.{AreChecked};
+ghost use Rattle.dexval.specs.CheckedStatics.{AreCheckedStatics};
+ghost use Rattle.dexval.specs.Reading.{AreStaticsAt, IsStaticsFault};
+ghost use Rattle.dexval.specs.Results.{HasStaticsShape};
 ghost use Rattle.dexval.specs.Shared.{shared_directory_of};
+ghost use Rattle.dexval.specs.SharedItems.{AreSharedIn};
 ghost use Rattle.dexmembers.specs.Contents.{AreHeld};
+ghost use Rattle.dexmembers.specs.SharedMembers.{AreSharedMembers};
 ghost use Rattle.dexmembers.specs.internal.RowReaders.{IsFile};
 ghost use Rattle.dexmembers.specs.Checking.{WeighsAnnotations, WeighsValues};
 ghost use Rattle.dexmembers.specs.internal.RowParts.{AreEntered, IsHeldDirectory, ReadsAnnotations, RefusesAnnotations, RefusesAnnotationsWithin, IsLight, ReadsContents, RefusesParts};
 ghost use Rattle.dexmembers.specs.internal.StaticValues.{ReadsValues, RefusesValues, RefusesValuesWithin};
+ghost use Rattle.dexmembers.specs.StaticValues.{values_in};
 
 use crate::attaching::attach_fields;
 use crate::class_data::ClassData;
 use crate::class_def::ClassDef;
 use crate::members::Contents;
 use crate::naming::names_declared;
+use crate::shared_members::SharedMembers;
 use crate::static_values::StaticValues;
 use dexhead::{Condition, Frame};
 use dexinsn::Scratch;
 use dexpool::{ItemFault, Pools};
 use dexval::{
-    CheckedSets, SetTable, SharedDirectory, Value, check_directory, check_statics, item_key,
-    read_shared_directory_within, read_statics,
+    CheckedSets, CheckedStatics, SetTable, SharedDirectory, SharedItems, StaticsShape,
+    check_directory, check_statics, checked_statics_at, item_key, read_shared_directory_with,
+    read_statics, shared_statics_at,
 };
 use std::alloc::Global;
 
@@ -91,14 +99,23 @@ impl<'f> RowReader<'_, 'f, '_> {
         Ok(shape.weight)
     }
 
-    /// Reads the annotations of the class and of its members, or none where the row's offset is 0.
+    /// Reads the annotations of the class and of its members, or none where the row's offset is 0. Their sets are shared,
+    /// if items are.
     ///
-    /// Condition: the row declares the members. Error: `Refused(22)` if no annotations_directory_item is there, or it
-    /// names a member that is not declared; `Refused(23)` if its sets weigh more than `most`, and what comes after the
-    /// set by which they do is not looked at; `Memory` where an allocation failed.
+    /// Condition: the row declares the members; the items are of this file. Error: `Refused(22)` if no
+    /// annotations_directory_item is there, or it names a member that is not declared; `Refused(23)` if its sets weigh
+    /// more than `most`, and what comes after the set by which they do is not looked at; `Memory` where an allocation
+    /// failed.
     ///
     /// Source: "class_def_item", the field `annotations_off`, and "annotations_directory_item".
-    fn read_annotations(&self) -> Result<SharedDirectory, ItemFault>
+    fn read_annotations(
+        &self,
+        items: &mut Option<SharedItems>,
+    ) -> Result<SharedDirectory, ItemFault>
+        requires { IsFile self.now
+            → AreSharedIn self.now.frame.now self.now.pools.now items.old }
+        ensures items { IsFile self.now
+            → OnOk result (AreSharedIn self.now.frame.now self.now.pools.now items.new) }
         ensures read { ReadsAnnotations self.now
             self.now.row.now.annotations_off self.now.declared.now result }
         ensures within { IsFile self.now → IfOk result (IsLight self.now) }
@@ -111,8 +128,8 @@ impl<'f> RowReader<'_, 'f, '_> {
         if off == 0 {
             return Ok(no_directory(self.alloc));
         }
-        let directory = read_shared_directory_within(
-            self.alloc, self.frame, self.pools, off, self.most,
+        let directory = read_shared_directory_with(
+            self.alloc, self.frame, self.pools, off, self.most, items,
         )?;
         if !names_declared(self.frame, off, self.declared) {
             return Err(ItemFault::Refused(Condition::Annotations as u8));
@@ -120,14 +137,36 @@ impl<'f> RowReader<'_, 'f, '_> {
         Ok(directory)
     }
 
+    // What static values of a shape weigh. Error: there are more than the row declares static fields.
+    fn weight_of_values(&self, shape: StaticsShape) -> Result<u64, ItemFault>
+        requires { self.now.row.now.static_values_off ≢ 0 }
+        ensures weight { HasStaticsShape self.now.frame.now self.now.row.now.static_values_off
+            self.now.pools.now shape → WeighsValues self.now.frame.now self.now.pools.now
+            self.now.row.now.static_values_off
+            (length self.now.declared.now.static_fields.items) result }
+        ensures refused { HasStaticsShape self.now.frame.now self.now.row.now.static_values_off
+            self.now.pools.now shape → RefusesValues self.now.frame.now self.now.pools.now
+            self.now.row.now.static_values_off
+            (length self.now.declared.now.static_fields.items) result }
+    {
+        if shape.count as usize > self.declared.static_fields.len() {
+            return Err(ItemFault::Refused(Condition::Values as u8));
+        }
+        Ok(shape.weight)
+    }
+
     /// Checks the values that the static fields of the class begin with, and returns what they weigh: 0 where the row's
-    /// offset is 0.
+    /// offset is 0. What is checked already is not checked again.
     ///
-    /// Error: `Refused(21)` exactly where no encoded_array_item is there, or it has more values than the row declares
-    /// static fields.
+    /// Condition: what is checked already is of this file. Error: `Refused(21)` exactly where no encoded_array_item is
+    /// there, or it has more values than the row declares static fields; `Memory` where an allocation failed.
     ///
     /// Source: "class_def_item", the field `static_values_off`, and "encoded_array_item".
-    pub(crate) fn check_static_values(&self) -> Result<u64, ItemFault>
+    pub(crate) fn check_static_values(&self, checked: &mut CheckedStatics) -> Result<u64, ItemFault>
+        requires { IsFile self.now
+            → AreCheckedStatics self.now.frame.now self.now.pools.now checked.old }
+        ensures checked { IsFile self.now
+            → OnOk result (AreCheckedStatics self.now.frame.now self.now.pools.now checked.new) }
         ensures weight { WeighsValues self.now.frame.now self.now.pools.now
             self.now.row.now.static_values_off
             (length self.now.declared.now.static_fields.items) result }
@@ -139,47 +178,104 @@ impl<'f> RowReader<'_, 'f, '_> {
         if off == 0 {
             return Ok(0);
         }
-        let shape = check_statics(self.frame, self.pools, off)?;
-        if shape.count as usize > self.declared.static_fields.len() {
-            return Err(ItemFault::Refused(Condition::Values as u8));
-        }
-        Ok(shape.weight)
+        let shape = checked_statics_at(self.frame, self.pools, off, checked)?;
+        self.weight_of_values(shape)
     }
 
-    /// Reads the values that the static fields of the class begin with, or none where the row's offset is 0.
+    // The shape of the static values at an offset. Those that are shared are checked once.
+    fn shape_of_values(
+        &self,
+        off: u32,
+        items: &mut Option<SharedItems>,
+    ) -> Result<StaticsShape, ItemFault>
+        requires { IsFile self.now
+            → AreSharedIn self.now.frame.now self.now.pools.now items.old }
+        ensures items { IsFile self.now
+            → OnOk result (AreSharedIn self.now.frame.now self.now.pools.now items.new) }
+        ensures shape { IsFile self.now
+            → IfOk result (HasStaticsShape self.now.frame.now off self.now.pools.now) }
+        ensures refused { IsFile self.now → IfErr result (IsStaticsFault self.now.frame.now off) }
+    {
+        match items {
+            Some(items) => checked_statics_at(self.frame, self.pools, off, &mut items.statics),
+            None => check_statics(self.frame, self.pools, off),
+        }
+    }
+
+    // The static values at an offset: in memory of their own, or in that of the shared items, if there are some.
+    fn values_at(
+        &self,
+        off: u32,
+        items: &mut Option<SharedItems>,
+    ) -> Result<StaticValues, ItemFault>
+        requires { IsFile self.now
+            → AreSharedIn self.now.frame.now self.now.pools.now items.old }
+        ensures items { IsFile self.now
+            → OnOk result (AreSharedIn self.now.frame.now self.now.pools.now items.new) }
+        ensures values { IsFile self.now → IfOk result
+            (λ values. AreStaticsAt self.now.frame.now off self.now.pools.now (values_in values)) }
+        ensures refused { IsFile self.now → IfErr result (IsStaticsFault self.now.frame.now off) }
+    {
+        let key = item_key(self.frame, off);
+        match items {
+            Some(items) => {
+                let values = shared_statics_at(self.frame, self.pools, off, items)?;
+                Ok(StaticValues::shared_by_classes(key, values))
+            }
+            None => {
+                let values = read_statics(self.alloc, self.frame, self.pools, off)?;
+                Ok(StaticValues::own(key, values))
+            }
+        }
+    }
+
+    /// Reads the values that the static fields of the class begin with, or none where the row's offset is 0. They are
+    /// shared, if items are.
     ///
-    /// Error: `Refused(21)` exactly where no encoded_array_item is there, or it has more values than the row declares
-    /// static fields; `Refused(23)` exactly where they weigh more than `most`; `Memory` where an allocation failed.
+    /// Condition: the items are of this file. Error: `Refused(21)` exactly where no encoded_array_item is there, or it
+    /// has more values than the row declares static fields; `Refused(23)` exactly where they weigh more than `most`;
+    /// `Memory` where an allocation failed.
     ///
     /// Source: "class_def_item", the field `static_values_off`, and "encoded_array_item".
-    fn read_static_values(&self) -> Result<Vec<Value>, ItemFault>
+    fn read_static_values(&self, items: &mut Option<SharedItems>) -> Result<StaticValues, ItemFault>
+        requires { IsFile self.now
+            → AreSharedIn self.now.frame.now self.now.pools.now items.old }
+        ensures items { IsFile self.now
+            → OnOk result (AreSharedIn self.now.frame.now self.now.pools.now items.new) }
         ensures read { ReadsValues self.now self.now.row.now.static_values_off
             (length self.now.declared.now.static_fields.items) result }
         ensures refused { RefusesValuesWithin self.now self.now.row.now.static_values_off
             (length self.now.declared.now.static_fields.items) result }
     {
-        let weight = self.check_static_values()?;
+        let off = self.row.static_values_off;
+        if off == 0 {
+            return Ok(StaticValues::own(0, Vec::new(self.alloc)));
+        }
+        let shape = self.shape_of_values(off, items)?;
+        let weight = self.weight_of_values(shape)?;
         if weight > self.most {
             return Err(too_heavy());
         }
-        let off = self.row.static_values_off;
-        if off == 0 {
-            return Ok(Vec::new(self.alloc));
-        }
-        let values = read_statics(self.alloc, self.frame, self.pools, off)?;
-        Ok(values)
+        self.values_at(off, items)
     }
 
     /// Reads what the class row declares: the members of its class data, with what is at the row beside it. Returns it
     /// with the weight of the code, or 2^64 - 1 where that is more.
     ///
-    /// Condition: the row declares the members. Error: `Refused` with a number from 18 to 22, a condition that fails
-    /// at the row; `Refused(23)` at the part that weighs more than `most`, and what comes after it is not looked at;
-    /// `Memory` where an allocation failed.
+    /// Condition: the row declares the members; what classes share is of this file. Error: `Refused` with a number from 18
+    /// to 22, a condition that fails at the row; `Refused(23)` at the part that weighs more than `most`, and what comes
+    /// after it is not looked at; `Memory` where an allocation failed.
     ///
     /// Source: "class_def_item", the fields `annotations_off` and `static_values_off`, and "encoded_method format", the
     /// field `code_off`.
-    pub(crate) fn read_contents(&self) -> Result<(Contents<'f>, u64), ItemFault>
+    pub(crate) fn read_contents(
+        &self,
+        shared: &mut SharedMembers<'f>,
+    ) -> Result<(Contents<'f>, u64), ItemFault>
+        requires { IsFile self.now
+            → AreSharedMembers self.now.frame.now self.now.pools.now shared.old }
+        ensures shared { IsFile self.now
+            → OnOk result (AreSharedMembers self.now.frame.now self.now.pools.now shared.new) }
         ensures read { ReadsContents self.now self.now.row.now self.now.declared.now result }
         ensures held { IfOk result (λ x. AreHeld x.0) }
         ensures refused { RefusesParts self.now self.now.row.now self.now.declared.now result }
@@ -187,23 +283,23 @@ impl<'f> RowReader<'_, 'f, '_> {
         self.pools.numbering().is_numbering();
         let (alloc, declared) = (self.alloc, self.declared);
         let mut scratch = Scratch::new(alloc);
-        let directory = self.read_annotations()?;
+        let directory = self.read_annotations(&mut shared.items)?;
         let (sets, lists) = (&directory.methods, &directory.parameters);
         let (direct_methods, direct_weight) = self.read_methods(
             &declared.direct_methods,
             sets,
             lists,
             &mut scratch,
+            &mut shared.codes,
         )?;
         let (virtual_methods, virtual_weight) = self.read_methods(
             &declared.virtual_methods,
             sets,
             lists,
             &mut scratch,
+            &mut shared.codes,
         )?;
-        let static_values = self.read_static_values()?;
-        let key = item_key(self.frame, self.row.static_values_off);
-        let static_values = StaticValues::own(key, static_values);
+        let static_values = self.read_static_values(&mut shared.items)?;
         let sets = &directory.fields;
         let contents = Contents {
             static_fields: attach_fields(alloc, &declared.static_fields, sets)?,

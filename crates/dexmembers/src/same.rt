@@ -11,7 +11,7 @@ ghost use Rattle.dexmembers.specs.Renumbering.{renumbered_field, renumbered_meth
 ghost use Rattle.dexmembers.specs.Borrowed.{IsBorrowedCode, IsBorrowedSet};
 
 use crate::{Field, Fields, Members, Method, Methods, ParameterSets};
-use dexcode::Code;
+use dexcode::BorrowedCode;
 use dexpool::{Remap, SymbolKind};
 use dexval::{AnnotationSet, eq_ends, same_values_mapped};
 
@@ -32,14 +32,18 @@ impl Maps<'_> {
     }
 
     // Returns whether the code of two methods, if there is some, is the same once remapped.
-    fn same_code(&self, code: Option<&Code<'_>>, other: Option<&Code<'_>>) -> bool
+    fn same_code(
+        &self,
+        code: Option<BorrowedCode<'_, '_>>,
+        other: Option<BorrowedCode<'_, '_>>,
+    ) -> bool
         ensures { (x y : Option NumberedItem) → IsBorrowedCode code.entry x
             → IsBorrowedCode other.entry y → IsTrue result
             ↔ (option_map (renumbered_item self.now.mine.now) x
             ≡ option_map (renumbered_item self.now.theirs.now) y) }
     {
         match (code, other) {
-            (Some(code), Some(other)) => code.same_mapped(self.mine, other, self.theirs),
+            (Some(code), Some(other)) => code.same_mapped(self.mine, &other, self.theirs),
             (None, None) => true,
             _ => false,
         }

@@ -1,13 +1,16 @@
 //! The values that static fields begin with: in memory of one class, or of several.
 
-ghost use Rattle.std.specs.Prelude.{◌≡◌, IfOk, MatchOption, OnOk};
+ghost use Rattle.std.specs.Prelude.{◌≡◌, ◌-◌, ◌^◌, min, IfOk, MatchOption, OnOk};
+ghost use Rattle.dexspec.specs.Mentions.{Mentions};
+ghost use Rattle.dexspec.specs.Weight.{static_values_weight};
 ghost use Rattle.dexpool.specs.Numberings.{Maps};
 ghost use Rattle.dexval.specs.Code.{values_of};
+ghost use Rattle.dexval.specs.Numbered as numbered;
 ghost use Rattle.dexval.specs.Renumbering.{renumbered_values, HavePlaces};
 ghost use Rattle.dexmembers.specs.StaticValues.{values_in, AreReady};
 
 use dexpool::Remap;
-use dexval::{RemappedItems, SharedItems, Value, copied_values, renumber_values};
+use dexval::{RemappedItems, Value, WeighedValues, copied_values, renumber_values, statics_weight};
 use std::alloc::AllocError;
 use std::mem;
 use std::rc::Rc;
@@ -18,9 +21,9 @@ pub(crate) enum Holder {
     /// One class.
     Own(Vec<Value>),
     /// Several classes.
-    Shared(Rc<Vec<Value>>),
+    Shared(Rc<WeighedValues>),
     /// Several classes, and the values remapped are there too.
-    Remapped(Rc<Vec<Value>>, Rc<Vec<Value>>),
+    Remapped(Rc<WeighedValues>, Rc<WeighedValues>),
 }
 
 /// The values that static fields begin with. Contracts see the values.
@@ -44,20 +47,41 @@ impl StaticValues {
         }
     }
 
+    /// Values that other classes have too, with the key of their item.
+    pub(crate) fn shared_by_classes(key: u128, values: Rc<WeighedValues>) -> StaticValues
+        ensures { values_in result ≡ values.value }
+    {
+        StaticValues {
+            key,
+            holder: Holder::Shared(values),
+        }
+    }
+
     /// The values.
     pub(crate) fn values(&self) -> &Vec<Value>
         ensures { values_of result.now.items ≡ values_in self.now }
     {
         match &self.holder {
             Holder::Own(values) => values,
-            Holder::Shared(values) | Holder::Remapped(values, _) => values.as_ref(),
+            Holder::Shared(values) | Holder::Remapped(values, _) => values.as_ref().values(),
+        }
+    }
+
+    /// The weight of the values, or 2^64 - 1 if they weigh more.
+    pub(crate) fn weight(&self) -> u64
+        ensures { (m : Mentions) → result
+            ≡ min (2 ^ 64 - 1) (static_values_weight (numbered.values_in m (values_in self.now))) }
+    {
+        match &self.holder {
+            Holder::Own(values) => statics_weight(values),
+            Holder::Shared(values) | Holder::Remapped(values, _) => values.as_ref().weight(),
         }
     }
 
     // The values where other classes have them too, or `None` where they are in memory of their own.
-    fn shared(&self) -> Option<&Rc<Vec<Value>>>
+    fn shared(&self) -> Option<&Rc<WeighedValues>>
         ensures { MatchOption result ((r : Maps) → AreReady r self.now)
-            (λ values. values_of values.now.value.items ≡ values_in self.now) }
+            (λ values. values.now.value ≡ values_in self.now) }
     {
         match &self.holder {
             Holder::Own(_) => None,
@@ -90,16 +114,6 @@ impl StaticValues {
         if let Some(values) = self.shared() {
             let image = items.values_image(self.key, values)?;
             self.holder = Holder::Remapped(values.clone()?, image);
-        }
-        Ok(())
-    }
-
-    /// Moves the values into the memory of equal ones of their key, if there are some. Error: an allocation failed.
-    pub(crate) fn share(&mut self, items: &mut SharedItems) -> Result<(), AllocError>
-        ensures { values_in self.new ≡ values_in self.old }
-    {
-        if let Some(shared) = items.values_like(self.key, self.values())? {
-            self.holder = Holder::Shared(shared);
         }
         Ok(())
     }

@@ -11,7 +11,7 @@ ghost use Rattle.dexmembers.specs.Laws.{MembersWeightIsDenoted};
 use crate::members::Contents;
 use crate::{Fields, Members, Method, Methods};
 use dexcode::{code_meaning_law, code_weight_law, debug_meaning_law, debug_unindexed_law};
-use dexval::{AnnotationSet, statics_weight};
+use dexval::AnnotationSet;
 
 // Returns the weight of a set, if there is one, or 2^64 - 1 where that is more.
 fn optional_weight(set: Option<&AnnotationSet>) -> u64
@@ -116,11 +116,11 @@ impl Contents<'_> {
         ensures { result ≡ min (2 ^ 64 - 1) (codes + own_members_weight (contents_in self.now)) }
     {
         codes
-            .saturating_add(optional_weight(self.table.set(self.set)))
+            .saturating_add(self.table.set_weight(self.set))
             .saturating_add(fields_weight(&Fields::of(&self.table, &self.static_fields)))
             .saturating_add(fields_weight(&Fields::of(&self.table, &self.instance_fields)))
             .saturating_add(methods_weight(&Methods::of(&self.table, &self.direct_methods)))
             .saturating_add(methods_weight(&Methods::of(&self.table, &self.virtual_methods)))
-            .saturating_add(statics_weight(self.static_values.values()))
+            .saturating_add(self.static_values.weight())
     }
 }

@@ -1,5 +1,5 @@
 -- What a union holds, in numbers.
-use Rattle.dexmerge.proofs.Common.{◌≡◌, ℕ, ◌+◌, ◌-◌, ◌^◌, ◌<◌, ◌≤◌, Bool, false, not, ◌||◌, min, List, [], ◌∷◌, ◌++◌, length, take, map, refl, sym, ap, ◌∙◌, arith, Option, Some, None, All, nat_lt, list_any, ltb-true, ltb-false, lt-ltb, take_more, append-nil, length-map, flat_map-append, rank, Text, text_cmp, Definition, Mentions, mentions, HasShortString, list_any-source, IsAt, Maps, image, KeepOrder, IsGreatest, members_short_strings, renumbered_members, NumberedClass, definition_of, no_class, IsMappedClass, IsKnownClass, not-true, not-false, le-ltb, HasShortString-within, AreSame, IsAcyclic, IsConsistent}
+use Rattle.dexmerge.proofs.Common.{◌≡◌, ℕ, ◌+◌, ◌-◌, ◌^◌, ◌<◌, ◌≤◌, Bool, false, not, ◌||◌, min, List, [], ◌∷◌, ◌++◌, length, take, map, refl, sym, ap, ◌∙◌, arith, Option, Some, None, All, nat_lt, list_any, ltb-true, ltb-false, lt-ltb, take_more, append-nil, length-map, flat_map-append, rank, Text, text_cmp, Definition, Mentions, mentions, HasShortString, list_any-source, IsAt, Maps, image, KeepOrder, IsGreatest, members_short_strings, renumbered_members, NumberedClass, definition_of, no_class, IsMappedClass, IsKnownClass, not-true, not-false, le-ltb, HasShortString-within, AreSame, IsConsistent}
 use Rattle.std.proofs.lemmas.List.Folds.{list_any-append}
 use Rattle.dexmerge.specs.declared.candidates.Candidate.{Candidate}
 use Rattle.dexmerge.specs.declared.measuring.Counts.{Counts}

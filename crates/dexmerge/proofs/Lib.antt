@@ -4,6 +4,7 @@ pub mod PlanForms
 pub mod PartMembers
 pub mod ConflictLaws
 pub mod CandidatePlaces
+pub mod EqualCandidates
 pub mod CycleLaws
 pub mod UnionLaws
 pub mod CapLaws

@@ -1,11 +1,13 @@
 -- The definitions of the parts of a plan.
-use Rattle.dexmerge.proofs.Common.{◌≡◌, ℕ, zero, suc, ◌<◌, List, [], ◌∷◌, ◌++◌, length, get_or, map, refl, sym, ap, ◌∙◌, subst, arith, inl, inr, slice_index_or, Contains, flat_map, append-nil, flat_map-append, Contains-append_left, Contains-append_right, Contains-append_cases, Contains-get_or, Definition, Collection, definitions, AreSame, AreWithin, Caps, Cause, IsFirstCause, IsPlanFor, AreLeaves, Plan, Leaf, Node, leaves, all_leaves, Contains-nil, Contains-cons_cases, Contains-flat_map, Contains-flat_map_source, IsGood-within, IsCause-within, first_cause-same, All-contains, AreAmong-append, append_assoc, AreAmong, AreAmong-refl}
+use Rattle.dexmerge.proofs.Common.{◌≡◌, ℕ, zero, suc, ◌<◌, ◌≢◌, List, [], ◌∷◌, ◌++◌, length, get_or, refl, sym, ap, ◌∙◌, subst, inl, inr, slice_set, cases_eq, length-set, text_cmp, Body, Contains, flat_map, append-nil, flat_map-append, Contains-append_left, Contains-append_right, Contains-append_cases, Contains-get_or, Definition, Collection, definitions, AreSame, AreWithin, Caps, Cause, IsFirstCause, AreLeaves, Plan, Leaf, Node, leaves, all_leaves, Contains-nil, Contains-cons_cases, Contains-flat_map, IsGood-within, IsCause-within, first_cause-same, All-contains, AreAmong-append, AreAmong-refl}
+use Rattle.std.proofs.lemmas.List.{nil_from_length}
+use Rattle.std.specs.FinMap as finite
 use Rattle.dexspec.specs.Merging as merging
 use Rattle.dexmerge.specs.declared.faults.MergeFault.{MergeFault}
 use Rattle.dexmerge.specs.declared.faults.MergeFault.TheVariants as fault
 use Rattle.dexmerge.proofs.Marked.{part_leaves}
 use Rattle.dexmerge.specs.{plans_of, IsMerged, Reports, planned}
-use Rattle.dexmerge.specs.internal.Parts.{files_in, nodes_in, of_files, of_plans, AreKnown, IsCauseOf}
+use Rattle.dexmerge.specs.internal.Parts.{of_file, of_plans, AreKnown, AreLeft, IsCauseOf}
 
 -- ---- what faults report
 
@@ -28,146 +30,153 @@ reports_same caps D E f same = reports_other (IsFirstCause caps D) (IsFirstCause
 
 -- ---- the parts of a node
 
-module _ (files : List Collection) where
-  -- two lists change places before a third
-  swapped : (X A B : List Definition) → AreAmong (X ++ (A ++ B)) (A ++ (X ++ B))
-  swapped X A B d c = elim (Contains-append_cases X (A ++ B) d c) [
-    | inl x ↦ Contains-append_right A (X ++ B) d (Contains-append_left X B d x)
-    | inr r ↦ AreAmong-append A B A (X ++ B) (AreAmong-refl A) (λ e. Contains-append_right X B e) d r
+-- the definitions of a node are those of its parts
+pub parts_are : (files : List Collection) (ps : List Plan) → of_plans files ps ≡ planned files (Node (plans_of ps))
+parts_are files [] = refl
+parts_are files (p ∷ ps) = ap (λ (l : List Definition). planned files p ++ l) (parts_are files ps) ∙ sym (flat_map-append (of_file files) (leaves p) (all_leaves (plans_of ps)))
+
+-- one part more
+pub of_plans_more : (files : List Collection) (ps : List Plan) (p : Plan) → of_plans files (ps ++ p ∷ []) ≡ of_plans files ps ++ planned files p
+of_plans_more files ps p = flat_map-append (planned files) ps (p ∷ []) ∙ ap (λ (l : List Definition). of_plans files ps ++ l) (append-nil (planned files p))
+
+-- the definitions of a part are among those of the whole
+part_within : (files : List Collection) (ps : List Plan) (p : Plan) → Contains ps p → AreWithin (planned files p) (planned files (Node (plans_of ps)))
+part_within files ps p has d c = subst (λ (l : List Definition). Contains l d) (parts_are files ps) (Contains-flat_map (planned files) ps p d has c)
+
+-- a node among the parts is no leaf
+no_leaves : (ps : List Plan) (qs : merging.Plans) → Contains ps (Node qs) → AreLeaves (plans_of ps) → ⊥
+no_leaves [] qs has all = Contains-nil (Node qs) has
+no_leaves (Leaf file ∷ ps) qs has all = elim (Contains-cons_cases (Leaf file) (Node qs) ps has) [ inl e ↦ absurd cc | inr later ↦ no_leaves ps qs later all ]
+no_leaves (Node rs ∷ ps) qs has never = never
+
+-- the first cause is a cause
+pub first_reports : (files : List Collection) (caps : Caps) (p : Plan) (f : MergeFault) → Reports (IsFirstCause caps (planned files p)) f → Reports (IsCauseOf caps files p) f
+first_reports files caps p f = reports_other (IsFirstCause caps (planned files p)) (IsCauseOf caps files p) (λ cause x. record { holds = x.is; first = λ flat. x }) f
+
+-- ---- what is left of files
+
+-- nothing was taken yet
+pub all_left : (files : List Collection) → AreLeft [] files files
+all_left files = record { count = refl; each = λ i. inl refl }
+
+module _ (G N : List Collection) (D : List Definition) (left : AreLeft D G N) where
+  -- what files have now they had
+  now_within : (numbers : List ℕ) → AreWithin (flat_map (of_file N) numbers) (flat_map (of_file G) numbers)
+  now_within [] d c = c
+  now_within (i ∷ numbers) d c = AreAmong-append (of_file N i) (flat_map (of_file N) numbers) (of_file G i) (flat_map (of_file G) numbers) (λ e x. elim (left.each i) [
+    | inl same ↦ subst (λ (l : List Definition). Contains l e) same x
+    | inr taken ↦ absurd (Contains-nil e (subst (λ (l : List Definition). Contains l e) taken.0 x))
+  ]) (now_within numbers) d c
+
+  -- what they had they have now, or it was taken
+  had_within : (numbers : List ℕ) → AreWithin (flat_map (of_file G) numbers) (D ++ flat_map (of_file N) numbers)
+  had_within [] d c = absurd (Contains-nil d c)
+  had_within (i ∷ numbers) d c = elim (Contains-append_cases (of_file G i) (flat_map (of_file G) numbers) d c) [
+    | inl own ↦ elim (left.each i) [
+      | inl same ↦ Contains-append_right D (of_file N i ++ flat_map (of_file N) numbers) d (Contains-append_left (of_file N i) (flat_map (of_file N) numbers) d (subst (λ (l : List Definition). Contains l d) (sym same) own))
+      | inr taken ↦ Contains-append_left D (of_file N i ++ flat_map (of_file N) numbers) d (taken.1 d own)
+    ]
+    | inr later ↦ AreAmong-append D (flat_map (of_file N) numbers) D (of_file N i ++ flat_map (of_file N) numbers) (AreAmong-refl D) (λ e. Contains-append_right (of_file N i) (flat_map (of_file N) numbers) e) d (had_within numbers d later)
   ]
 
-  -- the definitions of the parts are those of the leaves and of the nodes among them
-  parts_are : (ps : List Plan) → AreSame (of_files files (all_leaves (plans_of ps))) (of_files files (files_in ps) ++ of_plans files (nodes_in ps))
-  parts_are [] d = (λ c. c, λ c. c)
-  parts_are (Leaf file ∷ ps) d =
-      let X : List Definition = slice_index_or (map definitions files) file [] in
-      let R = of_files files (all_leaves (plans_of ps)) in
-      let A = of_files files (files_in ps) in
-      let B = of_plans files (nodes_in ps) in (
-        λ c. subst (λ l. Contains l d) (sym (append_assoc X A B)) (AreAmong-append X R X (A ++ B) (AreAmong-refl X) (λ e. (parts_are ps e).0) d c),
-        λ c. AreAmong-append X (A ++ B) X R (AreAmong-refl X) (λ e. (parts_are ps e).1) d (subst (λ l. Contains l d) (append_assoc X A B) c),
+  -- the files of a plan are taken too
+  pub more_left : (p : Plan) (O : List Collection) → AreLeft (planned N p) N O → AreLeft (D ++ planned G p) G O
+  more_left p O next = record {
+    count = next.count ∙ left.count;
+    each = λ i. elim (next.each i) [
+      | inl same ↦ elim (left.each i) [
+        | inl still ↦ inl (same ∙ still)
+        | inr taken ↦ inr (same ∙ taken.0, λ d c. Contains-append_left D (planned G p) d (taken.1 d c))
+      ]
+      | inr now ↦ elim (left.each i) [
+        | inl still ↦ inr (now.0, λ d c. Contains-append_right D (planned G p) d (now_within (leaves p) d (now.1 d (subst (λ (l : List Definition). Contains l d) (sym still) c))))
+        | inr taken ↦ inr (now.0, λ d c. Contains-append_left D (planned G p) d (taken.1 d c))
+      ]
+    ];
+  }
+
+  -- and their definitions are there with those that were taken
+  pub more_same : (p : Plan) (programs : List Collection) (K : Collection) → AreSame (flat_map definitions programs) D → AreSame (definitions K) (planned N p) → AreSame (flat_map definitions (programs ++ K ∷ [])) (D ++ planned G p)
+  more_same p programs K same own d =
+      let E = flat_map definitions programs in
+      let all : flat_map definitions (programs ++ K ∷ []) ≡ E ++ definitions K = flat_map-append definitions programs (K ∷ []) ∙ ap (λ (l : List Definition). E ++ l) (append-nil (definitions K)) in (
+        λ c. AreAmong-append E (definitions K) D (planned G p) (λ e. (same e).0) (λ e x. now_within (leaves p) e ((own e).0 x)) d (subst (λ (l : List Definition). Contains l d) all c),
+        λ c. subst (λ (l : List Definition). Contains l d) (sym all) (elim (Contains-append_cases D (planned G p) d c) [
+          | inl before ↦ Contains-append_left E (definitions K) d ((same d).1 before)
+          | inr had ↦ AreAmong-append D (planned N p) E (definitions K) (λ e. (same e).1) (λ e. (own e).1) d (had_within (leaves p) d had)
+        ]),
       )
-  parts_are (Node qs ∷ ps) d =
-      let X = of_files files (all_leaves qs) in
-      let R = of_files files (all_leaves (plans_of ps)) in
-      let A = of_files files (files_in ps) in
-      let B = of_plans files (nodes_in ps) in
-      let both = flat_map-append (λ i. slice_index_or (map definitions files) i []) (all_leaves qs) (all_leaves (plans_of ps)) in (
-        λ c. swapped X A B d (AreAmong-append X R X (A ++ B) (AreAmong-refl X) (λ e. (parts_are ps e).0) d (subst (λ l. Contains l d) both c)),
-        λ c. subst (λ l. Contains l d) (sym both) (AreAmong-append X (A ++ B) X R (AreAmong-refl X) (λ e. (parts_are ps e).1) d (swapped A X B d c)),
-      )
-
-  -- the files of the leaves and the programs of the nodes have the definitions of the whole
-  pub node_same : (ps : List Plan) (inner : List Collection) → AreSame (flat_map definitions inner) (of_plans files (nodes_in ps)) → AreSame (of_files files (files_in ps) ++ flat_map definitions inner) (planned files (Node (plans_of ps)))
-  node_same ps inner same d =
-      let A = of_files files (files_in ps) in
-      let both = parts_are ps d in
-      (λ c. both.1 (AreAmong-append A (flat_map definitions inner) A (of_plans files (nodes_in ps)) (AreAmong-refl A) (λ e. (same e).0) d c), λ c. AreAmong-append A (of_plans files (nodes_in ps)) A (flat_map definitions inner) (AreAmong-refl A) (λ e. (same e).1) d (both.0 c))
-
-  -- the definitions of a part are among those of the whole
-  pub part_within : (ps : List Plan) (p : Plan) → Contains ps p → AreWithin (planned files p) (planned files (Node (plans_of ps)))
-  part_within [] p has d c = absurd (Contains-nil p has)
-  part_within (q ∷ ps) p has d c = subst (λ (l : List Definition). Contains l d) (sym (flat_map-append (λ i. slice_index_or (map definitions files) i []) (leaves q) (all_leaves (plans_of ps)))) (elim (Contains-cons_cases q p ps has) [
-    | inl e ↦ Contains-append_left (planned files q) (of_files files (all_leaves (plans_of ps))) d (subst (λ (x : Plan). Contains (planned files x) d) (sym e) c)
-    | inr later ↦ Contains-append_right (planned files q) (of_files files (all_leaves (plans_of ps))) d (part_within ps p later d c)
-  ])
-
-  -- a node among the parts is no leaf
-  no_leaves : (ps : List Plan) (qs : merging.Plans) → Contains ps (Node qs) → AreLeaves (plans_of ps) → ⊥
-  no_leaves [] qs has all = Contains-nil (Node qs) has
-  no_leaves (Leaf file ∷ ps) qs has all = elim (Contains-cons_cases (Leaf file) (Node qs) ps has) [ inl e ↦ absurd cc | inr later ↦ no_leaves ps qs later all ]
-  no_leaves (Node rs ∷ ps) qs has never = never
 
   -- the cause of a node among the parts is one of the whole
-  pub part_reports : (caps : Caps) (ps : List Plan) (qs : merging.Plans) (f : MergeFault) → Contains ps (Node qs) → Reports (IsCauseOf caps files (Node qs)) f → Reports (IsCauseOf caps files (Node (plans_of ps))) f
-  part_reports caps ps qs f has = reports_other (IsCauseOf caps files (Node qs)) (IsCauseOf caps files (Node (plans_of ps))) (λ cause x. record {
-    holds = IsCause-within (planned files (Node qs)) (planned files (Node (plans_of ps))) (part_within ps (Node qs) has) caps cause x.holds;
+  pub part_reports : (caps : Caps) (ps : List Plan) (qs : merging.Plans) (f : MergeFault) → Contains ps (Node qs) → Reports (IsCauseOf caps N (Node qs)) f → Reports (IsCauseOf caps G (Node (plans_of ps))) f
+  part_reports caps ps qs f has = reports_other (IsCauseOf caps N (Node qs)) (IsCauseOf caps G (Node (plans_of ps))) (λ cause x. record {
+    holds = IsCause-within (planned N (Node qs)) (planned G (Node (plans_of ps))) (λ d c. part_within G ps (Node qs) has d (now_within (leaves (Node qs)) d c)) caps cause x.holds;
     first = λ flat. absurd (no_leaves ps qs has flat);
   }) f
 
-  -- the first cause is a cause
-  pub first_reports : (caps : Caps) (p : Plan) (f : MergeFault) → Reports (IsFirstCause caps (planned files p)) f → Reports (IsCauseOf caps files p) f
-  first_reports caps p f = reports_other (IsFirstCause caps (planned files p)) (IsCauseOf caps files p) (λ cause x. record { holds = x.is; first = λ flat. x }) f
+-- a program without classes defines nothing
+pub no_definitions : definitions (finite.empty {R = text_cmp}) ≡ []
+no_definitions = nil_from_length (definitions finite.empty) (sym (finite.len-entries finite.empty) ∙ finite.len-empty text_cmp Body)
 
-  -- ---- part by part
+-- a file that defines nothing, instead of another
+none_there : (files : List Collection) (number : ℕ) (K : Collection) → definitions K ≡ [] → of_file (slice_set files number K) number ≡ []
+none_there [] number K none = refl
+none_there (L ∷ Ls) zero K none = none
+none_there (L ∷ Ls) (suc number) K none = none_there Ls number K none
 
-  files_more : (ps : List Plan) (p : Plan) → files_in (ps ++ p ∷ []) ≡ files_in ps ++ files_in (p ∷ [])
-  files_more [] p = refl
-  files_more (Leaf file ∷ ps) p = ap (λ (l : List ℕ). file ∷ l) (files_more ps p)
-  files_more (Node qs ∷ ps) p = files_more ps p
+others_there : (files : List Collection) (number i : ℕ) (K : Collection) → i ≢ number → of_file (slice_set files number K) i ≡ of_file files i
+others_there [] number i K other = refl
+others_there (L ∷ Ls) zero zero K other = absurd (other refl)
+others_there (L ∷ Ls) zero (suc i) K other = refl
+others_there (L ∷ Ls) (suc number) zero K other = refl
+others_there (L ∷ Ls) (suc number) (suc i) K other = others_there Ls number i K (λ same. other (ap suc same))
 
-  nodes_more : (ps : List Plan) (p : Plan) → nodes_in (ps ++ p ∷ []) ≡ nodes_in ps ++ nodes_in (p ∷ [])
-  nodes_more [] p = refl
-  nodes_more (Leaf file ∷ ps) p = nodes_more ps p
-  nodes_more (Node qs ∷ ps) p = ap (λ (l : List Plan). Node qs ∷ l) (nodes_more ps p)
+-- one file was taken
+pub file_left : (files : List Collection) (number : ℕ) (K : Collection) → definitions K ≡ [] → AreLeft (of_file files number) files (slice_set files number K)
+file_left files number K none = record {
+  count = length-set files number K;
+  each = λ i. elim (cases_eq i number) [
+    | inl same ↦ inr (ap (of_file (slice_set files number K)) same ∙ none_there files number K none, λ d c. subst (λ (k : ℕ). Contains (of_file files k) d) same c)
+    | inr other ↦ inl (others_there files number i K other)
+  ];
+}
 
-  -- a leaf more
-  pub leaf_more : (ps : List Plan) (file : ℕ) → of_files files (files_in (ps ++ Leaf file ∷ [])) ≡ of_files files (files_in ps) ++ slice_index_or (map definitions files) file []
-  leaf_more ps file =
-      ap (of_files files) (files_more ps (Leaf file)) ∙ flat_map-append (λ i. slice_index_or (map definitions files) i []) (files_in ps) (file ∷ [])
-      ∙ ap (λ (l : List Definition). of_files files (files_in ps) ++ l) (append-nil (slice_index_or (map definitions files) file []))
+-- ---- part by part
 
-  pub node_no_file : (ps : List Plan) (qs : merging.Plans) → files_in (ps ++ Node qs ∷ []) ≡ files_in ps
-  node_no_file ps qs = files_more ps (Node qs) ∙ append-nil (files_in ps)
+-- these programs have the definitions of these parts, whose files were taken
+pub record HaveTaken (ps : List Plan) (programs old new : List Collection) : Type 0 where
+  pub same : AreSame (flat_map definitions programs) (of_plans old ps)
+  pub left : AreLeft (of_plans old ps) old new
 
-  pub leaf_no_node : (ps : List Plan) (file : ℕ) → nodes_in (ps ++ Leaf file ∷ []) ≡ nodes_in ps
-  leaf_no_node ps file = nodes_more ps (Leaf file) ∙ append-nil (nodes_in ps)
+-- the program has the definitions of a part, whose files were taken
+pub record IsTaken (p : Plan) (K : Collection) (old new : List Collection) : Type 0 where
+  pub same : AreSame (definitions K) (planned old p)
+  pub left : AreLeft (planned old p) old new
 
-  -- a node more
-  pub node_more : (ps : List Plan) (qs : merging.Plans) (inner : List Collection) (K : Collection) → AreSame (flat_map definitions inner) (of_plans files (nodes_in ps)) → AreSame (definitions K) (planned files (Node qs))
-      → AreSame (flat_map definitions (inner ++ K ∷ [])) (of_plans files (nodes_in (ps ++ Node qs ∷ [])))
-  node_more ps qs inner K same own d =
-      let all : flat_map definitions (inner ++ K ∷ []) ≡ flat_map definitions inner ++ definitions K = flat_map-append definitions inner (K ∷ []) ∙ ap (λ (l : List Definition). flat_map definitions inner ++ l) (append-nil (definitions K)) in
-      let whole : of_plans files (nodes_in (ps ++ Node qs ∷ [])) ≡ of_plans files (nodes_in ps) ++ planned files (Node qs) =
-      ap (of_plans files) (nodes_more ps (Node qs)) ∙ flat_map-append (planned files) (nodes_in ps) (Node qs ∷ []) ∙ ap (λ (l : List Definition). of_plans files (nodes_in ps) ++ l) (append-nil (planned files (Node qs))) in (
-        λ c. subst (λ (l : List Definition). Contains l d) (sym whole) (AreAmong-append (flat_map definitions inner) (definitions K) (of_plans files (nodes_in ps)) (planned files (Node qs)) (λ e. (same e).0) (λ e. (own e).0) d (subst (λ (l : List Definition). Contains l d) all c)),
-        λ c. subst (λ (l : List Definition). Contains l d) (sym all) (AreAmong-append (of_plans files (nodes_in ps)) (planned files (Node qs)) (flat_map definitions inner) (definitions K) (λ e. (same e).1) (λ e. (own e).1) d (subst (λ (l : List Definition). Contains l d) whole c)),
-      )
+pub none_taken : (files : List Collection) → HaveTaken [] [] files files
+none_taken files = record { same = λ d. (λ c. c, λ c. c); left = all_left files }
 
--- ---- what a node makes
+pub one_more_taken : (ps : List Plan) (p : Plan) (programs : List Collection) (K : Collection) (old now new : List Collection) → HaveTaken ps programs old now → IsTaken p K now new → HaveTaken (ps ++ p ∷ []) (programs ++ K ∷ []) old new
+one_more_taken ps p programs K old now new h own =
+    let all = sym (of_plans_more old ps p) in
+    record {
+      same = subst (AreSame (flat_map definitions (programs ++ K ∷ []))) all (more_same old now (of_plans old ps) h.left p programs K h.same own.same);
+      left = subst (λ (D : List Definition). AreLeft D old new) all (more_left old now (of_plans old ps) h.left p new own.left);
+    }
 
--- the programs of a node have its definitions
-pub programs_same : (files : List Collection) (ps : List Plan) (inner given : List Collection) → flat_map definitions given ≡ of_files files (files_in ps) → AreSame (flat_map definitions inner) (of_plans files (nodes_in ps)) → AreSame (flat_map definitions (inner ++ given)) (planned files (Node (plans_of ps)))
-programs_same files ps inner given is same =
-    let own : List Definition = flat_map definitions inner in
-    let all : flat_map definitions (inner ++ given) ≡ own ++ of_files files (files_in ps) = flat_map-append definitions inner given ∙ ap (λ (l : List Definition). own ++ l) is in
-    subst (λ (l : List Definition). AreSame l (planned files (Node (plans_of ps)))) (sym all) (λ d. (
-      λ c. (node_same files ps inner same d).0 (either_order own (of_files files (files_in ps)) d c),
-      λ c. either_order (of_files files (files_in ps)) own d ((node_same files ps inner same d).1 c),
-    ))
-  where
-    either_order : (D E : List Definition) (d : Definition) → Contains (D ++ E) d → Contains (E ++ D) d
-    either_order D E d c = elim (Contains-append_cases D E d c) [
-      | inl first ↦ Contains-append_right E D d first
-      | inr last ↦ Contains-append_left E D d last
-    ]
+-- a file that was taken is the leaf of its number
+pub leaf_taken : (files new : List Collection) (number : ℕ) (K : Collection) → definitions K ≡ of_file files number → AreLeft (of_file files number) files new → IsTaken (Leaf number) K files new
+leaf_taken files new number K is left =
+    let one : planned files (Leaf number) ≡ of_file files number = append-nil (of_file files number) in
+    record {
+      same = subst (AreSame (definitions K)) (is ∙ sym one) (λ d. (λ c. c, λ c. c));
+      left = subst (λ (D : List Definition). AreLeft D files new) (sym one) left;
+    }
+
+-- so is the whole
+pub leaf_alone : (files new : List Collection) (number : ℕ) (K : Collection) → IsTaken (Leaf number) K files new → HaveTaken (Leaf number ∷ []) (K ∷ []) files new
+leaf_alone files new number K own = one_more_taken [] (Leaf number) [] K files files new (none_taken files) own
 
 -- the files of a part are known
 pub part_known : (files : List Collection) (ps : List Plan) (p : Plan) → Contains ps p → AreKnown files (Node (plans_of ps)) → AreKnown files p
 part_known files ps p has known i d lt = All-contains (λ k. k < length files) (all_leaves (plans_of ps)) (get_or (leaves p) i d) known (part_leaves ps p (get_or (leaves p) i d) has (Contains-get_or (leaves p) i d lt))
-
--- ---- all files
-
--- the definitions of a file, by its number
-at_number : (files : List Collection) (K : Collection) (i : ℕ) → i < length files → get_or files i K ≡ K → slice_index_or (map definitions files) i [] ≡ definitions K
-at_number [] K i lt e = absurd (omega (arith, lt))
-at_number (L ∷ Ls) K zero lt e = ap definitions e
-at_number (L ∷ Ls) K (suc i) lt e = at_number Ls K i (omega (arith, lt)) e
-
--- the definitions of a file are among those of all
-number_within : (files : List Collection) (d : Definition) (i : ℕ) → i < length files → Contains (slice_index_or (map definitions files) i []) d → Contains (flat_map definitions files) d
-number_within [] d i lt has = absurd (omega (arith, lt))
-number_within (K ∷ Ks) d zero lt has = Contains-append_left (definitions K) (flat_map definitions Ks) d has
-number_within (K ∷ Ks) d (suc i) lt has = Contains-append_right (definitions K) (flat_map definitions Ks) d (number_within Ks d i (omega (arith, lt)) has)
-
--- a plan for the files names the definitions of all of them, and of nothing besides
-pub files_same : (files : List Collection) (p : Plan) → IsPlanFor (length files) p → AreSame (flat_map definitions (files ++ [])) (planned files p)
-files_same files p h d = (
-  λ c.
-      let found = Contains-flat_map_source definitions files d (subst (λ (l : List Collection). Contains (flat_map definitions l) d) (append-nil files) c) in
-      let at = found.1 in
-      Contains-flat_map (λ i. slice_index_or (map definitions files) i []) (leaves p) at.0 d (h.named at.0 at.1) (subst (λ (l : List Definition). Contains l d) (sym (at_number files found.0 at.0 at.1 at.2)) found.2),
-  λ c.
-      let found = Contains-flat_map_source (λ i. slice_index_or (map definitions files) i []) (leaves p) d c in
-      subst (λ (l : List Collection). Contains (flat_map definitions l) d) (sym (append-nil files)) (number_within files d found.0 (All-contains (λ i. i < length files) (leaves p) found.0 h.known found.1) found.2),
-)

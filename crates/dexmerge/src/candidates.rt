@@ -1,14 +1,16 @@
 //! Classes of several parts, with the maps of their numbers into the numbering of the union.
 
-ghost use Rattle.std.specs.Prelude.{◌≡◌, ◌↔◌, ◌<◌, IfOk, IsTrue, length};
+ghost use Rattle.std.specs.Prelude.{◌≡◌, ◌↔◌, ◌<◌, ◌≤◌, List, IfOk, IsTrue, length};
 ghost use Rattle.dexmembers.specs.Fitting.{members_short_strings};
+ghost use Rattle.dexpool.specs.Numberings.{Maps};
 ghost use Rattle.dexclass.specs.Renumbering.{IsMappedClass};
+ghost use Rattle.dexclass.specs.EqualLists.{AreFirstEqual};
 ghost use Rattle.dexmerge.specs.Candidates.{class_of};
-ghost use Rattle.dexmerge.specs.internal.CandidateLists.{AreMembersOf, AreOfParts};
+ghost use Rattle.dexmerge.specs.internal.CandidateLists.{AreMembersOf, AreOfParts, AreByPart, HaveEqualInterfaces};
 ghost use Rattle.dexmerge.specs.Parts.{referents};
 ghost use Rattle.dexmerge.specs.Counting.{Decides};
 
-use dexclass::{Class, Program, renumbering_law};
+use dexclass::{Class, KnownLists, Program, renumbering_law};
 use dexorder::HasParents;
 use dexpool::{Remap, SymbolKind};
 use std::alloc::{AllocError, Global};
@@ -18,6 +20,8 @@ use std::alloc::{AllocError, Global};
 pub(crate) struct Candidate<'a, 'b> {
     pub(crate) class: &'b Class<'a>,
     remap: &'b Remap,
+    // The number of the part, and of its map.
+    part: usize,
 }
 
 impl<'a, 'b> Candidate<'a, 'b> {
@@ -26,6 +30,14 @@ impl<'a, 'b> Candidate<'a, 'b> {
         ensures { IsTrue result ↔ (class_of self.now ≡ class_of other.now) }
     {
         self.class.same_mapped(self.remap, other.class, other.remap)
+    }
+
+    // Returns whether the two are classes of one part that have the same interfaces there.
+    fn has_interfaces_of(&self, other: &Candidate<'_, '_>) -> bool
+        ensures { IsTrue result → (self.now.part ≡ other.now.part)
+            × (self.now.class.now.interfaces ≡ other.now.class.now.interfaces) }
+    {
+        self.part == other.part && self.class.has_interfaces_of(other.class)
     }
 
     /// The greatest number in the union of a text that a `const-string` of the class names, or `None` without one; a
@@ -86,6 +98,7 @@ pub(crate) fn candidates<'a, 'b>(
         AreMembersOf (referents parts.now) remaps.now candidates.items) }
     ensures parts { IfOk result (λ candidates.
         AreOfParts (referents parts.now) remaps.now candidates.items) }
+    ensures remaps { IfOk result (λ candidates. AreByPart remaps.now candidates.items) }
 {
     renumbering_law();
     let mut candidates = Vec::new(alloc);
@@ -94,8 +107,45 @@ pub(crate) fn candidates<'a, 'b>(
         part.is_good();
         let remap = &remaps[i];
         for class in part.classes() {
-            candidates.push(Candidate { class, remap })?;
+            candidates.push(Candidate {
+                class,
+                remap,
+                part: i,
+            })?;
         }
     }
     Ok(candidates)
+}
+
+// Candidate `found`, if it is before candidate `i` and one with the same interfaces, and else candidate `i`.
+fn first_or_same(candidates: &[Candidate<'_, '_>], i: usize, found: usize) -> usize
+    requires within { i < length candidates.now }
+    requires parts { (remaps : List Maps) × AreByPart remaps candidates.now }
+    ensures before { result ≤ i }
+    ensures equal { HaveEqualInterfaces candidates.now result i }
+{
+    if found < i && candidates[i].has_interfaces_of(&candidates[found]) {
+        return found;
+    }
+    i
+}
+
+/// For each candidate one with the same interfaces in the union: itself, or one before it. Those of one part that share a
+/// long list have one that is before the others.
+pub(crate) fn first_equal(
+    alloc: Global,
+    candidates: &[Candidate<'_, '_>],
+) -> Result<Vec<usize>, AllocError>
+    requires { (remaps : List Maps) × AreByPart remaps candidates.now }
+    ensures { IfOk result (λ firsts.
+        AreFirstEqual (λ c. (class_of c).interfaces) candidates.now firsts.items) }
+{
+    let mut known = KnownLists::none(alloc);
+    let mut firsts = Vec::with_capacity(alloc, candidates.len())?;
+    for i in 0..candidates.len() {
+        let candidate = candidates[i];
+        let found = known.first(candidate.part, candidate.class, i)?;
+        firsts.push(first_or_same(candidates, i, found))?;
+    }
+    Ok(firsts)
 }

@@ -2,11 +2,13 @@
 
 ghost use Rattle.std.specs.Prelude.{◌≡◌, ◌≤◌, List, All, IfOk, IfErr};
 ghost use Rattle.dexspec.specs.Classes.{Definition};
+ghost use Rattle.dexpool.specs.Numberings.{Maps};
 ghost use Rattle.dexclass.specs.Uses.{IsKnownClass};
 ghost use Rattle.dexmerge.specs.Candidates.{IsOfPart, classes_of};
 ghost use Rattle.dexmerge.specs.Counting.{AreCounts, AreCountsOver, above_it};
 ghost use Rattle.dexmerge.specs.Faults.{ReportsUnderAnyCaps};
 ghost use Rattle.dexmerge.specs.Parts.{definitions_in};
+ghost use Rattle.dexmerge.specs.internal.CandidateLists.{AreByPart};
 ghost use Rattle.dexmerge.specs.internal.Unions.{AreCopies, AreKeptSoundly, CopiesReport};
 
 use crate::candidates::{Candidate, candidates};
@@ -75,7 +77,8 @@ fn sound_classes<'a, 'b>(
     numbering: &Numbering<'_>,
     copies: &[Candidate<'a, 'b>],
 ) -> Result<Vec<Candidate<'a, 'b>>, MergeFault>
-    requires { (D : List Definition) × AreCopies numbering.now D copies.now }
+    requires copies { (D : List Definition) × AreCopies numbering.now D copies.now }
+    requires parts { (remaps : List Maps) × AreByPart remaps copies.now }
     ensures kept { IfOk result (λ kept. AreKeptSoundly numbering.now copies.now kept.items) }
     ensures fault { IfErr result (CopiesReport numbering.now copies.now) }
 {

@@ -46,6 +46,29 @@ fn mark_files(plan: &Plan, depth: usize, is_named: &mut Vec<bool>) -> bool
     }
 }
 
+// Counts each time that a plan names a file.
+fn count_uses(plan: &Plan, uses: &mut Vec<usize>) {
+    match plan {
+        Plan::Leaf(file) => {
+            if let Some(uses) = uses.get_mut(*file) {
+                *uses = uses.saturating_add(1);
+            }
+        }
+        Plan::Node(parts) => {
+            for part in parts {
+                count_uses(part, uses);
+            }
+        }
+    }
+}
+
+/// How often a plan names each of `files` files.
+pub(crate) fn uses_of(alloc: Global, plan: &Plan, files: usize) -> Result<Vec<usize>, AllocError> {
+    let mut uses = vec![in alloc; 0; files]?;
+    count_uses(plan, &mut uses);
+    Ok(uses)
+}
+
 /// Returns whether the plan names each of `files` files and no other, and is at most 64 deep.
 pub fn is_plan_for(alloc: Global, plan: &Plan, files: usize) -> Result<bool, AllocError>
     ensures { IfOk result (ReportsPlanFor files (plan_of plan.now)) }

@@ -1,10 +1,10 @@
 //! Whether the classes of parts can be merged: conflicts are checked first, then cycles, and then caps.
 
 ghost use Rattle.std.specs.Prelude.{◌≡◌, IfOk, MatchOption, length, List, IfErr};
-ghost use Rattle.dexpool.specs.Numberings.{AreIn};
+ghost use Rattle.dexpool.specs.Numberings.{AreIn, Maps};
 ghost use Rattle.dexclass.specs.Parents.{ArePlaces};
 ghost use Rattle.dexmerge.specs.Candidates.{classes_of, lesser_of};
-ghost use Rattle.dexmerge.specs.internal.CandidateLists.{AllEqual, IsLeastUnequal, kept_of};
+ghost use Rattle.dexmerge.specs.internal.CandidateLists.{AllEqual, AreByPart, IsLeastUnequal, kept_of};
 ghost use Rattle.dexspec.specs.Classes.{Definition};
 ghost use Rattle.dexspec.specs.Mentions.{Mentions};
 ghost use Rattle.dexmerge.specs.internal.Cycles.{AreKept, KeptHaveDepths, KeptAreByName};
@@ -13,12 +13,12 @@ ghost use Rattle.dexspec.specs.Merging.{IsFirstCause};
 ghost use Rattle.dexmerge.specs.Faults.{Reports};
 ghost use Rattle.dexmerge.specs.Parts.{referents, definitions_in};
 
-use crate::candidates::{Candidate, candidates};
+use crate::candidates::{Candidate, candidates, first_equal};
 use crate::caps::Caps;
 use crate::faults::MergeFault;
 use crate::fitting::first_exceeded;
-use dexclass::{Program, same_law};
-use dexorder::{HasParents, class_of_type, classes_by_type, depths_of, first_without_depth};
+use dexclass::{Program, depths_with_firsts, same_law};
+use dexorder::{HasParents, class_of_type, classes_by_type, first_without_depth};
 use dexpool::{Numbering, Remap, SymbolKind};
 use dexstr::Name;
 use std::alloc::{AllocError, Global};
@@ -82,12 +82,14 @@ pub(crate) fn class_depths(
     numbering: &Numbering<'_>,
     classes: &[Candidate<'_, '_>],
 ) -> Result<Vec<Option<usize>>, MergeFault>
-    requires { (D : List Definition) × AreOnce numbering.now D classes.now }
+    requires once { (D : List Definition) × AreOnce numbering.now D classes.now }
+    requires parts { (remaps : List Maps) × AreByPart remaps classes.now }
     ensures depths { IfOk result (λ depths. KeptHaveDepths classes.now depths.items) }
     ensures fault { IfErr result (OnceReports numbering.now classes.now) }
 {
     let types = numbering.count(SymbolKind::Typ);
-    let depths = depths_of(alloc, classes, types)?;
+    let firsts = first_equal(alloc, classes)?;
+    let depths = depths_with_firsts(alloc, classes, types, &firsts)?;
     match first_without_depth(&depths) {
         Some(i) => Err(MergeFault::Cycle(Name::of(alloc, numbering.typ(classes[i].name()))?)),
         None => Ok(depths),
@@ -123,6 +125,7 @@ pub(crate) fn one_of_each<'a, 'b>(
 ) -> Result<Vec<Candidate<'a, 'b>>, MergeFault>
     requires { (D : List Definition) × AreCopies numbering.now D candidates.now }
     ensures kept { IfOk result (λ kept. AreKeptOnce numbering.now candidates.now kept.items) }
+    ensures within { IfOk result (λ kept. AreIn kept.items candidates.now) }
     ensures fault { IfErr result (CopiesReport numbering.now candidates.now) }
 {
     same_law();

@@ -8,6 +8,7 @@ pub mod Uses
 pub mod NumberedSymbols
 pub mod Images
 pub mod Packed
+pub mod Sharing
 pub mod Cut
 pub mod internal
 unfoldable pub use Pools.*
@@ -19,4 +20,5 @@ unfoldable pub use Orderly.*
 unfoldable pub use Uses.*
 unfoldable pub use Images.*
 unfoldable pub use Packed.*
+unfoldable pub use Sharing.*
 unfoldable pub use Cut.*

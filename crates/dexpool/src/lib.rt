@@ -20,6 +20,7 @@ mod pools;
 mod ranks;
 mod remap;
 mod renumbering;
+mod sharing;
 mod symbols;
 mod visiting;
 
@@ -31,5 +32,6 @@ pub use marks::Marks;
 pub use numbering::Numbering;
 pub use pools::Pools;
 pub use remap::Remap;
+pub use sharing::{RemappedItems, Share, SharedItem, SharedPool};
 pub use symbols::{FieldSymbol, MethodSymbol, ProtoSymbol, Symbol, SymbolKind};
 pub use visiting::{Fits, Renumber, Symbols, Visitor, all_fit, mark, renumber_all, visit_all};

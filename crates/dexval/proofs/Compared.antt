@@ -2,6 +2,15 @@
 use Rattle.dexval.proofs.Common.{◌≡◌, ℕ, ◌<◌, ◌≤◌, List, [], ◌∷◌, length, take, map, get_or, refl, ap, sym, ◌∙◌, arith, take_all, get_or-map, length-map, Maps, NumberedValue, NumberedValues, NumberedElements, NoValue, ThenNext, NoElement, ThenNamed, values_of_list, elements_of_list, renumbered, renumbered_values, renumbered_elements, renumbered_element}
 use Rattle.dexval.proofs.Renumbered.{values_renumbered, elements_renumbered}
 
+-- ---- lists of the same items
+
+module _ {X Y : Type 0} (of : X → Y) (xs ys : List X) where
+  pub as_many : map of xs ≡ map of ys → length xs ≡ length ys
+  as_many e = sym (length-map xs of) ∙ ap length e ∙ length-map ys of
+
+  pub each_same : (i : ℕ) (x y : X) → i < length xs → i < length ys → x ≡ get_or xs i x → y ≡ get_or ys i y → map of xs ≡ map of ys → of x ≡ of y
+  each_same i x y lt lt' is is' e = ap of is ∙ sym (get_or-map of xs i x (of y) lt) ∙ ap (λ zs. get_or zs i (of y)) e ∙ get_or-map of ys i y (of y) lt' ∙ sym (ap of is')
+
 -- ---- lists that are equal once mapped
 
 module _ {X Y Z : Type 0} (of : X → Y) (f g : Y → Z) (xs ys : List X) where
@@ -45,6 +54,10 @@ list_of_elements (ThenNamed name x es) = (name, x) ∷ list_of_elements es
 elements_listed : (xs : List (ℕ × NumberedValue)) → list_of_elements (elements_of_list xs) ≡ xs
 elements_listed [] = refl
 elements_listed ((name, x) ∷ xs) = ap (λ l. (name, x) ∷ l) (elements_listed xs)
+
+-- equal elements are equal as lists
+pub same_listed : (xs ys : List (ℕ × NumberedValue)) → elements_of_list xs ≡ elements_of_list ys → xs ≡ ys
+same_listed xs ys e = sym (elements_listed xs) ∙ ap list_of_elements e ∙ elements_listed ys
 
 pub elements_same : (r q : Maps) (xs ys : List (ℕ × NumberedValue)) → renumbered_elements r (elements_of_list xs) ≡ renumbered_elements q (elements_of_list ys) → map (renumbered_element r) xs ≡ map (renumbered_element q) ys
 elements_same r q xs ys e = sym (elements_listed (map (renumbered_element r) xs)) ∙ ap list_of_elements (elements_renumbered r xs ∙ e ∙ sym (elements_renumbered q ys)) ∙ elements_listed (map (renumbered_element q) ys)

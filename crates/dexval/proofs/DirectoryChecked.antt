@@ -1,7 +1,7 @@
 -- Sets, lists of sets and directories that are each checked once.
-use Rattle.dexval.proofs.Common.{◌≡◌, ℕ, ◌+◌, ◌-◌, ◌*◌, ◌^◌, ◌<◌, min, false, List, [], ◌∷◌, ◌++◌, nat_eq, map, sum_by, length, Some, subst, inl, inr, arith, All, get, uint_at, SetAt, RefListAt, fields_count, methods_count, parameters_count, Mentions, CheckedSets, HasSetOf, IsWeighed, AreChecked, HasDirectoryOf, IsSetOrEmptyAt, IsRefListAt, ArePairsAt, HasMembers, set_weight_in, sets_weight_in, HasPools, NumberedDirectory, IsKnownSet, set_in, IsSetAt}
+use Rattle.dexval.proofs.Common.{◌≡◌, ℕ, ◌+◌, ◌-◌, ◌*◌, ◌^◌, ◌<◌, min, false, List, [], ◌∷◌, ◌++◌, nat_eq, map, sum_by, length, Some, subst, arith, All, get, uint_at, SetAt, RefListAt, fields_count, methods_count, parameters_count, Mentions, CheckedSets, HasSetOf, IsWeighed, AreChecked, HasDirectoryOf, IsSetOrEmptyAt, IsRefListAt, ArePairsAt, HasMembers, set_weight_in, sets_weight_in, HasPools, NumberedDirectory, IsKnownSet, set_in, IsSetAt}
 use Rattle.dexval.proofs.DirectoryRead.{directory_read}
-use Rattle.dexval.proofs.CachedSets.{from_before}
+use Rattle.dexval.proofs.CachedSets.{item_added}
 use Rattle.dexval.proofs.Keeping.{parts_weigh}
 
 -- ---- weights
@@ -21,17 +21,11 @@ set_weighed b off m count weight fits h = record { item = h.set; is_read = h.at;
 
 -- ---- checked items
 
-same_some : {X : Type 0} {x y : X} → Some x ≡ Some y → x ≡ y
-same_some e = cc
-
 module _ (b : List ℕ) (m : Mentions) (j k : CheckedSets) (o weight : ℕ) where
   -- one more set
   pub set_added : AreChecked b m j → IsWeighed (IsSetAt b o m) (set_weight_in m) weight → get nat_eq k.sets o ≡ Some weight → ((q : ℕ) → nat_eq o q ≡ false → get nat_eq k.sets q ≡ get nat_eq j.sets q) → k.lists ≡ j.lists → AreChecked b m k
   set_added h new here others lists = record {
-    sets_checked = λ q w e. elim (from_before (λ n. get nat_eq j.sets n) (λ n. get nat_eq k.sets n) o (Some weight) here others q (Some w) e) [
-      | inl before ↦ h.sets_checked q w before
-      | inr both ↦ subst (λ (x : ℕ). IsWeighed (IsSetAt b q m) (set_weight_in m) x) (same_some both.1) (subst (λ (p : ℕ). IsWeighed (IsSetAt b p m) (set_weight_in m) weight) both.0 new)
-    ];
+    sets_checked = item_added (λ q. IsWeighed (IsSetAt b q m) (set_weight_in m)) (λ q. get nat_eq j.sets q) (λ q. get nat_eq k.sets q) o weight h.sets_checked new here others;
     lists_checked = λ q w e. h.lists_checked q w (subst (λ l. get nat_eq l q ≡ Some w) lists e);
   }
 
@@ -39,10 +33,7 @@ module _ (b : List ℕ) (m : Mentions) (j k : CheckedSets) (o weight : ℕ) wher
   pub list_added : AreChecked b m j → IsWeighed (IsRefListAt b o m) (sets_weight_in m) weight → get nat_eq k.lists o ≡ Some weight → ((q : ℕ) → nat_eq o q ≡ false → get nat_eq k.lists q ≡ get nat_eq j.lists q) → k.sets ≡ j.sets → AreChecked b m k
   list_added h new here others sets = record {
     sets_checked = λ q w e. h.sets_checked q w (subst (λ l. get nat_eq l q ≡ Some w) sets e);
-    lists_checked = λ q w e. elim (from_before (λ n. get nat_eq j.lists n) (λ n. get nat_eq k.lists n) o (Some weight) here others q (Some w) e) [
-      | inl before ↦ h.lists_checked q w before
-      | inr both ↦ subst (λ (x : ℕ). IsWeighed (IsRefListAt b q m) (sets_weight_in m) x) (same_some both.1) (subst (λ (p : ℕ). IsWeighed (IsRefListAt b p m) (sets_weight_in m) weight) both.0 new)
-    ];
+    lists_checked = item_added (λ q. IsWeighed (IsRefListAt b q m) (sets_weight_in m)) (λ q. get nat_eq j.lists q) (λ q. get nat_eq k.lists q) o weight h.lists_checked new here others;
   }
 
 -- ---- directories

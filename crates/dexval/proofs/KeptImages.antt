@@ -1,5 +1,5 @@
 -- Items that are kept with their images.
-use Rattle.dexval.proofs.Common.{◌≡◌, ◌⊎◌, List, [], ◌∷◌, ◌++◌, All, inl, inr, sym, subst, NumberedSet, Maps, IsRemappedSet, set_of}
+use Rattle.dexval.proofs.Common.{◌≡◌, List, All, inl, inr, sym, subst, NumberedSet, Maps, IsRemappedSet}
 use Rattle.std.proofs.lemmas.List.Elements.{All-push}
 use Rattle.dexval.specs.declared.remapped_items.Image.{Image}
 use Rattle.dexval.specs.KeptSets.{AddsImage}

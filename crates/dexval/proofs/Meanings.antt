@@ -1,5 +1,5 @@
 -- What values denote, which is the same under other numbers, and the symbols that occur in them.
-use Rattle.dexval.proofs.Common.{◌≡◌, ℕ, [], ◌++◌, refl, ap, ◌∙◌, subst, All, AllZip, All-head, All-tail, Text, Field, Method, Values, Elements, ThenValue, ThenElement, ArrayValue, AnnotationValue, StringValue, TypeValue, FieldValue, MethodValue, EnumValue, AnnotationSet, Mentions, value_symbols, values_symbols, elements_symbols, annotation_symbols, set_symbols, IsSome, AreMarksOf, Maps, image_of, AllMapTo, Literal, ByteLiteral, Reference, StringReference, TypeReference, FieldReference, MethodReference, EnumReference, NumberedValue, NumberedValues, NumberedElements, NumberedAnnotation, NumberedSet, Plain, Named, Array, Annotated, NoValue, ThenNext, NoElement, ThenNamed, text_at, type_at, plain_value, named_value, kind_of_reference, value_in, values_in, elements_in, annotation_in, set_in, IsKnown, AreKnown, HaveKnown, IsKnownAnnotation, IsKnownSet, Denotes, Denote, DenotesSet, remapped, renumbered, renumbered_values, renumbered_elements, renumbered_annotation, renumbered_set, IsUseOf, IsMappedUse, HasMark, value_uses, values_uses, elements_uses, annotation_uses, set_uses, all_prefix, all_back}
+use Rattle.dexval.proofs.Common.{◌≡◌, ℕ, [], ◌++◌, refl, ap, ◌∙◌, subst, All, AllZip, All-head, All-tail, Text, Values, Elements, ThenValue, ThenElement, ArrayValue, AnnotationValue, StringValue, TypeValue, FieldValue, MethodValue, EnumValue, AnnotationSet, Mentions, value_symbols, values_symbols, elements_symbols, annotation_symbols, set_symbols, IsSome, AreMarksOf, Maps, image_of, AllMapTo, Literal, ByteLiteral, Reference, StringReference, TypeReference, FieldReference, MethodReference, EnumReference, NumberedValue, NumberedValues, NumberedElements, NumberedAnnotation, NumberedSet, Plain, Named, Array, Annotated, NoValue, ThenNext, NoElement, ThenNamed, text_at, type_at, plain_value, named_value, kind_of_reference, value_in, values_in, elements_in, annotation_in, set_in, IsKnown, AreKnown, HaveKnown, IsKnownAnnotation, IsKnownSet, Denotes, Denote, DenotesSet, renumbered, renumbered_values, renumbered_elements, renumbered_annotation, renumbered_set, IsUseOf, IsMappedUse, HasMark, value_uses, values_uses, elements_uses, annotation_uses, set_uses, all_prefix, all_back}
 use Rattle.dexspec.specs.Values.{Value}
 use Rattle.dexspec.specs.Annotations.{Annotation}
 use Rattle.dexpool.specs.declared.symbols.SymbolKind.TheVariants as kinds

@@ -1,6 +1,6 @@
 -- The items of a directory that were read, and their places in the table.
 use Rattle.dexval.proofs.Common.{◌≡◌, ℕ, ◌<◌, List, [], ◌∷◌, ◌++◌, length, ap, sym, subst, inl, inr, arith, Option, Some, All, Contains, All-append, All-cons, All-nil, Contains-append_left, Contains-push, DirectoryCache, IsNoted, IsNamedOf, NumberedSet, HoldsPlaces, NamesAll, IsNamedBy, sets_of_members, NumberedTable, Extends, IsListed, IsPlaceIn, set_at}
-use Rattle.dexval.proofs.CachedSets.{one_place}
+use Rattle.dexval.proofs.CachedSets.{same_some}
 use Rattle.dexval.proofs.TableGrowth.{extends_then, new_then, map_stays, all_as}
 
 -- ---- lists of sets
@@ -47,7 +47,7 @@ abbrev with_set : NumberedTable → ℕ × ℕ → ℕ × NumberedSet
 with_set t e = (e.0, set_at t.sets (Some e.1))
 
 named_by : (es : List (ℕ × ℕ)) (i : ℕ) → IsNamedOf (λ place i. place ≡ Some i) es i → IsNamedBy es i
-named_by es i h = (h.0, subst (λ (p : ℕ). Contains es (h.0, p)) (one_place h.1 i h.3) h.2)
+named_by es i h = (h.0, subst (λ (p : ℕ). Contains es (h.0, p)) (same_some h.3) h.2)
 
 none_in : {X : Type 0} (xs : List X) (i : ℕ) → xs ≡ [] → i < length xs → ⊥
 none_in xs i e lt = let n : length xs ≡ 0 = ap length e in omega (arith, n, lt)

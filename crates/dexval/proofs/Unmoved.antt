@@ -1,5 +1,5 @@
 -- A map without images changes nothing.
-use Rattle.dexval.proofs.Common.{◌≡◌, ℕ, Bool, true, false, [], ◌∷◌, refl, ap, sym, ◌∙◌, IsTrue, ◌↔◌, SymbolKind, NumberedValue, NumberedValues, NumberedElements, NumberedAnnotation, NumberedSet, Plain, Named, Array, Annotated, NoValue, ThenNext, NoElement, ThenNamed, kind_of_reference, remapped, renumbered, renumbered_values, renumbered_elements, renumbered_set}
+use Rattle.dexval.proofs.Common.{◌≡◌, ℕ, Bool, true, false, refl, ap, sym, ◌∙◌, IsTrue, ◌↔◌, SymbolKind, NumberedValue, NumberedValues, NumberedElements, Plain, Named, Array, Annotated, NoValue, ThenNext, NoElement, ThenNamed, kind_of_reference, remapped, renumbered, renumbered_values, renumbered_elements}
 use Rattle.std.specs.Bool.{Decides}
 use Rattle.dexval.specs.internal.Heads.{no_images}
 use Rattle.dexpool.specs.declared.symbols.SymbolKind.TheVariants as kinds
@@ -15,7 +15,7 @@ mutual
   value_stays (Array xs) = ap Array (values_stay xs)
   value_stays (Annotated t es) = ap (Annotated t) (elements_stay es)
 
-  pub values_stay : (xs : NumberedValues) → renumbered_values no_images xs ≡ xs
+  values_stay : (xs : NumberedValues) → renumbered_values no_images xs ≡ xs
   values_stay NoValue = refl
   values_stay (ThenNext x xs) = ap (λ (y : NumberedValue). ThenNext y (renumbered_values no_images xs)) (value_stays x) ∙ ap (ThenNext x) (values_stay xs)
 
@@ -23,20 +23,12 @@ mutual
   elements_stay NoElement = refl
   elements_stay (ThenNamed name x es) = ap (λ (y : NumberedValue). ThenNamed name y (renumbered_elements no_images es)) (value_stays x) ∙ ap (ThenNamed name x) (elements_stay es)
 
--- an annotation by its parts
-abbrev annotation_with : ℕ → ℕ → NumberedElements → NumberedAnnotation
-annotation_with v t es = record { visibility = v; type = t; elements = es }
-
-pub set_stays : (s : NumberedSet) → renumbered_set no_images s ≡ s
-set_stays [] = refl
-set_stays (a ∷ s) = ap (λ (b : NumberedAnnotation). b ∷ renumbered_set no_images s) (ap (annotation_with a.visibility a.type) (elements_stay a.elements)) ∙ ap (λ (l : NumberedSet). a ∷ l) (set_stays s)
+-- values that are the same without images are the same
+pub same_unmoved : (x y : NumberedValue) (r : Bool) → (IsTrue r ↔ (renumbered no_images x ≡ renumbered no_images y)) → IsTrue r ↔ (x ≡ y)
+same_unmoved x y r h = ((λ yes. sym (value_stays x) ∙ h.0 yes ∙ value_stays y), (λ e. h.1 (ap (renumbered no_images) e)))
 
 -- two results that decide the same statement are equal
-equal_results : {P : Type 0} (r b : Bool) → (IsTrue r ↔ P) → Decides b P → r ≡ b
+pub equal_results : {P : Type 0} (r b : Bool) → (IsTrue r ↔ P) → Decides b P → r ≡ b
 equal_results true false h k = sym (k.1 (h.0 refl))
 equal_results false true h k = h.1 (k.0 refl)
 equal_results _ _ h k = refl
-
--- whether two sets are equal
-pub same_decision : (s t : NumberedSet) (r b : Bool) → (IsTrue r ↔ (renumbered_set no_images s ≡ renumbered_set no_images t)) → Decides b (s ≡ t) → r ≡ b
-same_decision s t r b h k = equal_results r b ((λ e. sym (set_stays s) ∙ h.0 e ∙ set_stays t), (λ e. h.1 (ap (renumbered_set no_images) e))) k

@@ -1,5 +1,6 @@
 -- The weight of a numbered item is the weight of the item that it denotes.
 use Rattle.dexval.proofs.Common.{◌≡◌, ◌∙◌, ◌<◌, ℕ, ◌+◌, ◌-◌, ◌*◌, ◌^◌, min, List, [], ◌∷◌, length, map, refl, sym, ap, arith, sum_by, Option, sum_by-cons, Mentions, value_weight, values_weight, elements_weight, annotation_weight, set_weight, ref_list_weight, static_values_weight, Value, value_of, annotation_of, set_of, Literal, ByteLiteral, Reference, StringReference, NumberedValue, NumberedValues, NumberedElements, NumberedAnnotation, NumberedSet, Plain, Named, Array, Annotated, NoValue, ThenNext, NoElement, ThenNamed, plain_value, named_value, value_in, values_in, elements_in, annotation_in, set_in, values_of_list, numbered_weight, numbered_values_weight, numbered_elements_weight, numbered_annotation_weight, numbered_set_weight, set_at}
+use Rattle.dexval.specs.Spelled.{numbered_statics_weight}
 use Rattle.dexval.specs.Writing.{weight_of_sets}
 use Rattle.dexval.specs.declared.annotation.Annotation.{Annotation as CodeAnnotation}
 use Rattle.dexval.specs.declared.set.AnnotationSet.{AnnotationSet}
@@ -45,6 +46,11 @@ pub set_weight_is : (m : Mentions) (xs : NumberedSet) → numbered_set_weight xs
 set_weight_is m [] = refl
 set_weight_is m (x ∷ xs) = ap (λ (n : ℕ). 8 + n) (sum_is m (x ∷ xs))
 
+-- so does that of the set
+pub set_weighs_numbers : (xs : NumberedSet) (weight : ℕ) → ((m : Mentions) → weight ≡ min (2 ^ 64 - 1) (set_weight (set_in m xs))) → weight ≡ min (2 ^ 64 - 1) (numbered_set_weight xs)
+set_weighs_numbers xs weight weighs =
+    let m : Mentions = record { texts = []; types = []; protos = []; fields = []; methods = [] } in weighs m ∙ ap (λ (n : ℕ). min (2 ^ 64 - 1) n) (sym (set_weight_is m xs))
+
 sets_sum_is : (m : Mentions) (xs : List AnnotationSet) → sum_by (λ s. 4 + set_weight (set_in m (set_of s))) xs ≡ 4 * length (map (set_in m) (map set_of xs)) + sum_by set_weight (map (set_in m) (map set_of xs))
 sets_sum_is m [] = refl
 sets_sum_is m (x ∷ xs) =
@@ -54,6 +60,16 @@ sets_sum_is m (x ∷ xs) =
 pub statics_weight_is : (m : Mentions) (xs : List Value) → 0 < length xs → 6 + numbered_values_weight (values_of_list (map value_of xs)) ≡ static_values_weight (values_in m (values_of_list (map value_of xs)))
 statics_weight_is m [] some = absurd (omega arith)
 statics_weight_is m (x ∷ xs) some = ap (λ (n : ℕ). 6 + n) (values_weight_is m (values_of_list (map value_of (x ∷ xs))))
+
+-- static values, perhaps none
+pub statics_weigh : (m : Mentions) (xs : NumberedValues) → numbered_statics_weight xs ≡ static_values_weight (values_in m xs)
+statics_weigh m NoValue = refl
+statics_weigh m (ThenNext x xs) = ap (λ (n : ℕ). 6 + n) (values_weight_is m (ThenNext x xs))
+
+-- their weight, whatever the numbers denote
+pub statics_weigh_numbers : (xs : NumberedValues) (weight : ℕ) → ((m : Mentions) → weight ≡ min (2 ^ 64 - 1) (static_values_weight (values_in m xs))) → weight ≡ min (2 ^ 64 - 1) (numbered_statics_weight xs)
+statics_weigh_numbers xs weight weighs =
+    let m : Mentions = record { texts = []; types = []; protos = []; fields = []; methods = [] } in weighs m ∙ ap (λ (n : ℕ). min (2 ^ 64 - 1) n) (sym (statics_weigh m xs))
 
 -- the annotations of the code, at least one
 annotations_sum : (xs : List CodeAnnotation) → sum_by (λ a. 4 + numbered_annotation_weight (annotation_of a)) xs ≡ sum_by (λ (a : NumberedAnnotation). 4 + numbered_annotation_weight a) (map annotation_of xs)

@@ -7,6 +7,7 @@ use Rattle.dexspec.specs.Mentions.{Mentions}
 use Rattle.dexval.specs.declared.directory_cache.DirectoryCache.{DirectoryCache}
 use Rattle.dexval.specs.Directories.{IsRefListAt}
 use Rattle.dexval.specs.Reading.{IsSetAt}
+use Rattle.dexval.specs.SharedItems.{AreSharedIn}
 use Rattle.dexval.specs.Tables.{Extends, AreNewNamed, set_at, sets_at}
 
 -- this many items have each an offset of their own, at which a place is recorded
@@ -24,12 +25,13 @@ pub record AreHeld (cache : DirectoryCache) : Type 0 where
   pub sets_placed : HaveOffsets (λ off. get nat_eq cache.sets off) (length cache.table.sets)
   pub lists_placed : HaveOffsets (λ off. get nat_eq cache.lists off) (length cache.table.lists)
 
--- each recorded item is at its offset
+-- each recorded item is at its offset, and so is what classes share
 pub record AreCached (b : List ℕ) (m : Mentions) (cache : DirectoryCache) : Type 0 where
   pub sets_cached : (off place : ℕ) → get nat_eq cache.sets off ≡ Some place
       → IsSetAt b off m (set_at cache.table.sets (Some place))
   pub lists_cached : (off place : ℕ) → get nat_eq cache.lists off ≡ Some place
       → IsRefListAt b off m (sets_at cache.table (Some place))
+  pub items_shared : AreSharedIn b m cache.items
 
 -- An item was read and recorded: the table grew, and still has the recorded places and that of the item. The item names
 -- what is new in the table.

@@ -3,21 +3,18 @@ use Rattle.dexval.specs.declared.kept_set.Holder.{Holder}
 use Rattle.dexval.specs.declared.kept_set.Holder.TheVariants.{Own, Shared, Remapped}
 use Rattle.dexval.specs.declared.kept_set.KeptSet.{KeptSet}
 use Rattle.std.specs.Prelude.{◌≡◌, ◌⊎◌, List, [], ◌∷◌, ◌++◌}
-use Rattle.std.specs.Global.{Vec}
 use Rattle.dexpool.specs.Numberings.{Maps}
 use Rattle.dexval.specs.declared.remapped_items.Image.{Image}
-use Rattle.dexval.specs.declared.set.AnnotationSet.{AnnotationSet}
-use Rattle.dexval.specs.declared.value.Value.{Value}
-use Rattle.dexval.specs.Code.{set_of, values_of}
-use Rattle.dexval.specs.Numbered.{NumberedSet}
+use Rattle.dexval.specs.Code.{set_of}
+use Rattle.dexval.specs.Numbered.{NumberedSet, NumberedValues}
 use Rattle.dexval.specs.Renumbering.{renumbered_values}
 use Rattle.dexval.specs.Tables.{IsRemappedSet}
 
 -- the set that a holder has
 abbrev pub held_set : Holder → NumberedSet
 held_set (Own set) = set_of set
-held_set (Shared set) = set_of set.value
-held_set (Remapped set image) = set_of set.value
+held_set (Shared set) = set.value
+held_set (Remapped set image) = set.value
 
 -- the set
 abbrev pub set_in : KeptSet → NumberedSet
@@ -27,19 +24,19 @@ set_in kept = held_set kept.holder
 abbrev pub IsReadyHolder : Maps → Holder → Type 0
 IsReadyHolder r (Own set) = Unit {0}
 IsReadyHolder r (Shared set) = ⊥
-IsReadyHolder r (Remapped set image) = IsRemappedSet r (set_of set.value) (set_of image.value)
+IsReadyHolder r (Remapped set image) = IsRemappedSet r set.value image.value
 
 -- the set can be remapped
 abbrev pub IsReady : Maps → KeptSet → Type 0
 IsReady r kept = IsReadyHolder r kept.holder
 
 -- a set, and the set remapped
-abbrev pub IsImageOfSet : Maps → Image AnnotationSet → Type 0
-IsImageOfSet r image = IsRemappedSet r (set_of image.before.value) (set_of image.after.value)
+abbrev pub IsImageOfSet : Maps → Image NumberedSet → Type 0
+IsImageOfSet r image = IsRemappedSet r image.before.value image.after.value
 
 -- values, and the values remapped
-abbrev pub IsImageOfValues : Maps → Image (Vec Value) → Type 0
-IsImageOfValues r image = values_of image.after.value.items ≡ renumbered_values r (values_of image.before.value.items)
+abbrev pub IsImageOfValues : Maps → Image NumberedValues → Type 0
+IsImageOfValues r image = image.after.value ≡ renumbered_values r image.before.value
 
 -- the second list is the first with an item and its image after it
 pub record IsAdded {T : Type 0} (before after : T) (old new : List (Image T)) : Type 0 where

@@ -1,4 +1,5 @@
 pub mod CheckedSets
+pub mod CheckedStatics
 pub mod Checking
 pub mod Code
 pub mod Directories
@@ -14,6 +15,7 @@ pub mod Renumbering
 pub mod Results
 pub mod Same
 pub mod Shared
+pub mod SharedItems
 pub mod Spelled
 pub mod Stored
 pub mod Tables

@@ -6,13 +6,15 @@ ghost use Rattle.dexspec.specs.Lists.{OrNone};
 ghost use Rattle.dexspec.specs.Mentions.{Mentions};
 ghost use Rattle.dexspec.specs.Weight.{set_weight};
 ghost use Rattle.dexval.specs.DirectoryCache.{AreHeld, AreCached};
+ghost use Rattle.dexval.specs.KeptSets.{set_in};
 ghost use Rattle.dexval.specs.Reading.{IsSetAt, IsSetFault};
+ghost use Rattle.dexval.specs.SharedItems.{AreSharedIn};
 ghost use Rattle.dexval.specs.Tables.{set_at};
-ghost use Rattle.dexval.specs.internal.Counting.{IsFile, IsCacheOf, IsSetNoted, HasCountedSet, HasCountedSetOrEmpty, IsFaultWithin, Counts, IsTooHeavy};
+ghost use Rattle.dexval.specs.internal.Counting.{IsFile, AreSharedBy, IsCacheOf, IsSetNoted, HasCountedSet, HasCountedSetOrEmpty, IsFaultWithin, Counts, IsTooHeavy};
 
 use crate::kept_set::KeptSet;
 use crate::set_table::add_set;
-use crate::shared_items::item_key;
+use crate::shared_items::{SharedItems, item_key, shared_set_at};
 use crate::{AnnotationSet, SetTable, read_set};
 use dexhead::{Condition, Frame};
 use dexpool::{ItemFault, Pools};
@@ -57,20 +59,23 @@ pub(crate) struct DirectoryCache {
     pub(crate) sets: HashMap<u32, u32>,
     /// The places of lists of sets, by offset.
     pub(crate) lists: HashMap<u32, u32>,
+    /// What the classes of the file share, if they share items.
+    pub(crate) items: Option<SharedItems>,
 }
 
 impl DirectoryCache {
-    /// An empty cache.
-    pub(crate) fn none(alloc: Global) -> DirectoryCache
+    /// An empty cache, of a class that shares these items.
+    pub(crate) fn sharing(alloc: Global, items: Option<SharedItems>) -> DirectoryCache
         ensures table { result.table ≡ record { sets = []; lists = [] } }
         ensures held { AreHeld result }
-        ensures cache { (b : List ℕ) (m : Mentions) → AreCached b m result }
+        ensures cache { (b : List ℕ) (m : Mentions) → AreSharedIn b m items → AreCached b m result }
     {
         DirectoryCache {
             alloc,
             table: SetTable::empty(alloc),
             sets: HashMap::new(alloc),
             lists: HashMap::new(alloc),
+            items,
         }
     }
 }
@@ -80,6 +85,33 @@ impl DirectoryCache {
 pub(crate) struct CountedCache {
     pub(crate) cache: DirectoryCache,
     pub(crate) budget: Budget,
+}
+
+// The set of the annotation_set_item at an offset: in memory of its own, or in that of the shared items, if there are
+// some. Error: there is no set.
+fn kept_set_at(
+    alloc: Global,
+    file: &File<'_>,
+    off: u32,
+    items: &mut Option<SharedItems>,
+) -> Result<KeptSet, ItemFault>
+    requires { IsFile file.now → AreSharedBy file.now items.old }
+    ensures items { IsFile file.now → OnOk result (AreSharedBy file.now items.new) }
+    ensures set { IsFile file.now → IfOk result
+        (λ kept. IsSetAt file.now.frame.now off file.now.pools.now (set_in kept)) }
+    ensures refused { IsFile file.now → IfErr result (IsSetFault file.now.frame.now off) }
+{
+    let key = item_key(file.frame, off);
+    match items {
+        Some(items) => {
+            let set = shared_set_at(file.frame, file.pools, off, items)?;
+            Ok(KeptSet::shared_by_tables(key, set))
+        }
+        None => {
+            let set = read_set(alloc, file.frame, file.pools, off)?;
+            Ok(KeptSet::own(key, set))
+        }
+    }
 }
 
 impl File<'_> {
@@ -99,8 +131,7 @@ impl File<'_> {
         if let Some(place) = cache.sets.get(&off) {
             return Ok(*place);
         }
-        let set = read_set(cache.alloc, self.frame, self.pools, off)?;
-        let kept = KeptSet::own(item_key(self.frame, off), set);
+        let kept = kept_set_at(cache.alloc, self, off, &mut cache.items)?;
         let place = add_set(&mut cache.table.sets, kept)?;
         cache.sets.insert(off, place)?;
         Ok(place)

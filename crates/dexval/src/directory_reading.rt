@@ -8,14 +8,16 @@ ghost use Rattle.dexval.specs.Directories.{HasPair, HasMembers, directory_weight
 ghost use Rattle.dexval.specs.DirectoryCache.{AreHeld};
 ghost use Rattle.dexval.specs.Reading.{IsDirectoryFault, IsDirectoryFaultWithin};
 ghost use Rattle.dexval.specs.Shared.{IsTight};
+ghost use Rattle.dexval.specs.SharedItems.{AreSharedIn};
 ghost use Rattle.dexval.specs.Results.{IsReadDirectory, IsReadWithin, AreMemberCounts};
-ghost use Rattle.dexval.specs.internal.Counting.{IsRange, IsFile, IsCacheOf, AreAllNoted, HaveCountedPairs, ArePairsOf, IsPairAt, IsFaultWithin, IsPairsFault};
+ghost use Rattle.dexval.specs.internal.Counting.{IsRange, IsFile, AreSharedBy, IsCacheOf, AreAllNoted, HaveCountedPairs, ArePairsOf, IsPairAt, IsFaultWithin, IsPairsFault};
 ghost use Rattle.dexval.specs.internal.Room.{IsEmptyWithin};
 
 use crate::directory::{Directory, MemberCounts, SharedDirectory};
 use crate::directory_cache::{Budget, CountedCache, DirectoryCache, File};
 use crate::directory_member::{ListOfMember, OfMember, SetOfMember};
 use crate::set_reading::uint_at;
+use crate::shared_items::SharedItems;
 use crate::value_reading::with_room;
 use dexhead::{Condition, Frame, u32_at};
 use dexpool::{ItemFault, Pools, SymbolKind};
@@ -147,8 +149,17 @@ impl File<'_> {
     }
 
     // The directory of the annotations_directory_item at an offset, if its sets weigh at most `most`. Its sets are
-    // counted one by one. Error: there is no directory, or it is too heavy.
-    fn directory_at(&self, alloc: Global, off: u32, most: u64) -> Result<SharedDirectory, ItemFault>
+    // counted one by one. Those that are not shared yet are added to the items, if there are some. Error: there is no
+    // directory, or it is too heavy; the items are then given up.
+    fn directory_at(
+        &self,
+        alloc: Global,
+        off: u32,
+        most: u64,
+        items: &mut Option<SharedItems>,
+    ) -> Result<SharedDirectory, ItemFault>
+        requires { IsFile self.now → AreSharedBy self.now items.old }
+        ensures items { IsFile self.now → OnOk result (AreSharedBy self.now items.new) }
         ensures tight { IfOk result IsTight }
         ensures read { IsFile self.now
             → IfOk result (IsReadWithin self.now.frame.now off self.now.pools.now most) }
@@ -156,7 +167,7 @@ impl File<'_> {
             (IsFaultWithin (DirectoryAt self.now.frame.now off) directory_weight 0 most) }
     {
         let mut kept = CountedCache {
-            cache: DirectoryCache::none(alloc),
+            cache: DirectoryCache::sharing(alloc, items.take()),
             budget: Budget { weight: 0, most },
         };
         let pairs = self.directory_pairs(off)?;
@@ -168,8 +179,10 @@ impl File<'_> {
         let methods = self.members_at::<SetOfMember>(&pairs.methods, empty, &mut kept)?;
         let empty = with_room(alloc, pairs.counts.parameters, left)?;
         let parameters = self.members_at::<ListOfMember>(&pairs.parameters, empty, &mut kept)?;
+        let cache = kept.cache;
+        *items = cache.items;
         Ok(SharedDirectory {
-            table: kept.cache.table,
+            table: cache.table,
             own,
             fields,
             methods,
@@ -200,7 +213,7 @@ pub fn read_directory(
     ensures refused { ArePools frame.now pools.now → IfErr result (IsDirectoryFault frame.now off) }
 {
     pools.numbering().is_numbering();
-    let directory = File { frame, pools }.directory_at(alloc, off, u64::MAX)?;
+    let directory = File { frame, pools }.directory_at(alloc, off, u64::MAX, &mut None)?;
     Ok(directory.unshared()?)
 }
 
@@ -229,5 +242,34 @@ pub fn read_shared_directory_within(
         → IfErr result (IsDirectoryFaultWithin frame.now off most) }
 {
     pools.numbering().is_numbering();
-    File { frame, pools }.directory_at(alloc, off, most)
+    File { frame, pools }.directory_at(alloc, off, most, &mut None)
+}
+
+/// Reads the annotations_directory_item at an offset, as [`read_shared_directory_within`] does. If classes share items,
+/// each of its sets is in the memory of `items`, is read only if it was not before, and is then added to them.
+///
+/// Condition: the items are of this file.
+///
+/// Errors: as of [`read_shared_directory_within`]. The items are then given up: `items` is `None`.
+///
+/// Source: "annotations_directory_item" and "annotation_set_ref_list".
+pub fn read_shared_directory_with(
+    alloc: Global,
+    frame: &Frame<'_>,
+    pools: &Pools<'_>,
+    off: u32,
+    most: u64,
+    items: &mut Option<SharedItems>,
+) -> Result<SharedDirectory, ItemFault>
+    requires { ArePools frame.now pools.now → AreSharedIn frame.now pools.now items.old }
+    ensures items { ArePools frame.now pools.now
+        → OnOk result (AreSharedIn frame.now pools.now items.new) }
+    ensures directory { ArePools frame.now pools.now
+        → IfOk result (IsReadWithin frame.now off pools.now most) }
+    ensures tight { IfOk result IsTight }
+    ensures refused { ArePools frame.now pools.now
+        → IfErr result (IsDirectoryFaultWithin frame.now off most) }
+{
+    pools.numbering().is_numbering();
+    File { frame, pools }.directory_at(alloc, off, most, items)
 }

@@ -2,15 +2,105 @@
 
 ghost use Rattle.std.specs.Cmp.{partial_equiv_from_equiv};
 ghost use Rattle.dexval.specs.Equality.{equal_sets, equal_sets_equiv, set_input, equal_sets_agree, IsSetEquality, DependsOnSet, value_input, elements_input, annotation_input};
-ghost use Rattle.std.specs.Prelude.{◌≡◌, fold, map};
+ghost use Rattle.std.specs.Prelude.{◌≡◌, ◌↔◌, IsTrue, fold, map};
 ghost use Rattle.std.specs.Hash as fed;
-ghost use Rattle.dexval.specs.Code.{value_of, element_of, set_from};
+ghost use Rattle.dexval.specs.Code.{value_of, values_of, element_of, elements_of, annotation_of, set_from};
 ghost use Rattle.dexval.specs.Numbered.{elements_of_list};
 ghost use Rattle.dexval.specs.internal.Heads.{no_images};
 
 use crate::{Annotation, AnnotationSet, Element, Value};
 use dexpool::Remap;
 use std::hash::{Hash, Hasher};
+
+// Returns whether two values are the same. Numbers are compared as they are, but for those inside other values.
+fn is_same_value(value: &Value, other: &Value, nowhere: &Remap) -> bool
+    requires { nowhere.now ≡ no_images }
+    ensures { IsTrue result ↔ (value_of value.now ≡ value_of other.now) }
+{
+    match (value, other) {
+        (Value::Byte(number), Value::Byte(same)) => number == same,
+        (Value::Short(number), Value::Short(same)) => number == same,
+        (Value::Char(unit), Value::Char(same)) => unit == same,
+        (Value::Int(number), Value::Int(same)) => number == same,
+        (Value::Long(number), Value::Long(same)) => number == same,
+        (Value::Float(bits), Value::Float(same)) => bits == same,
+        (Value::Double(bits), Value::Double(same)) => bits == same,
+        (Value::String(number), Value::String(same)) => number == same,
+        (Value::Typ(number), Value::Typ(same)) => number == same,
+        (Value::Field(number), Value::Field(same)) => number == same,
+        (Value::Method(number), Value::Method(same)) => number == same,
+        (Value::Enum(number), Value::Enum(same)) => number == same,
+        (Value::Boolean(is), Value::Boolean(same)) => is == same,
+        _ => value.same_mapped(nowhere, other, nowhere),
+    }
+}
+
+/// Returns whether values are the same, one for one.
+pub(crate) fn are_same_values(values: &Vec<Value>, others: &Vec<Value>) -> bool
+    ensures { IsTrue result → values_of values.now.items ≡ values_of others.now.items }
+{
+    if values.len() != others.len() {
+        return false;
+    }
+    let nowhere = Remap::none(*values.allocator());
+    for i in 0..values.len() {
+        if !is_same_value(&values[i], &others[i], &nowhere) {
+            return false;
+        }
+    }
+    true
+}
+
+// Returns whether two elements have the same name and value.
+fn is_same_element(element: &Element, other: &Element, nowhere: &Remap) -> bool
+    requires { nowhere.now ≡ no_images }
+    ensures { IsTrue result ↔ (element_of element.now ≡ element_of other.now) }
+{
+    element.name == other.name && is_same_value(&element.value, &other.value, nowhere)
+}
+
+// Returns whether elements are the same, one for one.
+fn are_same_elements(elements: &[Element], others: &[Element], nowhere: &Remap) -> bool
+    requires { nowhere.now ≡ no_images }
+    ensures { IsTrue result ↔ (elements_of elements.now ≡ elements_of others.now) }
+{
+    if elements.len() != others.len() {
+        return false;
+    }
+    for i in 0..elements.len() {
+        if !is_same_element(&elements[i], &others[i], nowhere) {
+            return false;
+        }
+    }
+    true
+}
+
+// Returns whether two annotations have the same visibility, type and elements.
+fn is_same_annotation(annotation: &Annotation, other: &Annotation, nowhere: &Remap) -> bool
+    requires { nowhere.now ≡ no_images }
+    ensures { IsTrue result ↔ (annotation_of annotation.now ≡ annotation_of other.now) }
+{
+    let (held, others) = (&annotation.annotation, &other.annotation);
+    annotation.visibility == other.visibility
+        && held.typ == others.typ
+        && are_same_elements(&held.elements, &others.elements, nowhere)
+}
+
+// Returns whether annotations are the same, one for one.
+fn are_same_annotations(annotations: &[Annotation], others: &[Annotation], nowhere: &Remap) -> bool
+    requires { nowhere.now ≡ no_images }
+    ensures { IsTrue result ↔ (set_from annotations.now ≡ set_from others.now) }
+{
+    if annotations.len() != others.len() {
+        return false;
+    }
+    for i in 0..annotations.len() {
+        if !is_same_annotation(&annotations[i], &others[i], nowhere) {
+            return false;
+        }
+    }
+    true
+}
 
 impl PartialEq for AnnotationSet {
     ghost eq = { equal_sets };
@@ -19,7 +109,7 @@ impl PartialEq for AnnotationSet {
 
     fn eq(&self, other: &AnnotationSet) -> bool {
         let nowhere = Remap::none(*self.annotations.allocator());
-        self.same_mapped(&nowhere, other, &nowhere)
+        are_same_annotations(&self.annotations, &other.annotations, &nowhere)
     }
 }
 

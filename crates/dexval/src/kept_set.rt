@@ -1,12 +1,15 @@
 //! Sets of annotations that are in memory of their own, or in that of several tables.
 
-ghost use Rattle.std.specs.Prelude.{◌≡◌, All, IfOk, OnOk, MatchOption, length, map};
+ghost use Rattle.std.specs.Prelude.{◌≡◌, ◌-◌, ◌^◌, min, All, IfOk, OnOk, MatchOption, length, map};
+ghost use Rattle.dexspec.specs.Mentions.{Mentions};
 ghost use Rattle.dexpool.specs.Numberings.{Maps};
 ghost use Rattle.dexval.specs.Code.{set_of};
 ghost use Rattle.dexval.specs.Tables.{AreRemappedSets, IsRemappedSet};
+ghost use Rattle.dexval.specs.Directories.{set_weight_in};
 ghost use Rattle.dexval.specs.KeptSets.{set_in, IsReady};
 
-use crate::{AnnotationSet, RemappedItems, SharedItems};
+use crate::weighed_set::WeighedSet;
+use crate::{AnnotationSet, RemappedItems};
 use dexpool::Remap;
 use std::alloc::AllocError;
 use std::mem;
@@ -18,9 +21,9 @@ pub(crate) enum Holder {
     /// The table that the set is in.
     Own(AnnotationSet),
     /// Several tables.
-    Shared(Rc<AnnotationSet>),
+    Shared(Rc<WeighedSet>),
     /// Several tables, and the set remapped is there too.
-    Remapped(Rc<AnnotationSet>, Rc<AnnotationSet>),
+    Remapped(Rc<WeighedSet>, Rc<WeighedSet>),
 }
 
 /// A set of a table. Contracts see the set.
@@ -51,20 +54,40 @@ impl KeptSet {
         }
     }
 
+    /// A set that other tables have too, with the key of its item.
+    pub(crate) fn shared_by_tables(key: u128, set: Rc<WeighedSet>) -> KeptSet
+        ensures { set_in result ≡ set.value }
+    {
+        KeptSet {
+            key,
+            holder: Holder::Shared(set),
+        }
+    }
+
     /// The set.
     pub(crate) fn set(&self) -> &AnnotationSet
         ensures { set_of result.now ≡ set_in self.now }
     {
         match &self.holder {
             Holder::Own(set) => set,
-            Holder::Shared(set) | Holder::Remapped(set, _) => set.as_ref(),
+            Holder::Shared(set) | Holder::Remapped(set, _) => set.as_ref().set(),
+        }
+    }
+
+    /// The weight of the set, or 2^64 - 1 if it weighs more.
+    pub(crate) fn weight(&self) -> u64
+        ensures { (m : Mentions) → result ≡ min (2 ^ 64 - 1) (set_weight_in m (set_in self.now)) }
+    {
+        match &self.holder {
+            Holder::Own(set) => set.weight(),
+            Holder::Shared(set) | Holder::Remapped(set, _) => set.as_ref().weight(),
         }
     }
 
     // The set where other tables have it too, or `None` where it is in memory of its own.
-    fn shared(&self) -> Option<&Rc<AnnotationSet>>
+    fn shared(&self) -> Option<&Rc<WeighedSet>>
         ensures { MatchOption result ((r : Maps) → IsReady r self.now)
-            (λ set. set_of set.now.value ≡ set_in self.now) }
+            (λ set. set.now.value ≡ set_in self.now) }
     {
         match &self.holder {
             Holder::Own(_) => None,
@@ -99,16 +122,6 @@ impl KeptSet {
         Ok(())
     }
 
-    // Moves the set into the memory of an equal one of its key. Error: an allocation failed.
-    fn share(&mut self, items: &mut SharedItems) -> Result<(), AllocError>
-        ensures { set_in self.new ≡ set_in self.old }
-    {
-        if let Some(shared) = items.set_like(self.key, self.set())? {
-            self.holder = Holder::Shared(shared);
-        }
-        Ok(())
-    }
-
     // Replaces each number of a symbol in the set by the one that it maps to, if each has an image below 2^32.
     //
     // Condition: the set is ready to be remapped.
@@ -135,16 +148,6 @@ pub(crate) fn prepare_sets(
 {
     for i in 0..sets.len() {
         sets[i].prepare(items)?;
-    }
-    Ok(())
-}
-
-/// Moves sets into the memory of equal ones of their keys. Error: an allocation failed; the sets are as they were.
-pub(crate) fn share_sets(sets: &mut Vec<KeptSet>, items: &mut SharedItems) -> Result<(), AllocError>
-    ensures { map set_in sets.new.items ≡ map set_in sets.old.items }
-{
-    for i in 0..sets.len() {
-        sets[i].share(items)?;
     }
     Ok(())
 }

@@ -10,10 +10,13 @@
 #![tactic(auto)]
 
 pub use annotation::{Annotation, Visibility};
+pub use checked_statics::{CheckedStatics, checked_statics_at};
 pub use copying::copied_values;
 pub use directory::{Directory, MemberCounts, SharedDirectory};
 pub use directory_checking::{CheckedSets, DirectoryShape, check_directory};
-pub use directory_reading::{member_counts, read_directory, read_shared_directory_within};
+pub use directory_reading::{
+    member_counts, read_directory, read_shared_directory_with, read_shared_directory_within,
+};
 pub use equality::set_equality_law;
 pub use laws::{
     counts_law, images_law, marks_law, narrow_law, places_law, renumber_law, same_law, uses_law,
@@ -26,14 +29,16 @@ pub use set::AnnotationSet;
 pub use set_checking::{SetShape, check_set};
 pub use set_reading::read_set;
 pub use set_table::SetTable;
-pub use shared_items::{SharedItems, item_key, source_of};
+pub use shared_items::{SharedItems, item_key, shared_statics_at, source_of};
 pub use value::{Element, EncodedAnnotation, Value};
 pub use value_checking::{StaticsShape, ValueShape, check_statics, check_value};
 pub use value_reading::{read_statics, read_value};
 pub use visiting::{mark_values, values_fit, visit_values};
+pub use weighed_values::WeighedValues;
 pub use weight::{parameter_sets_weight, statics_weight};
 
 mod annotation;
+mod checked_statics;
 mod copying;
 mod directory;
 mod directory_cache;
@@ -60,5 +65,7 @@ mod value;
 mod value_checking;
 mod value_reading;
 mod visiting;
+mod weighed_set;
+mod weighed_values;
 mod weight;
 mod widths;

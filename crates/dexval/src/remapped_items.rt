@@ -7,8 +7,10 @@ ghost use Rattle.dexval.specs.Code.{set_of, values_of};
 ghost use Rattle.dexval.specs.Renumbering.{renumbered_values, HavePlaces};
 ghost use Rattle.dexval.specs.Tables.{IsRemappedSet};
 
+use crate::equality::are_same_values;
 use crate::kept_set::renumber_fitting;
-use crate::shared_items::are_same;
+use crate::weighed_set::WeighedSet;
+use crate::weighed_values::WeighedValues;
 use crate::{AnnotationSet, Value, copied_values, renumber_values};
 use dexpool::Remap;
 use std::alloc::{AllocError, Global};
@@ -72,8 +74,8 @@ impl<T: Drop> Images<T> {
 pub struct RemappedItems<'r> {
     alloc: Global,
     remap: &'r Remap,
-    sets: Images<AnnotationSet>,
-    values: Images<Vec<Value>>,
+    sets: Images<WeighedSet>,
+    values: Images<WeighedValues>,
 }
 
 impl<'r> Model for RemappedItems<'r> {
@@ -93,13 +95,12 @@ fn remapped_set(
     alloc: Global,
     set: &AnnotationSet,
     remap: &Remap,
-) -> Result<Rc<AnnotationSet>, AllocError>
-    ensures { IfOk result (λ image.
-        IsRemappedSet remap.now (set_of set.now) (set_of image.value)) }
+) -> Result<Rc<WeighedSet>, AllocError>
+    ensures { IfOk result (λ image. IsRemappedSet remap.now (set_of set.now) image.value) }
 {
     let mut image = set.copy()?;
     renumber_fitting(&mut image, remap);
-    Ok(Rc::new(alloc, image)?)
+    Ok(Rc::new(alloc, WeighedSet::of(image))?)
 }
 
 // Values, remapped in memory that classes can share.
@@ -107,14 +108,14 @@ fn remapped_values(
     alloc: Global,
     values: &Vec<Value>,
     remap: &Remap,
-) -> Result<Rc<Vec<Value>>, AllocError>
+) -> Result<Rc<WeighedValues>, AllocError>
     requires { HavePlaces remap.now (values_of values.now.items) }
     ensures { IfOk result (λ image.
-        values_of image.value.items ≡ renumbered_values remap.now (values_of values.now.items)) }
+        image.value ≡ renumbered_values remap.now (values_of values.now.items)) }
 {
     let mut image = copied_values(values)?;
     renumber_values(&mut image, remap);
-    Ok(Rc::new(alloc, image)?)
+    Ok(Rc::new(alloc, WeighedValues::of(image))?)
 }
 
 impl<'r> RemappedItems<'r> {
@@ -142,14 +143,14 @@ impl<'r> RemappedItems<'r> {
         &self,
         key: u128,
         set: &AnnotationSet,
-    ) -> Result<Option<Rc<AnnotationSet>>, AllocError>
+    ) -> Result<Option<Rc<WeighedSet>>, AllocError>
         ensures { IfOk result (λ known. IfSome known
-            (λ image. IsRemappedSet self.now (set_of set.now) (set_of image.value))) }
+            (λ image. IsRemappedSet self.now (set_of set.now) image.value)) }
     {
         let Some(image) = self.sets.of_key(key) else {
             return Ok(None);
         };
-        if *image.before != *set {
+        if *image.before.set() != *set {
             return Ok(None);
         }
         Ok(Some(image.after.clone()?))
@@ -160,14 +161,14 @@ impl<'r> RemappedItems<'r> {
         &self,
         key: u128,
         values: &Vec<Value>,
-    ) -> Result<Option<Rc<Vec<Value>>>, AllocError>
-        ensures { IfOk result (λ known. IfSome known (λ image. values_of image.value.items
-            ≡ renumbered_values self.now (values_of values.now.items))) }
+    ) -> Result<Option<Rc<WeighedValues>>, AllocError>
+        ensures { IfOk result (λ known. IfSome known
+            (λ image. image.value ≡ renumbered_values self.now (values_of values.now.items))) }
     {
         let Some(image) = self.values.of_key(key) else {
             return Ok(None);
         };
-        if !are_same(&image.before, values) {
+        if !are_same_values(image.before.values(), values) {
             return Ok(None);
         }
         Ok(Some(image.after.clone()?))
@@ -178,16 +179,15 @@ impl<'r> RemappedItems<'r> {
     pub(crate) fn set_image(
         &mut self,
         key: u128,
-        set: &Rc<AnnotationSet>,
-    ) -> Result<Rc<AnnotationSet>, AllocError>
+        set: &Rc<WeighedSet>,
+    ) -> Result<Rc<WeighedSet>, AllocError>
         ensures kept { self.new ≡ self.old }
-        ensures image { IfOk result (λ image.
-            IsRemappedSet self.old (set_of set.now.value) (set_of image.value)) }
+        ensures image { IfOk result (λ image. IsRemappedSet self.old set.now.value image.value) }
     {
-        if let Some(known) = self.known_set(key, set)? {
+        if let Some(known) = self.known_set(key, set.set())? {
             return Ok(known);
         }
-        let image = remapped_set(self.alloc, set, self.remap)?;
+        let image = remapped_set(self.alloc, set.set(), self.remap)?;
         self.sets.add(key, set, &image)?;
         Ok(image)
     }
@@ -198,17 +198,17 @@ impl<'r> RemappedItems<'r> {
     pub fn values_image(
         &mut self,
         key: u128,
-        values: &Rc<Vec<Value>>,
-    ) -> Result<Rc<Vec<Value>>, AllocError>
-        requires { HavePlaces self.old (values_of values.now.value.items) }
+        values: &Rc<WeighedValues>,
+    ) -> Result<Rc<WeighedValues>, AllocError>
+        requires { HavePlaces self.old values.now.value }
         ensures kept { self.new ≡ self.old }
-        ensures image { IfOk result (λ image. values_of image.value.items
-            ≡ renumbered_values self.old (values_of values.now.value.items)) }
+        ensures image { IfOk result
+            (λ image. image.value ≡ renumbered_values self.old values.now.value) }
     {
-        if let Some(known) = self.known_values(key, values)? {
+        if let Some(known) = self.known_values(key, values.values())? {
             return Ok(known);
         }
-        let image = remapped_values(self.alloc, values, self.remap)?;
+        let image = remapped_values(self.alloc, values.values(), self.remap)?;
         self.values.add(key, values, &image)?;
         Ok(image)
     }

@@ -7,10 +7,9 @@ ghost use Rattle.dexval.specs.KeptSets.{set_in};
 ghost use Rattle.dexval.specs.Directories.{set_weight_in, sets_weight_in};
 ghost use Rattle.dexval.specs.Tables.{Extends, IsPlaceIn, set_at, places_at, sets_at, AreRemappedSets, with_list};
 
-use crate::kept_set::{KeptSet, prepare_sets, renumber_sets, share_sets};
+use crate::kept_set::{KeptSet, prepare_sets, renumber_sets};
 use crate::remapped_items::RemappedItems;
 use crate::set::AnnotationSet;
-use crate::shared_items::SharedItems;
 use crate::weight::listed_weight;
 use std::alloc::{AllocError, Global};
 use std::marker::Model;
@@ -96,13 +95,13 @@ impl SetTable {
     }
 
     /// The weight of the set at a place, or 2^64 - 1 if it weighs more. Where no set is, the weight is 0.
-    pub(crate) fn set_weight(&self, place: Option<u32>) -> u64
+    pub fn set_weight(&self, place: Option<u32>) -> u64
         ensures { (m : Mentions)
             → result ≡ min (2 ^ 64 - 1) (set_weight_in m (set_at self.now.sets place)) }
     {
         let Some(place) = place else { return 0 };
         let set = self.sets.get(place as usize);
-        set.map_or(0, |kept| kept.set().weight())
+        set.map_or(0, |kept| kept.weight())
     }
 
     /// The weight of the list at a place and its sets, each set as often as it occurs, or 2^64 - 1 if they weigh more.
@@ -146,15 +145,6 @@ impl SetTable {
         prepare_sets(&mut self.sets, items)?;
         renumber_sets(&mut self.sets, items.remap());
         Ok(())
-    }
-
-    /// Moves each set into the memory of an equal one that other tables have, if there is one.
-    ///
-    /// Error: an allocation failed; some sets may be moved.
-    pub fn share(&mut self, items: &mut SharedItems) -> Result<(), AllocError>
-        ensures { self.new ≡ self.old }
-    {
-        share_sets(&mut self.sets, items)
     }
 
     /// The same table, with copies of its sets and lists. A set that other tables share is shared with the copy.

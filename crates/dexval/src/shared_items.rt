@@ -1,12 +1,18 @@
-//! Items of files that several classes have in common memory.
+//! Items of a file that several classes have in common memory.
 
-ghost use Rattle.std.specs.Prelude.{◌≡◌, IfOk, IfSome, IsTrue};
-ghost use Rattle.dexval.specs.Code.{set_of, values_of};
+ghost use Rattle.std.specs.Prelude.{ℕ, List, IfOk, IfErr, OnOk};
+ghost use Rattle.dexspec.specs.Mentions.{Mentions};
+ghost use Rattle.dexpool.specs.Pools.{ArePools};
+ghost use Rattle.dexval.specs.Nesting.{HasPools};
+ghost use Rattle.dexval.specs.Reading.{AreStaticsAt, IsSetAt, IsSetFault, IsStaticsFault};
+ghost use Rattle.dexval.specs.SharedItems.{AreShared};
 
-use crate::{AnnotationSet, Value, copied_values, same_values_mapped};
+use crate::weighed_set::WeighedSet;
+use crate::weighed_values::WeighedValues;
+use crate::{CheckedStatics, read_set, read_statics};
 use dexhead::{Frame, u32_at};
-use dexpool::Remap;
-use std::alloc::{AllocError, Global};
+use dexpool::{ItemFault, Pools};
+use std::alloc::Global;
 use std::collections::HashMap;
 use std::rc::Rc;
 
@@ -22,75 +28,89 @@ pub fn source_of(file: &[u8]) -> u128 {
     source
 }
 
-/// The key of the item at an offset of a file, which other items do not have. No clause speaks of it: items are shared
-/// where they are equal.
+/// The key of the item at an offset of a file, which other items do not have. No clause speaks of it: an item is remapped
+/// once where it is equal to the one of its key.
 pub fn item_key(frame: &Frame<'_>, off: u32) -> u128 {
     source_of(frame.bytes()) ^ u128::from(off)
 }
 
-/// The items that classes of a program share, by their keys: each is there once.
+/// The sets of annotations and the static values of a file that its classes share, by their offsets: each is read once,
+/// and is in memory once.
 #[derive(Drop)]
 pub struct SharedItems {
     alloc: Global,
-    sets: HashMap<u128, Rc<AnnotationSet>>,
-    values: HashMap<u128, Rc<Vec<Value>>>,
-}
-
-/// Returns whether values are the same, one for one.
-pub(crate) fn are_same(values: &Vec<Value>, others: &Vec<Value>) -> bool
-    ensures { IsTrue result → values_of values.now.items ≡ values_of others.now.items }
-{
-    let nowhere = Remap::none(*values.allocator());
-    same_values_mapped(values, &nowhere, others, &nowhere)
+    pub(crate) sets: HashMap<u32, Rc<WeighedSet>>,
+    pub(crate) values: HashMap<u32, Rc<WeighedValues>>,
+    /// The arrays of static values that were checked. Those that are not read yet may be among them.
+    pub statics: CheckedStatics,
 }
 
 impl SharedItems {
     /// No items.
-    pub fn none(alloc: Global) -> SharedItems {
+    pub fn none(alloc: Global) -> SharedItems
+        ensures { (b : List ℕ) (m : Mentions) → AreShared b m result }
+    {
         SharedItems {
             alloc,
             sets: HashMap::new(alloc),
             values: HashMap::new(alloc),
+            statics: CheckedStatics::none(alloc),
         }
     }
+}
 
-    /// The set of a key, if it is equal to this one. If the key has no set, it gets a copy of this one.
-    pub(crate) fn set_like(
-        &mut self,
-        key: u128,
-        set: &AnnotationSet,
-    ) -> Result<Option<Rc<AnnotationSet>>, AllocError>
-        ensures { IfOk result (λ found. IfSome found
-            (λ shared. set_of shared.value ≡ set_of set.now)) }
-    {
-        if let Some(shared) = self.sets.get(&key) {
-            if **shared != *set {
-                return Ok(None);
-            }
-            return Ok(Some(shared.clone()?));
-        }
-        let shared = Rc::new(self.alloc, set.copy()?)?;
-        self.sets.insert(key, shared.clone()?)?;
-        Ok(Some(shared))
+/// The set of the annotation_set_item at an offset, which is read, as [`read_set`] does, if it was not before.
+///
+/// Condition: the items are of this file. Errors: as of [`read_set`].
+///
+/// Source: "annotation_set_item" and "annotation_item".
+pub(crate) fn shared_set_at(
+    frame: &Frame<'_>,
+    pools: &Pools<'_>,
+    off: u32,
+    items: &mut SharedItems,
+) -> Result<Rc<WeighedSet>, ItemFault>
+    requires { HasPools frame.now pools.now → AreShared frame.now pools.now items.old }
+    ensures items { HasPools frame.now pools.now
+        → OnOk result (AreShared frame.now pools.now items.new) }
+    ensures set { HasPools frame.now pools.now
+        → IfOk result (λ set. IsSetAt frame.now off pools.now set.value) }
+    ensures refused { HasPools frame.now pools.now → IfErr result (IsSetFault frame.now off) }
+{
+    if let Some(set) = items.sets.get(&off) {
+        return Ok(set.clone()?);
     }
+    let set = WeighedSet::of(read_set(items.alloc, frame, pools, off)?);
+    let set = Rc::new(items.alloc, set)?;
+    items.sets.insert(off, set.clone()?)?;
+    Ok(set)
+}
 
-    /// The values of a key, if they are equal to these. If the key has none, it gets a copy of these.
-    pub fn values_like(
-        &mut self,
-        key: u128,
-        values: &Vec<Value>,
-    ) -> Result<Option<Rc<Vec<Value>>>, AllocError>
-        ensures { IfOk result (λ found. IfSome found
-            (λ shared. values_of shared.value.items ≡ values_of values.now.items)) }
-    {
-        if let Some(shared) = self.values.get(&key) {
-            if !are_same(shared, values) {
-                return Ok(None);
-            }
-            return Ok(Some(shared.clone()?));
-        }
-        let shared = Rc::new(self.alloc, copied_values(values)?)?;
-        self.values.insert(key, shared.clone()?)?;
-        Ok(Some(shared))
+/// The values of the encoded_array_item at an offset, which are read, as [`read_statics`] does, if they were not before.
+///
+/// Condition: the items are of this file.
+///
+/// Errors: as of [`read_statics`]. The contents of `items` are then unspecified.
+///
+/// Source: "encoded_array_item".
+pub fn shared_statics_at(
+    frame: &Frame<'_>,
+    pools: &Pools<'_>,
+    off: u32,
+    items: &mut SharedItems,
+) -> Result<Rc<WeighedValues>, ItemFault>
+    requires { ArePools frame.now pools.now → AreShared frame.now pools.now items.old }
+    ensures items { ArePools frame.now pools.now
+        → OnOk result (AreShared frame.now pools.now items.new) }
+    ensures values { ArePools frame.now pools.now
+        → IfOk result (λ values. AreStaticsAt frame.now off pools.now values.value) }
+    ensures refused { ArePools frame.now pools.now → IfErr result (IsStaticsFault frame.now off) }
+{
+    if let Some(values) = items.values.get(&off) {
+        return Ok(values.clone()?);
     }
+    let values = WeighedValues::of(read_statics(items.alloc, frame, pools, off)?);
+    let values = Rc::new(items.alloc, values)?;
+    items.values.insert(off, values.clone()?)?;
+    Ok(values)
 }

@@ -3,7 +3,7 @@
 use crate::shown::debug::print_debug;
 use crate::shown::symbols::{print_counted, print_symbol, print_type};
 use dexcases::Printed;
-use dexcode::{Code, Handler, Try};
+use dexcode::{BorrowedCode, Code, Handler, Try};
 use dexinsn::{Piece, PieceKind, mnemonic};
 use dexpool::{Numbering, SymbolKind};
 
@@ -41,7 +41,7 @@ fn print_piece(piece: Piece, numbering: &Numbering<'_>, out: &mut Printed) {
 }
 
 /// Prints the lines of a listing for code, joined by ` / `.
-pub fn print_lines(code: &Code<'_>, numbering: &Numbering<'_>, out: &mut Printed) {
+pub fn print_lines(code: &BorrowedCode<'_, '_>, numbering: &Numbering<'_>, out: &mut Printed) {
     let pieces = code.pieces();
     print_counted("code registers=", i64::from(pieces.registers()), out);
     print_counted(" ins=", i64::from(pieces.ins()), out);
@@ -82,7 +82,7 @@ fn print_try(item: Try, out: &mut Printed) {
 
 /// Prints code: its lines, its handlers, its tries and its debug program.
 pub fn print_code(code: &Code<'_>, numbering: &Numbering<'_>, out: &mut Printed) {
-    print_lines(code, numbering, out);
+    print_lines(&code.as_borrowed(), numbering, out);
     for handler in code.tries().handlers() {
         print_handler(handler, numbering, out);
     }

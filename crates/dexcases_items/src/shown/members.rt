@@ -68,7 +68,7 @@ fn print_coded(method: &Method<'_, '_>, numbering: &Numbering<'_>, out: &mut Pri
     print_flags(method.flags().bits(), true, out);
     if let Some(code) = method.code() {
         out.add(" / ");
-        print_lines(code, numbering, out);
+        print_lines(&code, numbering, out);
     }
 }
 

@@ -1,17 +1,14 @@
 -- The encodings of debug programs, one for each method that has one: how they are found.
-use Rattle.std.specs.Prelude.{ℕ, List, ◌++◌, map, Option, None, Result, OnOk}
+use Rattle.std.specs.Prelude.{ℕ, List, ◌++◌, map, Option, Result, OnOk}
 use Rattle.std.specs.List.{flat_map}
-use Rattle.std.specs.Option.{option_map, option_map_or}
-use Rattle.dexdebug.specs.Debug.{NumberedDebug, numbered_debug_bytes}
+use Rattle.std.specs.Option.{option_map}
+use Rattle.dexdebug.specs.Debug.{numbered_debug_bytes}
 use Rattle.dexmembers.specs.Numbered.{NumberedMethod, methods_of}
+use Rattle.dexmembers.specs.SharedDebugs.{debug_of}
 use Rattle.dexclass.specs.Numbered.{NumberedClass}
 use Rattle.dexlayout.specs.declared.bodies.Encodings.{Encodings}
 use Rattle.dexlayout.specs.ItemKeys.{same_bytes}
 use Rattle.dexlayout.specs.internal.Adding.{HasUses}
-
--- the debug program of a method, if it has one
-abbrev pub debug_of : NumberedMethod → Option NumberedDebug
-debug_of x = option_map_or (λ c. c.debug) x.code None
 
 -- its encoding
 abbrev pub debug_encoding : NumberedMethod → Option (List ℕ)

@@ -1,6 +1,6 @@
 -- The code of methods as it is read, one after the other.
-use Rattle.std.specs.Prelude.{◌≢◌, ◌⊎◌, ℕ, ◌<◌, ◌≤◌, List, [], ◌∷◌, ◌++◌, length, Option, Some, None, sum_by}
-use Rattle.std.specs.Prelude.{option_to_list, ◌≡◌, ◌+◌, MatchOption, nat_eq}
+use Rattle.std.specs.Prelude.{◌≢◌, ◌⊎◌, ℕ, ◌<◌, ◌≤◌, List, Option, Some, None, sum_by}
+use Rattle.std.specs.Prelude.{option_to_list, ◌≡◌, ◌+◌, MatchOption}
 use Rattle.std.specs.List.{AllZip, Contains}
 use Rattle.dexspec.specs.Lists.{OrNone, SomeAt, BothOrNone}
 use Rattle.dexspec.specs.Code.{Code, CodeAt}
@@ -11,15 +11,20 @@ use Rattle.dexpool.specs.Numberings.{AreRising}
 use Rattle.dexcode.specs.Checking.{one_code_weight}
 use Rattle.dexcode.specs.Numbered.{NumberedItem}
 use Rattle.dexcode.specs.Meaning.{DenotesCode}
-use Rattle.dexcode.specs.Reading.{IsCodeFault}
-use Rattle.dexmembers.specs.Held.{HeldMethod}
+use Rattle.dexcode.specs.Reading.{IsCodeFault, IsDebugOrNone}
+use Rattle.dexdebug.specs.Debug.{NumberedDebug}
+use Rattle.dexdebug.specs.DebugReading.{IsDebugFault}
+use Rattle.dexmembers.specs.HeldCodes.{methods_in}
 use Rattle.dexmembers.specs.internal.Attaching.{held_codes}
 use Rattle.dexmembers.specs.declared.class_data.EncodedMethod.{EncodedMethod}
 use Rattle.dexmembers.specs.declared.row_reader.RowReader.{RowReader}
 use Rattle.dexmembers.specs.declared.codes.KeptCodes.{KeptCodes}
-use Rattle.dexmembers.specs.internal.Stored.{code_at}
+use Rattle.dexmembers.specs.declared.code_list.StoredCode.{StoredCode}
+use Rattle.dexmembers.specs.declared.kept.Kept.{Kept}
+use Rattle.dexmembers.specs.declared.method_list.MethodList.{MethodList}
+use Rattle.dexmembers.specs.internal.Kept.{AreNoted, AreNotedPlaces, IsKeptAt}
+use Rattle.dexmembers.specs.internal.Stored.{AreStoredCodes, IsAlone, codes_with, item_at}
 use Rattle.dexval.specs.Tables.{IsPlaceIn}
-use Rattle.std.specs.HashMap.{get}
 
 -- the same; none weighs nothing
 abbrev pub optional_code_weight : Option Code → ℕ
@@ -83,33 +88,38 @@ IsCodesFaultWithin b xs most (Refused number) =
 -- ---- as it is read
 
 -- the methods have the code of those of a list of class data
-abbrev pub CodesWithin : RowReader → List EncodedMethod → List HeldMethod × ℕ → Type 0
+abbrev pub CodesWithin : RowReader → List EncodedMethod → MethodList × ℕ → Type 0
 CodesWithin reader listed methods =
-    AreCodesOf reader.frame.now reader.pools.now listed reader.most (held_codes methods.0)
+    AreCodesOf reader.frame.now reader.pools.now listed reader.most (held_codes (methods_in methods.0))
 
 -- ---- as it is kept
 
--- where there is code, it is the last of the new list, at the place; otherwise the list is the old one, and there is no
--- place
-abbrev pub IsKept : Option NumberedItem → List NumberedItem → List NumberedItem → Option ℕ → Type 0
-IsKept None old new place = (new ≡ old) × (place ≡ None)
-IsKept (Some code) old new place = (new ≡ old ++ code ∷ []) × (place ≡ Some (length old))
+-- the code that is kept
+abbrev pub kept_codes : KeptCodes → List NumberedItem
+kept_codes kept = codes_with kept.debugs.items.items kept.codes.items.items
 
--- the code is at the place in the new list; what the old one has stays at its places, and what there is more is at that
--- place
-pub record IsKeptAt (code : Option NumberedItem) (old new : List NumberedItem) (place : Option ℕ) : Type 0 where
-  pub still : (p : Option ℕ) → IsPlaceIn old p → IsPlaceIn new p × (code_at new p ≡ code_at old p)
-  pub held : IsPlaceIn new place
-  pub is : code_at new place ≡ code
-  pub named : (i : ℕ) → i < length new → (i < length old) ⊎ (place ≡ Some i)
+-- where there is code, the debug program at its place is there, those before stay, and it has no other; otherwise
+-- nothing is kept beside those before
+abbrev pub IsDebugKept : Option (StoredCode NumberedItem) → List NumberedDebug → List NumberedDebug → Type 0
+IsDebugKept None old new = new ≡ old
+IsDebugKept (Some x) old new = IsAlone x × IsKeptAt (item_at new x.debug) old new x.debug
 
--- what is noted of an offset is a place of the code
-abbrev pub ArePlacesOfCodes : KeptCodes → Type 0
-ArePlacesOfCodes kept =
-    (off : ℕ) (place : Option ℕ) → get nat_eq kept.places off ≡ Some place → IsPlaceIn kept.items.items place
+-- each place that is noted is one of what is kept
+pub record ArePlacesOfCodes (kept : KeptCodes) : Type 0 where
+  pub codes_placed : AreNoted (λ off place. IsPlaceIn (kept_codes kept) place) kept.codes
+  pub debugs_placed : AreNotedPlaces kept.debugs
+  pub stored : AreStoredCodes kept.debugs.items.items kept.codes.items.items
 
--- what is noted of an offset is the place of the code there, or none where there is none
-abbrev pub AreReadCodes : List ℕ → Mentions → KeptCodes → Type 0
-AreReadCodes b m kept =
-    (off : ℕ) (place : Option ℕ) → get nat_eq kept.places off ≡ Some place
-    → IsCodeOrNone b off m (code_at kept.items.items place)
+-- at each noted place is the debug program of the offset, or none at 0
+abbrev pub AreReadDebugs : List ℕ → Mentions → Kept NumberedDebug → Type 0
+AreReadDebugs b m kept = AreNoted (λ off place. IsDebugOrNone b off m (item_at kept.items.items place)) kept
+
+-- and the code of the offset, or none
+pub record AreReadCodes (b : List ℕ) (m : Mentions) (kept : KeptCodes) : Type 0 where
+  pub codes_read : AreNoted (λ off place. IsCodeOrNone b off m (item_at (kept_codes kept) place)) kept.codes
+  pub debugs_read : AreReadDebugs b m kept.debugs
+
+-- the offset is that of a debug program which is refused; a failed allocation says nothing
+abbrev pub IsDebugOrNoneFault : List ℕ → ℕ → ItemFault → Type 0
+IsDebugOrNoneFault b off Memory = Unit {0}
+IsDebugOrNoneFault b off (Refused number) = (off ≢ 0) × IsDebugFault b off (Refused number)

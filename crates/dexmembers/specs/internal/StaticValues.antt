@@ -1,6 +1,5 @@
 -- Static values as they are read: what the static fields of a class begin with.
-use Rattle.std.specs.Prelude.{◌≡◌, ◌⊎◌, ℕ, ◌<◌, ◌≤◌, List, length, IfErr, IfOk, Result, map}
-use Rattle.std.specs.Global.{Vec}
+use Rattle.std.specs.Prelude.{◌≡◌, ◌⊎◌, ℕ, ◌<◌, ◌≤◌, List, length, IfErr, IfOk, Result}
 use Rattle.dexspec.specs.Lists.{OrNone}
 use Rattle.dexspec.specs.Values.{Values, NoValues, count_values}
 use Rattle.dexspec.specs.ClassData.{ClassData}
@@ -11,9 +10,9 @@ use Rattle.dexspec.specs.Weight.{static_values_weight}
 use Rattle.dexpool.specs.declared.faults.ItemFault.{ItemFault}
 use Rattle.dexpool.specs.declared.faults.ItemFault.TheVariants.{Refused, Memory}
 use Rattle.dexpool.specs.Pools.{ArePools}
-use Rattle.dexval.specs.Numbered.{NumberedValues, AreKnown, values_in, values_of_list}
-use Rattle.dexval.specs.Code.{value_of}
-use Rattle.dexval.specs.declared.value.Value.{Value}
+use Rattle.dexval.specs.Numbered.{NumberedValues, AreKnown, values_in}
+use Rattle.dexmembers.specs.StaticValues as held
+use Rattle.dexmembers.specs.declared.static_values.StaticValues.{StaticValues}
 use Rattle.dexmembers.specs.declared.row_reader.RowReader.{RowReader}
 use Rattle.dexmembers.specs.internal.RowReaders.{IsFile}
 
@@ -46,14 +45,12 @@ IsValuesFaultWithin b r fields most (Refused number) =
 -- ---- as they are read
 
 -- the static values of the row that has the offset
-abbrev pub ReadsValues : RowReader → ℕ → ℕ → Result (Vec Value) ItemFault → Type 0
+abbrev pub ReadsValues : RowReader → ℕ → ℕ → Result StaticValues ItemFault → Type 0
 ReadsValues reader off fields result = (r : ℕ) → off ≡ static_values_off reader.frame.now r → IsFile reader
-    → IfOk result
-    (λ values. AreValuesOf reader.frame.now r reader.pools.now fields reader.most
-    (values_of_list (map value_of values.items)))
+    → IfOk result (λ values. AreValuesOf reader.frame.now r reader.pools.now fields reader.most (held.values_in values))
 
 -- what is refused are the static values of the row that has the offset
-abbrev pub RefusesValuesWithin : RowReader → ℕ → ℕ → Result (Vec Value) ItemFault → Type 0
+abbrev pub RefusesValuesWithin : RowReader → ℕ → ℕ → Result StaticValues ItemFault → Type 0
 RefusesValuesWithin reader off fields result =
     (r : ℕ) → off ≡ static_values_off reader.frame.now r → IsFile reader
     → IfErr result (IsValuesFaultWithin reader.frame.now r fields reader.most)

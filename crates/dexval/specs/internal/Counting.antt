@@ -15,6 +15,7 @@ use Rattle.dexval.specs.declared.directory_reading.PairRange.{PairRange}
 use Rattle.dexval.specs.declared.directory_reading.DirectoryPairs.{DirectoryPairs}
 use Rattle.dexval.specs.declared.directory_cache.File.{File}
 use Rattle.dexval.specs.declared.directory_checking.CheckedSets.{CheckedSets}
+use Rattle.dexval.specs.declared.shared_items.SharedItems.{SharedItems}
 use Rattle.dexval.specs.CheckedSets.{IsWeighed, AreChecked}
 use Rattle.dexval.specs.Directories.{IsKnownAt, IsSetOrEmptyAt, IsRefListAt, IsIndexBelow, HasPair, ArePairsAt}
 use Rattle.dexval.specs.Directories.{NoPairsAt, set_weight_in, sets_weight_in}
@@ -23,6 +24,7 @@ use Rattle.dexval.specs.Items.{IsRefusal}
 use Rattle.dexval.specs.Nesting.{HasPools}
 use Rattle.dexval.specs.Reading.{IsSetAt}
 use Rattle.dexval.specs.Results.{AreMemberCounts}
+use Rattle.dexval.specs.SharedItems.{AreSharedIn}
 use Rattle.dexval.specs.Tables.{NumberedTable, IsPlaceIn, IsListed, set_at, sets_at}
 
 -- ---- the file and the cache
@@ -38,6 +40,10 @@ IsCacheOf file cache = AreCached file.frame.now file.pools.now cache
 -- the items that were checked are in the file
 abbrev pub AreCheckedOf : File → CheckedSets → Type 0
 AreCheckedOf file checked = AreChecked file.frame.now file.pools.now checked
+
+-- the items that classes share, if they do, are in the file
+abbrev pub AreSharedBy : File → Option SharedItems → Type 0
+AreSharedBy file items = AreSharedIn file.frame.now file.pools.now items
 
 -- ---- items that are recorded
 

@@ -26,7 +26,7 @@ listed-interfaces-requires-clause-list c =
 pub returns-in-Err-clause-refused : goal.returns-in-Err-clause-refused
 returns-in-Err-clause-refused c =
     let lt : c.loop-r.r < table_size c.args.frame.now ClassDefs = omega (arith, c.loop-r-test.true, c.size-rows.ensures) in
-    row_fault_up_to c.args.frame.now c.args.pools.now c.requires.pools c.requires.before c.loop-r.r c.loop-r.bodies c.loop-r.invariant lt c.args.most c.requires.most c.saturating_sub-left.result
+    row_fault_up_to c.args.frame.now c.args.pools.now c.requires.pools c.requires.before c.loop-r.r c.loop-r.bodies c.loop-r.invariant.bodies_are lt c.args.most c.requires.most c.saturating_sub-left.result
     (omega (arith, c.saturating_sub-left.ensures, own (goal.at.returns-in-Err-clause-refused c).After-row_weight-own)) c.in-Err.fault c.at_row.result c.at_row.ensures
     (c.in-Err.ensures.refused c.loop-r.r c.at-row.ensures c.requires.pools (c.requires.before Condition.Classes (omega arith) c.loop-r.r lt))
 
@@ -39,7 +39,7 @@ returns-then-before-most-clause-refused c =
     subst (IsFaultWithin c.args.most b) (sym c.too_heavy.ensures)
     (heavy_within b c.loop-r.r c.args.most (c.loop-r.bodies.weight + w) c.requires.most (omega (arith, c.if-before-most.true))
     (class_heavy b c.args.pools.now c.requires.pools c.requires.before c.loop-r.r lt c.saturating_sub-left.result c.in-Ok.found.0 read.0 w
-    (omega (arith, own (goal.at.returns-then-before-most-clause-refused c).After-row_weight-own, read.1)) c.loop-r.bodies c.loop-r.invariant))
+    (omega (arith, own (goal.at.returns-then-before-most-clause-refused c).After-row_weight-own, read.1)) c.loop-r.bodies c.loop-r.invariant.bodies_are))
 
 pub loop-r-preserved : goal.loop-r-preserved
 loop-r-preserved c =
@@ -53,10 +53,13 @@ loop-r-preserved c =
     let source = c.number_of-in-loop-r.ensures ∙ ap number_of (sym row.source_is) in
     let class : _ ≡ class_of_row b c.loop-r.r c.in-Ok.found.0 w =
     λ i. record { name = sym row.class_is i; flags = sym row.flags_are i; superclass = superclass i; interfaces = interfaces i; source = source i; members = c.in-Ok.found.0; weight = w } in
-    class_more b c.args.pools.now c.requires.pools c.requires.before c.loop-r.r lt c.saturating_sub-left.result c.in-Ok.found.0 read.0 w (omega (arith, own (goal.at.loop-r-preserved c).After-row_weight-own, c.from.ensures, read.1))
-    c.loop-r.bodies c.loop-r.invariant (omega (arith, c.if-before-most.false, c.requires.most, c.saturating_sub-left.ensures, c.from.ensures, read.0.light, read.1)) _ class (record { classes = c.push.new.self; weight = c.loop-r.bodies.weight + w }) c.in_ok-push.ensures.items refl
+    record {
+      bodies_are = class_more b c.args.pools.now c.requires.pools c.requires.before c.loop-r.r lt c.saturating_sub-left.result c.in-Ok.found.0 read.0 w (omega (arith, own (goal.at.loop-r-preserved c).After-row_weight-own, c.from.ensures, read.1))
+          c.loop-r.bodies c.loop-r.invariant.bodies_are (omega (arith, c.if-before-most.false, c.requires.most, c.saturating_sub-left.ensures, c.from.ensures, read.0.light, read.1)) _ class (record { classes = c.push.new.self; weight = c.loop-r.bodies.weight + w }) c.in_ok-push.ensures.items refl;
+      shared_are = c.in-Ok.ensures.shared c.requires.pools;
+    }
 
 pub returns-clause-accepted : goal.returns-clause-accepted
 returns-clause-accepted c =
     let all : c.loop-r.r ≡ table_size c.args.frame.now ClassDefs = omega (arith, c.loop-r-test.false, c.loop-r.auto.r-end, c.size-rows.ensures) in
-    subst (λ (n : ℕ). AreBodies c.args.frame.now c.args.pools.now n c.loop-r.bodies) all c.loop-r.invariant
+    subst (λ (n : ℕ). AreBodies c.args.frame.now c.args.pools.now n c.loop-r.bodies) all c.loop-r.invariant.bodies_are

@@ -1,5 +1,9 @@
+use Rattle.dexmembers.specs.SharedMembers.{AreSharedMembers}
 use Rattle.dexclass.specs.internal.Reading.{AreBodies}
 use Rattle.dexclass.proofs.reading.read_bodies_within.Given as goal
 
 abbrev pub invariant-loop-r : goal.invariant-loop-r
-invariant-loop-r l = AreBodies l.frame l.pools l.r l.bodies
+invariant-loop-r l = record {
+  bodies_are : AreBodies l.frame l.pools l.r l.bodies;
+  shared_are : AreSharedMembers l.frame l.pools l.shared;
+}

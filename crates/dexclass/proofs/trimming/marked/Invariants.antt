@@ -2,8 +2,8 @@ use Rattle.dexclass.proofs.Common.{take, flat_map, AreMarksOf}
 use Rattle.dexclass.specs.{HaveMarked, class_uses}
 use Rattle.dexclass.proofs.trimming.marked.Given as goal
 
-abbrev pub invariant-loop-class : goal.invariant-loop-class
-invariant-loop-class l = record {
+abbrev pub invariant-loop-i : goal.invariant-loop-i
+invariant-loop-i l = record {
   count : AreMarksOf l.numbering l.marks;
-  marked : HaveMarked (flat_map class_uses (take l.class-index l.classes)) l.marks;
+  marked : HaveMarked (flat_map class_uses (take l.i l.classes)) l.marks;
 }

@@ -1,5 +1,5 @@
 use Rattle.dexcode.proofs.Common.{◌≡◌, ◌+◌, ◌*◌, ℕ, List, sym, subst, ◌∙◌, arith, err_from_is_err_and, AreRising, NumberedCode, AreStartsAt, HasCodeOf, HaveTriesOf, NumberedTry, IsTriesFault, TriesAt}
-use Rattle.dexcode.proofs.CodesRead.{code_weighed, program_fault, tries_fault}
+use Rattle.dexcode.proofs.CodesRead.{code_weighed, pieces_there, program_fault, tries_fault}
 use Rattle.dexcode.proofs.code_checking.check_code_once.Goals as goal
 
 pub returns-in_err-tries-clause-refused : goal.returns-in_err-tries-clause-refused
@@ -15,7 +15,7 @@ returns-in_err-tries-clause-refused c = λ pools.
 pub returns-in_err-program-clause-refused : goal.returns-in_err-program-clause-refused
 returns-in_err-program-clause-refused c = λ pools.
     let p = err_from_is_err_and c.from_residual-in_err-program.result c.from_residual-in_err-program.ensures.1 in
-    rw (p.1, p.2) (program_fault (c.in_ok-pieces.ensures.pieces pools).at c.in_err-program.field-0.0 (c.in_err-program.ensures.refused pools))
+    rw (p.1, p.2) (program_fault (pieces_there (c.in_ok-pieces.ensures.pieces pools).at) c.in_err-program.field-0.0 (c.in_err-program.ensures.refused pools))
 
 pub returns-clause-code : goal.returns-clause-code
 returns-clause-code c = λ pools.

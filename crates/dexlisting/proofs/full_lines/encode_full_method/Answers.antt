@@ -24,13 +24,13 @@ returns-in-Some g c =
     let m = c.args.numbering.now in
     let G = g.O.Output.gives in
     let B = g.met.O.Output.both in
-    let h : c.args.method.now.code ≡ Some c.in-Some.code.now = search rules in
+    let h : c.args.method.now.code ≡ Some c.in-Some.code = search rules in
     then_given G B c.bytes.ensures
     (next_part G B (ap (λ i. own_method_text plain (method_at m i).name (method_at m i).proto) c.number.ensures) c.encode_own_method.ensures
     (then_given G B c.bytes-2.ensures (next_part G B (ap (flags_text OfMethod) c.flags.ensures) c.encode.ensures
     (then_given G B c.byte.ensures (then_given G B (c.encode_set.ensures c.args.method.now.annotations c.annotations.ensures)
     (next_part G B (ap (λ sets. parameter_lines 0 (map (set_in m) sets)) c.parameter_annotations.ensures) c.encode_parameters.ensures
-    (last_part G B (ap (λ i. full_code_lines (symbol_text plain (MethodSymbol (method_at m i))) (code_in m c.in-Some.code.now)) c.number-in-Some.ensures
+    (last_part G B (ap (λ i. full_code_lines (symbol_text plain (MethodSymbol (method_at m i))) (code_in m c.in-Some.code)) c.number-in-Some.ensures
     ∙ ap (λ o. option_map_or (full_code_lines (symbol_text plain (MethodSymbol (method_at m c.args.method.now.number)))) (option_map (code_in m) o) []) (sym h)) c.encode_full_code.ensures)))))))
 
 pub returns-in_default : goal.returns-in_default

@@ -17,7 +17,7 @@ returns-in-Some g c =
     let m = c.args.numbering.now in
     let G = g.O.Output.gives in
     let B = g.met.O.Output.both in
-    let h : c.args.method.now.code ≡ Some c.in-Some.code.now = search rules in
+    let h : c.args.method.now.code ≡ Some c.in-Some.code = search rules in
     then_given G B c.bytes.ensures
     (next_part G B (ap (λ i. own_method_text shown (method_at m i).name (method_at m i).proto) c.number.ensures) c.encode_own_method.ensures
     (then_given G B c.bytes-2.ensures (next_part G B (ap (flags_text OfMethod) c.flags.ensures) c.encode.ensures

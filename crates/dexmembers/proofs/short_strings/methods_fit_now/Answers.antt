@@ -10,7 +10,7 @@ fits_by x c is fits = subst (λ (o : Option NumberedItem). IfSome o code.Numbers
 
 pub loop-i-preserved : goal.loop-i-preserved
 loop-i-preserved c = all_more MethodFits c.args.methods.now c.loop-i.i c.get.result (omega arith) c.get.ensures c.loop-i.invariant (elim c.match-code.branch [
-  | in-Some w ↦ fits_by c.get.result (Some w.in-Some.code.now) w.in-Some.ensures w.numbers_fit.ensures
+  | in-Some w ↦ fits_by c.get.result (Some w.in-Some.code) w.in-Some.ensures w.numbers_fit.ensures
   | in_default w ↦ fits_by c.get.result None w.in_default.ensures tt
 ])
 

@@ -1,11 +1,14 @@
-use Rattle.dexmerge.proofs.Common.{◌≡◌, ◌<◌, ◌++◌, ◌∙◌, List, length, get_or, take, map, sym, ap, subst, arith, refl, flat_map, length-map, append-nil, All, All-push, take_all, Definition, Collection, definitions, NumberedClass, renumbered}
+use Rattle.dexmerge.proofs.Common.{IsAt, ◌≡◌, ◌<◌, ◌++◌, ◌∙◌, List, length, get_or, take, map, sym, ap, subst, arith, refl, flat_map, length-map, append-nil, All, All-push, take_all, Definition, Collection, definitions, NumberedClass, renumbered}
 use Rattle.dexmerge.specs.{AreMembers, IsOfPart, classes_of, referents}
+use Rattle.dexmerge.specs.declared.candidates.Candidate.{Candidate}
+use Rattle.dexmerge.specs.internal.CandidateLists.{AreByPart}
 use Rattle.dexmerge.proofs.CandidatePlaces.{push_more}
+use Rattle.dexmerge.proofs.EqualCandidates.{place_of}
 use Rattle.dexmerge.proofs.PartMembers.{class_known, mapped_at, members_more, of_part, part_at, parts_more}
 use Rattle.dexmerge.proofs.candidates.candidates.Goals as goal
 
 pub loop-class-init : goal.loop-class-init
-loop-class-init c = (classes_of c.loop-i.candidates.items, c.loop-i.invariant.members, sym (append-nil _), c.loop-i.invariant.parts)
+loop-class-init c = (classes_of c.loop-i.candidates.items, c.loop-i.invariant.members, sym (append-nil _), c.loop-i.invariant.parts, c.loop-i.invariant.remaps)
 
 pub loop-class-preserved : goal.loop-class-preserved
 loop-class-preserved c =
@@ -23,6 +26,7 @@ loop-class-preserved c =
       push_more c.loop-class.candidates.items c.push.new.self.items _ h.0 c.index-remaps-i.result ps c.loop-class.class-index x c.in_ok-push.ensures.items refl c.loop-class-test.true c.class-item.is h.2,
       λ m zip. subst (All (IsOfPart m)) (sym c.in_ok-push.ensures.items) (All-push (IsOfPart m) c.loop-class.candidates.items _ (h.3 m zip)
           (of_part c.renumbering_law.ensures.same c.renumbering_law.ensures.all m K _ (mapped_at m Ks c.args.remaps.now i K c.index-remaps-i.result few at c.index-remaps-i.is zip) known)),
+      subst (AreByPart c.args.remaps.now) (sym c.in_ok-push.ensures.items) (All-push (λ (y : Candidate). IsAt c.args.remaps.now y.part y.remap.now) c.loop-class.candidates.items _ h.4 (place_of c.args.remaps.now i c.index-remaps-i.result (omega (arith, c.loop-i-test.true, c.requires)) c.index-remaps-i.is)),
     )
 
 pub loop-i-preserved : goal.loop-i-preserved
@@ -42,4 +46,5 @@ loop-i-preserved c =
           (subst (AreMembers m (flat_map definitions (take i Ks) ++ definitions K)) (sym all)
           (members_more c.renumbering_law.ensures.same c.renumbering_law.ensures.all m K r (mapped_at m Ks c.args.remaps.now i K r few at c.index-remaps-i.is zip) (flat_map definitions (take i Ks)) h.0 ps (h.1 m zip) c.classes-class-items.ensures c.is_good.ensures.formed));
       parts = h.3;
+      remaps = h.4;
     }

@@ -1,6 +1,7 @@
 use Rattle.dexmerge.proofs.Common.{◌≡◌, List, sym, subst, err_from_is_err_and, Maps}
 use Rattle.dexmerge.specs.{definitions_in, referents}
 use Rattle.dexmerge.specs.declared.candidates.Candidate.{Candidate}
+use Rattle.dexmerge.specs.internal.CandidateLists.{AreByPart}
 use Rattle.dexmerge.specs.internal.Unions.{AreCopies, AreSound, IsJoined}
 use Rattle.dexmerge.proofs.Counting.{once_counts}
 use Rattle.dexmerge.proofs.MergeLaws.{are_copies}
@@ -18,8 +19,11 @@ copies c l e =
 sound : (c : In_ok-classes) → AreCopies c.in_ok-numbering.numbering (definitions_in c.args.parts.now) c.deref-2.result.now → (l : List Candidate) → l ≡ c.in_ok-classes.classes.items → AreSound c.in_ok-numbering.numbering (definitions_in c.args.parts.now) l
 sound c are l e = subst (AreSound c.in_ok-numbering.numbering (definitions_in c.args.parts.now)) (sym e) (c.in_ok-classes.ensures.kept (definitions_in c.args.parts.now) are)
 
-pub sound_classes-requires : goal.sound_classes-requires
-sound_classes-requires c = (definitions_in c.args.parts.now, copies (goal.at.sound_classes-requires c).In_ok-copies _ c.deref-2.ensures.value)
+pub sound_classes-requires-clause-copies : goal.sound_classes-requires-clause-copies
+sound_classes-requires-clause-copies c = (definitions_in c.args.parts.now, copies (goal.at.sound_classes-requires-clause-copies c).In_ok-copies _ c.deref-2.ensures.value)
+
+pub sound_classes-requires-clause-parts : goal.sound_classes-requires-clause-parts
+sound_classes-requires-clause-parts c = (c.deref.result.now, subst (AreByPart c.deref.result.now) (sym c.deref-2.ensures.value) c.in_ok-copies.ensures.remaps)
 
 pub returns-in_err-classes-clause-fault : goal.returns-in_err-classes-clause-fault
 returns-in_err-classes-clause-fault c =

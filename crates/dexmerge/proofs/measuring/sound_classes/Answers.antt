@@ -2,6 +2,8 @@ use Rattle.dexmerge.proofs.Common.{◌≡◌, List, Definition, sym, subst, err_
 use Rattle.dexmerge.specs.{classes_of}
 use Rattle.dexmerge.specs.declared.candidates.Candidate.{Candidate}
 use Rattle.dexmerge.specs.internal.Cycles.{AreAcyclic}
+use Rattle.dexmerge.specs.internal.CandidateLists.{AreByPart}
+use Rattle.dexmerge.proofs.EqualCandidates.{still_by_part}
 use Rattle.dexmerge.specs.internal.Unions.{AreCopies, AreOnce}
 use Rattle.dexmerge.proofs.measuring.sound_classes.Goals as goal
 use Rattle.dexmerge.proofs.measuring.sound_classes.Goals.{In_ok-classes}
@@ -10,8 +12,12 @@ use Rattle.dexmerge.proofs.measuring.sound_classes.Goals.{In_ok-classes}
 once : (c : In_ok-classes) (D : List Definition) → AreCopies c.args.numbering.now D c.args.copies.now → (l : List Candidate) → l ≡ c.in_ok-classes.classes.items → AreOnce c.args.numbering.now D l
 once c D are l e = subst (AreOnce c.args.numbering.now D) (sym e) (c.in_ok-classes.ensures.kept D are)
 
-pub class_depths-requires : goal.class_depths-requires
-class_depths-requires c = (c.requires.0, once (goal.at.class_depths-requires c).In_ok-classes c.requires.0 c.requires.1 _ c.deref.ensures.value)
+pub class_depths-requires-clause-once : goal.class_depths-requires-clause-once
+class_depths-requires-clause-once c = (c.requires.copies.0, once (goal.at.class_depths-requires-clause-once c).In_ok-classes c.requires.copies.0 c.requires.copies.1 _ c.deref.ensures.value)
+
+pub class_depths-requires-clause-parts : goal.class_depths-requires-clause-parts
+class_depths-requires-clause-parts c =
+    (c.requires.parts.0, subst (AreByPart c.requires.parts.0) (sym c.deref.ensures.value) (still_by_part c.requires.parts.0 c.args.copies.now c.in_ok-classes.classes.items c.in_ok-classes.ensures.within c.requires.parts.1))
 
 pub returns-in_err-_depths-clause-fault : goal.returns-in_err-_depths-clause-fault
 returns-in_err-_depths-clause-fault c =

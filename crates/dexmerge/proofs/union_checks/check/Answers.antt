@@ -1,7 +1,9 @@
-use Rattle.dexmerge.proofs.Common.{◌≡◌, ◌∙◌, Some, None, ℕ, Option, List, length, length-map, arith, ap, sym, subst, err_from_is_err_and, definition_of}
+use Rattle.dexmerge.proofs.Common.{AreIn, ◌≡◌, ◌∙◌, Some, None, ℕ, Option, List, length, length-map, arith, ap, sym, subst, err_from_is_err_and, definition_of}
 use Rattle.dexmerge.specs.{classes_of, definitions_in, referents}
 use Rattle.dexmerge.specs.declared.candidates.Candidate.{Candidate}
 use Rattle.dexmerge.specs.internal.Cycles.{HaveDepths}
+use Rattle.dexmerge.specs.internal.CandidateLists.{AreByPart}
+use Rattle.dexmerge.proofs.EqualCandidates.{still_by_part}
 use Rattle.dexmerge.specs.internal.Unions.{AreCopies, AreOnce}
 use Rattle.dexmerge.proofs.CandidatePlaces.{count_classes}
 use Rattle.dexmerge.proofs.MergeLaws.{are_copies, once_cap, once_depths}
@@ -28,9 +30,13 @@ returns-in_err-classes-clause-fault c =
     let p = err_from_is_err_and c.from_residual-in_err-classes.result c.from_residual-in_err-classes.ensures.1 in
     rw (p.1, p.2) (c.in_err-classes.ensures.fault c.args.caps.now (definitions_in c.args.parts.now) (copies (goal.at.returns-in_err-classes-clause-fault c).In_ok-copies _ c.deref.ensures.value))
 
-pub class_depths-requires : goal.class_depths-requires
-class_depths-requires c =
-    let here = goal.at.class_depths-requires c in
+pub class_depths-requires-clause-parts : goal.class_depths-requires-clause-parts
+class_depths-requires-clause-parts c =
+    (c.args.remaps.now, subst (AreByPart c.args.remaps.now) (sym c.deref-2.ensures.value) (still_by_part c.args.remaps.now c.in_ok-copies.copies.items c.in_ok-classes.classes.items (subst (AreIn c.in_ok-classes.classes.items) c.deref.ensures.value c.in_ok-classes.ensures.within) c.in_ok-copies.ensures.remaps))
+
+pub class_depths-requires-clause-once : goal.class_depths-requires-clause-once
+class_depths-requires-clause-once c =
+    let here = goal.at.class_depths-requires-clause-once c in
     (definitions_in c.args.parts.now, once here.In_ok-classes (copies here.In_ok-copies _ c.deref.ensures.value) _ c.deref-2.ensures.value)
 
 pub returns-in_err-depths-clause-fault : goal.returns-in_err-depths-clause-fault

@@ -1,4 +1,4 @@
-use Rattle.dexval.proofs.Common.{List, ap, sym, subst}
+use Rattle.dexval.proofs.Common.{List, sym, subst}
 use Rattle.dexval.specs.Numbered.{NumberedValue, values_of_list}
 use Rattle.dexval.specs.Renumbering.{HavePlaces}
 use Rattle.dexval.proofs.remapped_items.remapped_values.Goals as goal

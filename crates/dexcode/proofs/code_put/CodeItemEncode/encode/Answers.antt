@@ -8,4 +8,4 @@ pub returns : goal.returns
 returns g c =
     let gives = g.O.Output.gives in
     let off = c.args.self.now.debug_off in
-    subst (λ ts. gives (numbered_item_bytes off c.args.self.now.code.now.body ts) c.args.out.now c.encode_item.new.out) c.tries.ensures (subst (λ body. gives (numbered_item_bytes off body c.tries.result) c.args.out.now c.encode_item.new.out) c.pieces.ensures c.encode_item.ensures)
+    subst (λ ts. gives (numbered_item_bytes off c.args.self.now.code.body ts) c.args.out.now c.encode_item.new.out) c.tries.ensures (subst (λ body. gives (numbered_item_bytes off body c.tries.result) c.args.out.now c.encode_item.new.out) c.pieces.ensures c.encode_item.ensures)

@@ -1,12 +1,9 @@
-use Rattle.dexlayout.proofs.Common.{arith, take, subst, sym, ◌++◌, methods_of, take_all, same_bytes, HasUses, debug_encoding, debug_encodings}
-use Rattle.dexlayout.proofs.SharedUses.{uses_next}
+use Rattle.dexlayout.proofs.Common.{◌++◌, ap, sym, subst, ◌∙◌, append_assoc, map-append, OnOk, same_bytes, HasUses, debug_encoding, debug_encodings}
 use Rattle.dexlayout.proofs.bodies.Encodings.add_members.Goals as goal
-
-pub loop-i-preserved : goal.loop-i-preserved
-loop-i-preserved c = λ uses h.
-    subst (λ us. HasUses same_bytes us c.add_method.new.self.sharing) (uses_next debug_encoding uses (methods_of c.args.members.now) c.loop-i.i c.method_at.result (omega (arith, c.loop-i-test.true, c.method_count-i-end.ensures)) (sym c.method_at.ensures))
-    (c.in_ok-add_method.ensures (uses ++ debug_encodings (take c.loop-i.i (methods_of c.args.members.now))) (c.loop-i.invariant uses h))
 
 pub returns : goal.returns
 returns c = λ uses h.
-    subst (λ ys. HasUses same_bytes (uses ++ debug_encodings ys) c.loop-i.self.sharing) (take_all c.loop-i.i (methods_of c.args.members.now) (omega (arith, c.loop-i-test.false, c.method_count-i-end.ensures))) (c.loop-i.invariant uses h)
+    let direct = c.direct_methods.result in
+    let virtual = c.virtual_methods.result in
+    let joined = append_assoc uses (debug_encodings direct) (debug_encodings virtual) ∙ ap (λ us. uses ++ us) (sym (map-append debug_encoding direct virtual) ∙ (λ i. debug_encodings (c.direct_methods.ensures i ++ c.virtual_methods.ensures i))) in
+    subst (λ us. OnOk c.add_methods-2.result (HasUses same_bytes us c.add_methods-2.new.self.sharing)) joined (c.add_methods-2.ensures (uses ++ debug_encodings direct) (c.in_ok-add_methods.ensures uses h))

@@ -13,7 +13,7 @@ returns-in-Some c = λ m uses meant is known h.
     let s = c.in-Some.set in
     let e : set_of s.now ≡ meant = lent_is c.args.set s meant c.in-Some.is is in
     let some = some_used (annotation_in m) (set_of s.now) (λ none. let both : true ≡ false = sym (c.is_empty.ensures.1 none) ∙ c.if-not-is_empty.true in cc) in
-    shared_take h c.add.result _ _ s (set_use m meant) (subst (IsKnownSet m) (sym e) known) (subst (λ n. set_use m n ≡ Some (set_in m (set_of s.now))) e some) (c.add.ensures h.used h.items)
+    shared_take h c.add.result _ _ s (set_use m meant) (subst (IsKnownSet m) (sym e) known) (subst (λ n. set_use m n ≡ Some (set_in m (set_of s.now))) e some) (c.add.ensures.added h.used h.items)
 
 pub returns-in_default : goal.returns-in_default
 returns-in_default c = λ m uses meant is known h.
@@ -22,4 +22,4 @@ returns-in_default c = λ m uses meant is known h.
           sym (lent_is c.args.set w.in-Some.set meant w.in-Some.is is) ∙ w.is_empty.ensures.0 w.if-not-is_empty.false
       | in_default-via-in_default w ↦ subst (λ o. MatchOption o (meant ≡ []) (λ s. set_of s.now ≡ meant)) w.in_default.is is
     ] in
-    shared_pass h c.add-in_default.result _ _ (set_use m meant) (none_used (annotation_in m) meant none) (c.add-in_default.ensures h.used h.items)
+    shared_pass h c.add-in_default.result _ _ (set_use m meant) (none_used (annotation_in m) meant none) (c.add-in_default.ensures.added h.used h.items)

@@ -3,8 +3,8 @@ use Rattle.dexlayout.proofs.SharedUses.{items_same, uses_pass, uses_take}
 use Rattle.dexlayout.proofs.sharing.Sharing.add.Goals as goal
 use Rattle.dexlayout.proofs.sharing.Sharing.add.Goals.{in-Some+in_ok-insert_full-in-Some, in-None}
 
-pub returns : goal.returns
-returns g c = λ uses h. elim c.match-used.branch [
+pub returns-clause-added : goal.returns-clause-added
+returns-clause-added g c = λ uses h. elim c.match-used.branch [
   | in-Some+in_ok-insert_full-in-Some w ↦
       items_same g.T.PartialEq.eq g.met.T.Eq.laws (ap (λ u. uses ++ u ∷ []) w.in-Some.is) (ap (λ s. s.items.keys) w.self-is ∙ w.in_ok-insert_full-in-Some.ensures.keys)
       (c.in_ok-push.ensures.items ∙ ap (λ s. s.numbers.items ++ c.in_ok-of.field-0 ∷ []) w.self-is ∙ ap (λ n. c.args.self.now.numbers.items ++ n ∷ []) (c.in_ok-of.ensures ∙ w.number-is))

@@ -1,6 +1,6 @@
 use Rattle.dexmembers.proofs.Common.{◌≢◌, length, arith, err_from_is_err_and}
 use Rattle.dexmembers.proofs.StaticValuesRead.{no_statics}
-use Rattle.dexmembers.proofs.RowChecked.{no_values, too_many_values, values_of}
+use Rattle.dexmembers.proofs.RowChecked.{no_values}
 use Rattle.dexmembers.proofs.row_reader.RowReader.check_static_values.Goals as goal
 
 pub returns-then-off-eq0-clause-weight : goal.returns-then-off-eq0-clause-weight
@@ -12,14 +12,8 @@ returns-in_err-shape-clause-refused c = λ r at pools.
     let some : c.args.self.now.row.now.static_values_off ≢ 0 = omega arith in
     rw (p.1, p.2) (no_statics c.args.self.now.frame.now r c.args.self.now.row.now.static_values_off at some (length c.args.self.now.declared.now.static_fields.items) c.in_err-shape.field-0.0 (c.in_err-shape.ensures.refused pools))
 
-pub returns-then-shape-len-clause-refused : goal.returns-then-shape-len-clause-refused
-returns-then-shape-len-clause-refused c = λ r at pools.
-    let some : c.args.self.now.row.now.static_values_off ≢ 0 = omega arith in
-    let s = c.in_ok-shape.shape in
-    too_many_values c.args.self.now.frame.now r c.args.self.now.row.now.static_values_off at some c.args.self.now.pools.now s.count s.size s.weight (c.in_ok-shape.ensures.values pools) (length c.args.self.now.declared.now.static_fields.items) (omega arith)
-
 pub returns-clause-weight : goal.returns-clause-weight
-returns-clause-weight c = λ r at pools.
-    let some : c.args.self.now.row.now.static_values_off ≢ 0 = omega arith in
-    let s = c.in_ok-shape.shape in
-    values_of c.args.self.now.frame.now r c.args.self.now.row.now.static_values_off at some c.args.self.now.pools.now s.count s.size s.weight (c.in_ok-shape.ensures.values pools) (length c.args.self.now.declared.now.static_fields.items) (omega arith)
+returns-clause-weight c = λ r at pools. c.weight_of_values.ensures.weight (c.in_ok-shape.ensures.values pools) r at pools
+
+pub returns-clause-refused : goal.returns-clause-refused
+returns-clause-refused c = λ r at pools. c.weight_of_values.ensures.refused (c.in_ok-shape.ensures.values pools) r at pools

@@ -1,4 +1,6 @@
-use Rattle.dexmembers.proofs.Common.{List, length, map, sym, subst, arith, err_from_is_err_and, AreRising, value_of, values_of_list, set_at}
+use Rattle.dexmembers.proofs.Common.{List, length, sym, subst, arith, err_from_is_err_and, AreRising, set_at}
+use Rattle.dexmembers.specs.HeldCodes.{methods_in}
+use Rattle.dexmembers.specs.StaticValues.{values_in}
 use Rattle.dexmembers.specs.internal.Attaching.{held_codes}
 use Rattle.dexmembers.specs.internal.MethodCodes.{AreCodesOf, IsCodesFaultWithin}
 use Rattle.dexmembers.specs.declared.class_data.EncodedMethod.{EncodedMethod}
@@ -39,8 +41,8 @@ returns-clause-read c = λ r row pools is.
     let m = c.args.self.now.pools.now in
     let most = c.args.self.now.most in
     let a = c.in_ok-directory.directory in
-    let direct = held_codes c.in_ok-direct_methods.direct_methods in
-    let virtual = held_codes c.in_ok-virtual_methods.virtual_methods in
+    let direct = held_codes (methods_in c.in_ok-direct_methods.direct_methods) in
+    let virtual = held_codes (methods_in c.in_ok-virtual_methods.virtual_methods) in
     let annotations = c.in_ok-directory.ensures.read r (sym row.annotations_are) pools is in
     let entered = annotations.entered in
     let statics = fields_attached a.table.sets c.deref-7.ensures.value c.deref-8.ensures.value entered.fields_entered c.in_ok-attach_fields.ensures.fields in
@@ -51,7 +53,7 @@ returns-clause-read c = λ r row pools is.
       directory = a;
       direct = direct;
       virtual = virtual;
-      values = values_of_list (map value_of c.in_ok-static_values.static_values.items);
+      values = values_in c.in_ok-static_values.static_values;
       parts = record {
         annotations = annotations;
         light = c.in_ok-directory.ensures.within pools;
@@ -65,7 +67,7 @@ returns-clause-read c = λ r row pools is.
         instance_fields = instances i;
         direct_methods = directs i;
         virtual_methods = virtuals i;
-        static_values = c.own-static_values.ensures i;
+        static_values = values_in c.in_ok-static_values.static_values;
       };
       weight = omega (arith, c.saturating_add.ensures, c.in_ok-direct_methods.ensures.weight, c.in_ok-virtual_methods.ensures.weight);
     }
@@ -82,4 +84,6 @@ returns-clause-held c =
       instance_fields_held = fields_held a.table.sets _ (c.in_ok-attach_fields-2.ensures.held sets (few_places c.deref-10.ensures.value held.fields_held));
       direct_methods_held = methods_held a.table _ (c.in_ok-direct_methods.ensures.sets_held sets (few_places c.deref-2.ensures.value held.methods_held)) (c.in_ok-direct_methods.ensures.lists_held lists (few_places c.deref-3.ensures.value held.parameters_held));
       virtual_methods_held = methods_held a.table _ (c.in_ok-virtual_methods.ensures.sets_held sets (few_places c.deref-5.ensures.value held.methods_held)) (c.in_ok-virtual_methods.ensures.lists_held lists (few_places c.deref-6.ensures.value held.parameters_held));
+      direct_codes_placed = c.in_ok-direct_methods.ensures.placed;
+      virtual_codes_placed = c.in_ok-virtual_methods.ensures.placed;
     }

@@ -1,5 +1,4 @@
 use Rattle.dexmembers.proofs.Common.{◌≡◌, ap, sym, subst, ◌∙◌}
-use Rattle.dexval.specs.Code.{values_of}
 use Rattle.dexval.specs.Renumbering.{HavePlaces, renumbered_values}
 use Rattle.dexmembers.specs.StaticValues.{held_values, IsReadyHolder}
 use Rattle.dexmembers.proofs.static_values.StaticValues.renumber.Goals as goal
@@ -11,4 +10,4 @@ pub returns-in-Remapped : goal.returns-in-Remapped
 returns-in-Remapped c =
     let ready = subst (IsReadyHolder c.args.remap.now) c.in-Remapped.is c.requires.ready in
     let moved : c.swap.new.x.value ≡ c.in-Remapped.image.value = ap (λ x. x.value) c.swap.ensures.x_after in
-    ap (λ v. values_of v.items) moved ∙ ready ∙ ap (renumbered_values c.args.remap.now) (sym (ap held_values c.in-Remapped.is))
+    moved ∙ ready ∙ ap (renumbered_values c.args.remap.now) (sym (ap held_values c.in-Remapped.is))

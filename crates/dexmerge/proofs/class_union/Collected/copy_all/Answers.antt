@@ -1,4 +1,4 @@
-use Rattle.dexmerge.proofs.Common.{◌≡◌, ◌<◌, length, slice_set, Bool, true, length-set, ◌∙◌, ◌++◌, ◌∷◌, [], ◌+◌, List, map, take, sym, ap, subst, arith, Contains, take_all, take_more, definitions, mentions, NumberedClass, definition_of, renumbered, remapped}
+use Rattle.dexmerge.proofs.Common.{◌≡◌, ◌<◌, length, slice_set, Bool, true, length-set, ◌∙◌, ◌++◌, ◌∷◌, [], ◌+◌, List, map, take, sym, ap, subst, arith, refl, append-nil, Contains, take_all, take_more, definitions, mentions, NumberedClass, definition_of, renumbered, remapped, Definition}
 use Rattle.dexpool.specs.Numberings.{Maps}
 use Rattle.dexclass.specs.Renumbering.{ClassHasPlaces}
 use Rattle.dexmerge.specs.declared.class_union.Collected.{Collected}
@@ -7,6 +7,13 @@ use Rattle.dexmerge.proofs.PartMembers.{class_known}
 use Rattle.dexmerge.proofs.Collected.{added_new, added_same, class_is_member, name_within, part_more, part_done}
 use Rattle.dexmerge.proofs.class_union.Collected.copy_all.Goals as goal
 use Rattle.dexmerge.proofs.class_union.Collected.copy_all.Goals.{then-not-has_name_of+in_ok-copy+in_ok-push, else-not-has_name_of}
+
+pub loop-class-init : goal.loop-class-init
+loop-class-init c = record {
+  kept = c.in_ok-renumbering.ensures;
+  count = refl;
+  collected = λ m D part h. subst (λ (l : List Definition). AreCollected m l c.args.self.now.classes.items c.args.self.now.is_name.items) (sym (append-nil D)) h;
+}
 
 pub push-requires-clause-places : goal.push-requires-clause-places
 push-requires-clause-places c =

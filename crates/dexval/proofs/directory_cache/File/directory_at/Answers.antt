@@ -44,8 +44,8 @@ returns-clause-tight c =
     let n3 = c.in_ok-methods.ensures.noted in
     let n4 = c.in_ok-parameters.ensures.noted in
     record {
-      held = directory_held c.none.result c.counted_set_or_empty_at.new.kept.cache c.members_at.new.kept.cache c.members_at-2.new.kept.cache new c.in_ok-own.own c.in_ok-fields.fields.items c.in_ok-methods.methods.items c.in_ok-parameters.parameters.items n1 n2 n3 n4;
-      named = directory_named c.none.result c.counted_set_or_empty_at.new.kept.cache c.members_at.new.kept.cache c.members_at-2.new.kept.cache new c.in_ok-own.own c.in_ok-fields.fields.items c.in_ok-methods.methods.items c.in_ok-parameters.parameters.items n1 n2 n3 n4 (ap (λ t. t.sets) c.none.ensures.table) (ap (λ t. t.lists) c.none.ensures.table);
+      held = directory_held c.sharing.result c.counted_set_or_empty_at.new.kept.cache c.members_at.new.kept.cache c.members_at-2.new.kept.cache new c.in_ok-own.own c.in_ok-fields.fields.items c.in_ok-methods.methods.items c.in_ok-parameters.parameters.items n1 n2 n3 n4;
+      named = directory_named c.sharing.result c.counted_set_or_empty_at.new.kept.cache c.members_at.new.kept.cache c.members_at-2.new.kept.cache new c.in_ok-own.own c.in_ok-fields.fields.items c.in_ok-methods.methods.items c.in_ok-parameters.parameters.items n1 n2 n3 n4 (ap (λ t. t.sets) c.sharing.ensures.table) (ap (λ t. t.lists) c.sharing.ensures.table);
     }
 
 pub returns-clause-read : goal.returns-clause-read
@@ -65,7 +65,7 @@ returns-clause-read c = λ p.
     let n3 = c.in_ok-methods.ensures.noted in
     let n4 = c.in_ok-parameters.ensures.noted in
     let counted = directory_counted b o m p c.uint_at.ensures (c.in_ok-own.ensures.read p) c.in_ok-pairs.ensures.pairs.fields_are (c.in_ok-fields.ensures.read p) c.in_ok-pairs.ensures.pairs.methods_are (c.in_ok-methods.ensures.read p) c.in_ok-pairs.ensures.pairs.counts_are.0 c.in_ok-pairs.ensures.pairs.parameters_are (c.in_ok-parameters.ensures.read p) in
-    let old = c.none.result in
+    let old = c.sharing.result in
     let fields_are = fields_stay old first c.members_at.new.kept.cache third new own fields methods parameters n1 n2 n3 n4 in
     let methods_are = methods_stay old first c.members_at.new.kept.cache third new own fields methods parameters n1 n2 n3 n4 in
     let h = subst (HasCounted (IsDirectoryAt b o m) (λ d. directory_weight (directory_in m d)) (record { weight = 0; most = c.args.most }) c.members_at-3.new.kept.budget) (same_parts (sym (own_stays old first c.members_at.new.kept.cache third new own fields methods parameters n1 n2 n3 n4)) (sym fields_are) (sym methods_are) refl) counted in

@@ -40,7 +40,7 @@ returns-clause-noted c =
     let places = c.in_ok-places.places.items in
     let h = c.in_ok-places.ensures.noted in
     let fresh : get nat_eq mid.lists c.args.off ≡ None = search rules in
-    let new : DirectoryCache = record { alloc = mid.alloc; table = c.add_list.new.self; sets = mid.sets; lists = c.insert.new.self } in
+    let new : DirectoryCache = record { alloc = mid.alloc; table = c.add_list.new.self; sets = mid.sets; lists = c.insert.new.self; items = mid.items } in
     let more : length new.table.lists ≡ length mid.table.lists + 1 = omega (arith, ap (λ (t : NumberedTable). length t.lists) c.in_ok-place.ensures.table, length-append mid.table.lists (places ∷ [])) in
     let added : AreNewNamed (λ i. ⊥) (λ i. Some c.in_ok-place.place ≡ Some i) mid.table new.table = search rules in
     let last : Contains new.table.lists places = subst (λ (t : NumberedTable). Contains t.lists places) (sym c.in_ok-place.ensures.table) (Contains-push mid.table.lists places) in
@@ -59,9 +59,9 @@ returns-clause-noted c =
 pub returns-clause-cache : goal.returns-clause-cache
 returns-clause-cache c = λ p.
     let mid = c.listed_at.new.kept.cache in
-    let new : DirectoryCache = record { alloc = mid.alloc; table = c.add_list.new.self; sets = mid.sets; lists = c.insert.new.self } in
+    let new : DirectoryCache = record { alloc = mid.alloc; table = c.add_list.new.self; sets = mid.sets; lists = c.insert.new.self; items = mid.items } in
     let encodes = subst (IsRefListAt c.args.file.now.frame.now c.args.off c.args.file.now.pools.now) (sym (list_is_added mid.table new.table c.in_ok-places.places.items c.in_ok-place.place c.in_ok-place.ensures.place c.in_ok-place.ensures.table)) (c.in_ok-places.ensures.read p).is_read in
-    list_cached c.args.file.now.frame.now c.args.file.now.pools.now mid new c.args.off c.in_ok-place.place c.in_ok-place.ensures.extends c.in_ok-places.ensures.noted.noted_held (c.in_ok-places.ensures.cache p) c.in_ok-insert.ensures.updates.1 c.in_ok-insert.ensures.updates.2 refl encodes
+    list_cached c.args.file.now.frame.now c.args.file.now.pools.now mid new c.args.off c.in_ok-place.place c.in_ok-place.ensures.extends c.in_ok-places.ensures.noted.noted_held (c.in_ok-places.ensures.cache p) c.in_ok-insert.ensures.updates.1 c.in_ok-insert.ensures.updates.2 refl refl encodes
 
 pub returns-clause-read : goal.returns-clause-read
 returns-clause-read c = λ p.

@@ -10,4 +10,4 @@ pub returns-in-Remapped : goal.returns-in-Remapped
 returns-in-Remapped c =
     let ready = subst (IsReadyHolder c.args.remap.now) c.in-Remapped.is c.requires in
     let moved : c.swap.new.x.value ≡ c.in-Remapped.image.value = ap (λ x. x.value) c.swap.ensures.x_after in
-    same_image c.args.remap.now (set_of c.in-Remapped.set.value) (set_of c.in-Remapped.image.value) (held_set c.args.self.now.holder) (set_of c.swap.new.x.value) (ap held_set c.in-Remapped.is) (ap set_of moved) ready
+    same_image c.args.remap.now c.in-Remapped.set.value c.in-Remapped.image.value (held_set c.args.self.now.holder) c.swap.new.x.value (ap held_set c.in-Remapped.is) moved ready

@@ -26,8 +26,8 @@ use std::alloc::{AllocError, Global};
 pub(crate) const PIECE: usize = 65536;
 
 /// The canonical file of a program. It is accepted, and denotes exactly the program's definitions. The memory for it is
-/// allocated at once, after the layout, which has some 8 bytes for each use and item, and the bytes of all items but
-/// texts, type lists, lists of sets, and code of more than 8 MB.
+/// allocated at once, after the layout, which has some 8 bytes for each use and item, of equal lists of sets only for one,
+/// and the bytes of all items but texts, type lists, lists of sets, and code of more than 8 MB.
 ///
 /// Source: "Dalvik Executable format", "Overall file layout".
 pub fn to_bytes(alloc: Global, program: &Program<'_>) -> Result<Vec<u8>, AllocError>

@@ -18,6 +18,7 @@ pub mod Ordered
 pub mod Unmarked
 pub mod Trimmed
 pub mod RowsBelow
+pub mod AfterFaults
 pub mod RowFaults
 pub mod RowsChecked
 pub mod Summing

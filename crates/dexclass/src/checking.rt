@@ -1,9 +1,10 @@
 //! Checking a whole file.
 
-ghost use Rattle.std.specs.Prelude.{◌≡◌, ◌<◌, All, IfOk, IfErr};
+ghost use Rattle.std.specs.Prelude.{◌≡◌, ◌<◌, All, IfOk, IfErr, OnOk};
 ghost use Rattle.dexspec.specs.Header.{ClassDefs, table_size};
 ghost use Rattle.dexspec.specs.Accepted.{HoldBelow, IsFrame};
 ghost use Rattle.dexpool.specs.Pools.{ArePools};
+ghost use Rattle.dexmembers.specs.Checking.{AreChecks};
 ghost use Rattle.dexids.specs.declared.faults.ReadFault.TheVariants.{Memory};
 ghost use Rattle.dexclass.specs.Programs.{IsFaultOf};
 ghost use Rattle.dexclass.specs.Checking.{HaveBodiesOf, IsCheckedAs};
@@ -58,24 +59,37 @@ fn are_bytes(bytes: &[u8])
     ensures { All (λ byte. byte < 256) bytes.now }
 {}
 
-/// Checks the class rows of a file of which conditions 1 to 16 hold, from row 0 on, until they weigh too much. Returns
-/// what they weigh together.
-pub(crate) fn check_rows(
-    alloc: Global,
-    frame: &Frame<'_>,
-    pools: &Pools<'_>,
-) -> Result<u64, ReadFault>
+// Checks the class rows of a file of which conditions 1 to 16 hold, from row 0 on, until they weigh too much. Returns
+// what they weigh together.
+fn check_rows(alloc: Global, frame: &Frame<'_>, pools: &Pools<'_>) -> Result<u64, ReadFault>
     requires pools { ArePools frame.now pools.now }
     requires holds { HoldBelow 17 frame.now }
     ensures accepted { IfOk result (HaveBodiesOf frame.now (table_size frame.now ClassDefs)) }
     ensures refused { IfErr result (IsFaultOf frame.now) }
 {
-    let mut checks = Checks::none(alloc);
+    check_rows_with(alloc, frame, pools, &mut Checks::none(alloc))
+}
+
+/// Checks class rows as `check_rows` does. What is checked already is not checked again, and what is checked is added to
+/// `checks`, whose contents are unspecified after an error.
+pub(crate) fn check_rows_with(
+    alloc: Global,
+    frame: &Frame<'_>,
+    pools: &Pools<'_>,
+    checks: &mut Checks,
+) -> Result<u64, ReadFault>
+    requires pools { ArePools frame.now pools.now }
+    requires holds { HoldBelow 17 frame.now }
+    requires checks { AreChecks frame.now pools.now checks.old }
+    ensures checks { OnOk result (AreChecks frame.now pools.now checks.new) }
+    ensures accepted { IfOk result (HaveBodiesOf frame.now (table_size frame.now ClassDefs)) }
+    ensures refused { IfErr result (IsFaultOf frame.now) }
+{
     let mut weight: u64 = 0;
     for r in 0..frame.size(Table::ClassDefs) {
         let row = ClassDef::at(frame, r);
         let interfaces = interface_count(frame, row.interfaces_off);
-        let members = match check_members(alloc, frame, pools, &row, &mut checks) {
+        let members = match check_members(alloc, frame, pools, &row, checks) {
             Ok(members) => members,
             Err(fault) => return Err(at_row(fault, r)),
         };

@@ -6,15 +6,16 @@ ghost use Rattle.dexspec.specs.Header.{ClassDefs, table_size};
 ghost use Rattle.dexspec.specs.Accepted.{HoldBelow, IsFrame};
 ghost use Rattle.dexspec.specs.Weight.{most_weight};
 ghost use Rattle.dexpool.specs.Pools.{ArePools};
+ghost use Rattle.dexmembers.specs.Checking.{AreChecks};
 ghost use Rattle.dexmembers.specs.SharedMembers.{AreSharedMembers};
 ghost use Rattle.dexids.specs.declared.faults.ReadFault.TheVariants.{Refused, Memory};
 ghost use Rattle.dexclass.specs.internal.Rows.{HasInterfaceList, interface_indices};
 ghost use Rattle.dexclass.specs.internal.Checked.{IsFaultAtRow};
 ghost use Rattle.dexclass.specs.Programs.{IsReadAs, IsFaultOf};
 ghost use Rattle.dexclass.specs.internal.Reading.{AreBodies, AreHeavy, IsWhole};
-ghost use Rattle.dexclass.specs.internal.ReadWithin.{IsFaultWithin};
+ghost use Rattle.dexclass.specs.internal.ReadWithin.{IsFaultWithin, IfTooHeavy};
 
-use crate::checking::check_rows;
+use crate::checking::check_rows_with;
 use crate::class_checks::check_classes;
 use crate::classes::{Class, number_of};
 use crate::interface_lists::Interfaces;
@@ -22,7 +23,7 @@ use crate::programs::Program;
 use crate::trimming::into_trimmed;
 use dexhead::{Condition, Frame, Refusal, Table};
 use dexlaws::denotes::good::denoted_is_good;
-use dexmembers::{ClassDef, SharedMembers, read_shared_members};
+use dexmembers::{Checks, ClassDef, SharedMembers, read_shared_members};
 use dexpool::{ItemFault, Numbering, Pools, ReadFault, type_list_len};
 use std::alloc::Global;
 
@@ -94,21 +95,25 @@ struct Bodies<'a> {
 
 // Reads the class rows, from row 0 on, until the classes weigh more than `most`. What the members of a row may weigh is
 // what is left for them: what is read is not weighed again. What several rows have is in the memory of `shared`, if that
-// is not nothing.
+// is not nothing. What is checked already is not checked again; what is checked is added to `checks`, and is of this file
+// where the classes weigh too much.
 fn read_bodies_within<'a>(
     alloc: Global,
     frame: &Frame<'a>,
     pools: &Pools<'a>,
     most: u64,
     mut shared: SharedMembers<'a>,
+    checks: &mut Checks,
 ) -> Result<Bodies<'a>, ReadFault>
     requires pools { ArePools frame.now pools.now }
     requires before { HoldBelow 17 frame.now }
     requires most { most ≤ most_weight }
     requires shared { AreSharedMembers frame.now pools.now shared }
+    requires checks { AreChecks frame.now pools.now checks.old }
     ensures accepted { IfOk result
         (AreBodies frame.now pools.now (table_size frame.now ClassDefs)) }
     ensures refused { IfErr result (IsFaultWithin most frame.now) }
+    ensures checks { IfErr result (IfTooHeavy (AreChecks frame.now pools.now checks.new)) }
 {
     pools.numbering().is_numbering();
     let rows = frame.size(Table::ClassDefs);
@@ -129,6 +134,7 @@ fn read_bodies_within<'a>(
             &row,
             left,
             &mut shared,
+            checks,
         ) {
             Ok(found) => found,
             Err(fault) => return Err(at_row(fault, r)),
@@ -175,7 +181,8 @@ fn shared_members<'a>(alloc: Global, frame: &Frame<'_>) -> SharedMembers<'a>
 }
 
 // Reads the class rows. If the classes weigh much more than the file, as where many rows share an item, all rows are
-// checked before more of them is kept, and what is kept of an item is shared.
+// checked before more of them is kept, and what is kept of an item is shared. What was checked for one of these steps is
+// not checked again in the next.
 fn read_bodies<'a>(
     alloc: Global,
     frame: &Frame<'a>,
@@ -188,7 +195,8 @@ fn read_bodies<'a>(
     ensures refused { IfErr result (IsFaultOf frame.now) }
 {
     let most = most_unchecked(frame);
-    let refusal = match read_bodies_within(alloc, frame, pools, most, SharedMembers::none()) {
+    let (unshared, mut checks) = (SharedMembers::none(), Checks::none(alloc));
+    let refusal = match read_bodies_within(alloc, frame, pools, most, unshared, &mut checks) {
         Ok(bodies) => return Ok(bodies),
         Err(ReadFault::Memory) => return Err(ReadFault::Memory),
         Err(ReadFault::Refused(refusal)) => refusal,
@@ -196,9 +204,11 @@ fn read_bodies<'a>(
     if refusal.number != Condition::Weight as u8 {
         return Err(ReadFault::Refused(refusal));
     }
-    check_rows(alloc, frame, pools)?;
+    check_rows_with(alloc, frame, pools, &mut checks)?;
+    // Reading checks static values alone.
+    let mut checks = checks.only_statics(alloc);
     let shared = shared_members(alloc, frame);
-    read_bodies_within(alloc, frame, pools, MOST_WEIGHT, shared)
+    read_bodies_within(alloc, frame, pools, MOST_WEIGHT, shared, &mut checks)
 }
 
 /// The weight of classes with all symbols of a numbering, or `None` if it is too much; `bodies` is that of the classes

@@ -10,10 +10,12 @@ pub mod ListUses
 pub mod OwnCounts
 pub mod OwnFile
 pub mod RefLists
+pub mod RunNumbers
 pub mod SetDirectories
 pub mod SetsCollected
 pub mod SetsAreAt
 pub mod SharedEncodings
 pub mod SharedKinds
+pub mod SharedParameters
 pub mod SharedUses
 pub mod StaticItems

@@ -163,6 +163,11 @@ shared_mapped f same equivalent uses written numbers agree h =
           ∙ ap (λ es. map (option_map (λ x. position_or_len (λ y. equivalent y x) es)) (map (option_map f) uses)) (sym is);
     }
 
+-- what is used again is known
+known_use : {X : Type 0} (IsKnown : X → Type 0) (known : List X) → All IsKnown known → (u : Option X) → ((x : X) → u ≡ Some x → Contains known x) → All IsKnown (present (u ∷ []))
+known_use IsKnown known all None has = All-nil IsKnown
+known_use IsKnown known all (Some x) has = All-cons IsKnown x [] (All-contains IsKnown known x all (has x refl)) (All-nil IsKnown)
+
 -- ---- uses that denote others
 
 module _ {X Y : Type 0} {same : X → X → Bool} {meant : X → Y} {IsKnown : X → Type 0} where
@@ -190,6 +195,21 @@ module _ {X Y : Type 0} {same : X → X → Bool} {meant : X → Y} {IsKnown : X
       mean = map-append (option_map meant) h.used (Some x ∷ []) ∙ ap (λ us. us ++ Some (meant x) ∷ []) h.mean ∙ ap (λ v. uses ++ v ∷ []) (sym is);
     }
     shared_take (Err e) ks ns x u known is next = next
+
+    -- a use more, of what an earlier one has
+    pub shared_again : {A E : Type 0} (r : Result A E) (ks : List X) (ns : List (Option ℕ)) (place : ℕ) → place < length numbers → OnOk r (HaveItems same (h.used ++ get_or h.used place None ∷ []) ks ns) → OnOk r (SharedTo same meant IsKnown (uses ++ get_or uses place None ∷ []) ks ns)
+    shared_again (Ok a) ks ns place lt next =
+        let u = get_or h.used place None in
+        let count : length numbers ≡ length h.used = ap length h.items.numbers_are ∙ length-map h.used _ in
+        let few : place < length h.used = omega (arith, lt, count) in
+        let means : option_map meant u ≡ get_or uses place None = sym (get_or-map (option_map meant) h.used place None None few) ∙ ap (λ us. get_or us place None) h.mean in
+        record {
+          used = h.used ++ u ∷ [];
+          items = next;
+          known = subst (All IsKnown) (sym (present-append h.used (u ∷ []))) (All-append IsKnown (present h.used) (present (u ∷ [])) h.known (known_use IsKnown (present h.used) h.known u (λ x e. present_has h.used place x few e)));
+          mean = map-append (option_map meant) h.used (u ∷ []) ∙ ap (λ us. us ++ option_map meant u ∷ []) h.mean ∙ ap (λ v. uses ++ v ∷ []) means;
+        }
+    shared_again (Err e) ks ns place lt next = next
 
     -- the same uses, of equal items
     pub shared_kept : (ks : List X) (ns : List (Option ℕ)) → HaveItems same h.used ks ns → SharedTo same meant IsKnown uses ks ns

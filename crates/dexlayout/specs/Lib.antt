@@ -15,9 +15,11 @@ unfoldable pub use internal.Encoding.*
 unfoldable pub use internal.Encodings.*
 unfoldable pub use internal.Collecting.*
 unfoldable pub use internal.Kept.*
+unfoldable pub use internal.ListSharing.*
 unfoldable pub use internal.OffsetLists.*
 unfoldable pub use internal.Parts.*
 unfoldable pub use internal.Placing.*
 unfoldable pub use internal.Running.*
+unfoldable pub use internal.Runs.*
 unfoldable pub use internal.SharedUses.*
 unfoldable pub use internal.Sharing.*

@@ -7,9 +7,11 @@ pub mod Encoding
 pub mod Encodings
 pub mod Collecting
 pub mod Kept
+pub mod ListSharing
 pub mod OffsetLists
 pub mod Parts
 pub mod Placing
 pub mod Running
+pub mod Runs
 pub mod SharedUses
 pub mod Sharing

@@ -122,7 +122,7 @@ pub(crate) fn place_data<'p, 'a>(
     let bodies = place_bodies(&input, first_sections.strings.end())?;
     let end = bodies.class_data.places().end();
     let sets = place_sets(&input, &first_sections.annotations, end)?;
-    // The numbers of the uses are not needed any more: there may be as many as offsets in the lists.
+    // The numbers of the uses are not needed any more.
     drop(shared);
     let back = place_back(alloc, classes, sets)?;
     Ok(Data {

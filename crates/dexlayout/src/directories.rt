@@ -1,34 +1,35 @@
 //! Annotations directories, and the lists of the sets of parameters that they name.
 
-ghost use Rattle.std.specs.Prelude.{◌≡◌, ◌^◌, ◌≤◌, IfOk, OnOk, length};
-ghost use Rattle.dexlayout.specs.internal.Encoding.{encode_use, no_items_from, without_bytes};
+ghost use Rattle.std.specs.Prelude.{◌≡◌, ◌^◌, ◌≤◌, IfOk, OnOk, drop, length, take};
+ghost use Rattle.std.specs.List.{flat_map};
+ghost use Rattle.dexspec.specs.Bytes.{uint};
+ghost use Rattle.dexlayout.specs.internal.Encoding.{encode_use, no_items_from};
 ghost use Rattle.dexlayout.specs.internal.OffsetLists.{list_item};
-ghost use Rattle.dexlayout.specs.internal.Placing.{CanPlaceRefLists, PlacedRefLists, GivesRefLists, CanPlaceDirectories, PlacedDirectories};
+ghost use Rattle.dexlayout.specs.internal.Placing.{CanPlaceRefLists, CanPutList, PlacedRefLists, PutsList, GivesRefLists, CanPlaceDirectories, PlacedDirectories};
 ghost use Rattle.dexmembers.specs.Numbered.{fields_of, methods_of};
 ghost use Rattle.dexlayout.specs.internal.Directories.{directory_with};
 
 use crate::input::method_at;
-use crate::items::{Items, OffsetList};
+use crate::items::Items;
 use crate::offsets::{Offsets, padding, round_up};
+use crate::runs::RunsLeft;
 use crate::sets::Sets;
 use dexclass::Class;
-use dexhead::{Encode, Output};
+use dexhead::Output;
 use dexmembers::{DirectoryOffsets, Members};
 use dexpool::number_law;
 use std::alloc::{AllocError, Global};
 
-// Adds a list, aligned to 4 bytes, unless it is empty.
-fn put_list(list: &[u32], places: &mut Offsets) -> Result<(), AllocError>
-    requires { (encode_use 4 (without_bytes places.old) (list_item list.now)).places.end
-        ≤ 2 ^ 30 }
-    ensures { OnOk result (places.new
-        ≡ (encode_use 4 (without_bytes places.old) (list_item list.now)).places) }
+// Adds a list of `count` sets, aligned to 4 bytes, unless it is empty.
+fn put_list(count: usize, places: &mut Offsets) -> Result<(), AllocError>
+    requires { CanPutList count places.old }
+    ensures { PutsList result count places.old places.new }
 {
-    if list.is_empty() {
+    if count == 0 {
         return places.pass();
     }
     places.align();
-    places.put_next(4 + 4 * list.len())
+    places.put_next(4 + 4 * count)
 }
 
 /// The offsets of the lists of the sets of the parameters of methods: one for each method. They are after the sets.
@@ -45,14 +46,11 @@ pub(crate) fn place_ref_lists(
 {
     let from = sets.written().places().end();
     let mut places = Offsets::starting_at(alloc, from, sets.methods().len())?;
-    let mut rest = sets.parameters();
     for class in classes {
         let members = class.members();
         for i in 0..members.method_count() {
             let parameters = method_at(members, i).parameter_annotations();
-            let (list, others) = rest.split_at(parameters.len());
-            put_list(list, &mut places)?;
-            rest = others;
+            put_list(parameters.len(), &mut places)?;
         }
     }
     Ok(places)
@@ -71,26 +69,42 @@ pub(crate) fn encode_ref_lists<O: Output>(classes: &[Class<'_>], sets: &Sets, ou
         let members = class.members();
         for i in 0..members.method_count() {
             let parameters = method_at(members, i).parameter_annotations();
-            let (list, others) = rest.split_at(parameters.len());
-            at = encode_list(list, at, out);
-            rest = others;
+            at = encode_list(parameters.len(), &mut rest, at, out);
         }
     }
 }
 
-// Writes a list, unless it is empty, after the zeros that align it at an offset. Returns where it ends.
-fn encode_list<O: Output>(list: &[u32], at: u32, out: &mut O) -> u32
-    requires { (encode_use 4 (no_items_from at) (list_item list.now)).places.end ≤ 2 ^ 30 }
-    ensures end { result ≡ (encode_use 4 (no_items_from at) (list_item list.now)).places.end }
-    ensures given { O.gives (encode_use 4 (no_items_from at) (list_item list.now)).bytes
+// Writes the list of the next `count` offsets, unless it is empty, after the zeros that align it at an offset. Returns
+// where it ends.
+fn encode_list<O: Output>(count: usize, offs: &mut RunsLeft<'_>, at: u32, out: &mut O) -> u32
+    requires enough { count ≤ length offs.old }
+    requires fits { (encode_use 4 (no_items_from at) (list_item (take count offs.old))).places.end
+        ≤ 2 ^ 30 }
+    ensures end { result
+        ≡ (encode_use 4 (no_items_from at) (list_item (take count offs.old))).places.end }
+    ensures given { O.gives
+        (encode_use 4 (no_items_from at) (list_item (take count offs.old))).bytes
         out.old out.new }
+    ensures others { offs.new ≡ drop count offs.old }
 {
-    if list.is_empty() {
+    if count == 0 {
         return at;
     }
     out.bytes(padding(at));
-    OffsetList { offsets: list }.encode(out);
-    round_up(at) + 4 + 4 * list.len() as u32
+    out.u32(count as u32);
+    encode_next(count, offs, out);
+    round_up(at) + 4 + 4 * count as u32
+}
+
+// Writes the next `count` offsets.
+fn encode_next<O: Output>(count: usize, offs: &mut RunsLeft<'_>, out: &mut O)
+    requires { count ≤ length offs.old }
+    ensures given { O.gives (flat_map uint (take count offs.old)) out.old out.new }
+    ensures others { offs.new ≡ drop count offs.old }
+{
+    for _ in 0..count {
+        out.u32(offs.next());
+    }
 }
 
 // The number of bytes of a directory without entries.

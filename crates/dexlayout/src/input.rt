@@ -3,7 +3,7 @@
 ghost use Rattle.std.specs.Prelude.{length, slice_index_or, ◌<◌, ◌≡◌};
 ghost use Rattle.dexmembers.specs.Numbered.{methods_of};
 
-use crate::item_number::ItemNumber;
+use crate::use_numbers::UseNumbers;
 use dexclass::Class;
 use dexmembers::{Members, Method};
 use dexpool::Numbering;
@@ -18,7 +18,7 @@ pub(crate) struct Input<'p, 'a> {
     pub(crate) numbering: &'p Numbering<'a>,
     pub(crate) classes: &'p [Class<'a>],
     pub(crate) written: &'p [&'p AnnotationSet],
-    pub(crate) numbers: &'p [ItemNumber],
+    pub(crate) numbers: &'p UseNumbers,
 }
 
 /// The method at a place of those that a class declares, the direct ones first.

@@ -1,6 +1,7 @@
 //! The number of an item that a use has, or none, in four bytes.
 
 ghost use Rattle.std.specs.Prelude.{◌≡◌, IfOk};
+ghost use Rattle.dexpool.specs.Packed.{image_in};
 
 use std::alloc::AllocError;
 use std::marker::Model;
@@ -48,5 +49,19 @@ impl ItemNumber {
         ensures { result ≡ self }
     {
         (self.stored != NO_ITEM).then_some(self.stored as usize)
+    }
+
+    /// What is stored for it.
+    pub(crate) fn stored(self) -> u32
+        ensures { image_in result ≡ self }
+    {
+        self.stored
+    }
+
+    /// The number, or none, for which this is stored.
+    pub(crate) fn from_stored(stored: u32) -> ItemNumber
+        ensures { result ≡ image_in stored }
+    {
+        ItemNumber { stored }
     }
 }

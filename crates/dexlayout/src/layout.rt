@@ -95,7 +95,8 @@ fn build_layout<'p, 'a>(
 
 impl Layout {
     /// The layout of a program's canonical file. Time is linear in what is written, memory some 8 bytes for each
-    /// use and item, and the bytes of all items but texts, type lists, lists of sets, and code of more than 8 MB.
+    /// use and item, where equal lists of sets count once, some 30 for each list, and the bytes of all items but
+    /// texts, type lists, lists of sets, and code of more than 8 MB.
     pub fn of(alloc: Global, program: &Program<'_>) -> Result<Layout, AllocError>
         ensures laid { IfOk result (IsLayoutOf program.now) }
         ensures writable { IsWritable program.now }

@@ -16,12 +16,15 @@ mod item_number;
 mod items;
 mod keys;
 mod layout;
+mod list_sharing;
 mod map_entries;
 mod offsets;
+mod runs;
 mod sets;
 mod sharing;
 mod tables;
 mod type_lists;
+mod use_numbers;
 mod values;
 
 pub use codes::Codes;

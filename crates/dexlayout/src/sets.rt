@@ -1,6 +1,6 @@
 //! Annotation sets, of which equal ones are written once.
 
-ghost use Rattle.std.specs.Prelude.{◌≡◌, ◌^◌, ◌≤◌, length, drop, IfOk, OnOk};
+ghost use Rattle.std.specs.Prelude.{◌≡◌, ◌+◌, ◌^◌, ◌≤◌, length, drop, slice_index, take, IfOk, OnOk};
 ghost use Rattle.std.specs.List.{flat_map};
 ghost use Rattle.dexmembers.specs.Numbered.{methods_of, AreKnownMembers, IsKnownMethod};
 ghost use Rattle.dexlayout.specs.internal.Encoding.{encode_uses, no_items_from};
@@ -8,12 +8,14 @@ ghost use Rattle.dexlayout.specs.internal.Collecting.{sets_of_method, sets_of_cl
 ghost use Rattle.dexlayout.specs.Laid.{AreSets};
 ghost use Rattle.dexlayout.specs.internal.OffsetLists.{annotation_counts, offset_lists, set_item, total};
 ghost use Rattle.dexlayout.specs.internal.Placing.{CanPlaceSets, AreSharedBy, HaveSets, PlacedSets, no_sets, HaveKnownSets};
-ghost use Rattle.dexlayout.specs.internal.SharedUses.{SharesSets, field_uses, members_uses, method_uses, methods_uses};
-ghost use Rattle.dexlayout.specs.internal.Adding.{AddsSet, AddsUses, AreKnownParameters, set_uses, AreKnownFields, AreKnownMethods};
+ghost use Rattle.dexlayout.specs.internal.SharedUses.{field_uses, members_uses, method_uses, methods_uses};
+ghost use Rattle.dexlayout.specs.internal.Adding.{AddsSet, AddsSets, AreKnownParameters, set_uses, AreKnownFields, AreKnownMethods};
 
 use crate::input::{Input, method_at};
 use crate::items::Items;
-use crate::sharing::{Shared, Sharing, UseOffsets};
+use crate::list_sharing::{ListShared, ListSharing};
+use crate::runs::{Runs, RunsLeft};
+use crate::use_numbers::UseOffsets;
 use dexclass::Class;
 use dexmembers::{Fields, Members, Method, Methods, ParameterSets};
 use dexval::AnnotationSet;
@@ -30,7 +32,7 @@ pub struct Sets {
     pub(crate) own: Vec<u32>,
     pub(crate) fields: Vec<u32>,
     pub(crate) methods: Vec<u32>,
-    pub(crate) parameters: Vec<u32>,
+    pub(crate) parameters: Runs,
     pub(crate) written: Items,
 }
 
@@ -39,7 +41,7 @@ impl Model for Sets {
 
     ghost Value = { SetPlaces };
 
-    ghost view = { λ s. record { own = s.own.items; fields = s.fields.items; methods = s.methods.items; parameters = s.parameters.items; written = s.written } };
+    ghost view = { λ s. record { own = s.own.items; fields = s.fields.items; methods = s.methods.items; parameters = s.parameters; written = s.written } };
 }
 
 impl Sets {
@@ -65,10 +67,10 @@ impl Sets {
     }
 
     /// The offset of each set of the parameters of each method of each class, or 0.
-    pub fn parameters(&self) -> &[u32]
-        ensures { result.now ≡ self.now.parameters }
+    pub(crate) fn parameters(&self) -> RunsLeft<'_>
+        ensures { result ≡ self.now.parameters }
     {
-        &self.parameters
+        self.parameters.numbers()
     }
 
     /// The sets that are written, encoded, and the offset of each.
@@ -88,68 +90,71 @@ impl Sets {
             own: Vec::with_capacity(alloc, classes)?,
             fields: Vec::new(alloc),
             methods: Vec::new(alloc),
-            parameters: Vec::new(alloc),
+            parameters: Runs::none(alloc),
             written,
         })
     }
 
-    // Adds the offset of a class's own set and those of the sets of its fields.
-    fn collect_own(&mut self, own: u32, fields: UseOffsets<'_>) -> Result<(), AllocError>
-        ensures { OnOk result (self.new ≡ collect_own self.old own fields.entry) }
+    // Adds the next offsets, which are those of a class's own set and of the sets of its `fields` fields.
+    fn collect_own(&mut self, fields: usize, offs: &mut UseOffsets<'_>) -> Result<(), AllocError>
+        requires { 1 + fields ≤ length offs.old }
+        ensures collected { OnOk result (self.new
+            ≡ collect_own self.old (slice_index offs.old 0) (take fields (drop 1 offs.old))) }
+        ensures left { OnOk result (offs.new ≡ drop (1 + fields) offs.old) }
     {
-        self.own.push(own)?;
-        fields.append_to(&mut self.fields)
+        self.own.push(offs.next())?;
+        offs.append_to(fields, &mut self.fields)
     }
 
-    // Adds the offsets of a method's own set and of those of its parameters.
-    fn collect_method(&mut self, offs: UseOffsets<'_>) -> Result<(), AllocError>
-        requires { 1 ≤ length offs }
-        ensures { OnOk result (self.new ≡ collect_method self.old offs.entry) }
+    // Adds the next offsets, which are those of a method's own set and of those of its `parameters` parameters.
+    fn collect_method(
+        &mut self,
+        parameters: usize,
+        offs: &mut UseOffsets<'_>,
+    ) -> Result<(), AllocError>
+        requires { 1 + parameters ≤ length offs.old }
+        ensures collected { OnOk result (self.new
+            ≡ collect_method self.old (take (1 + parameters) offs.old)) }
+        ensures left { OnOk result (offs.new ≡ drop (1 + parameters) offs.old) }
     {
-        let (_, parameters) = offs.split_at(1);
-        self.methods.push(offs.first())?;
-        parameters.append_to(&mut self.parameters)
+        self.methods.push(offs.next())?;
+        offs.append_run_to(parameters, &mut self.parameters)
     }
 
-    // Adds the offsets of the sets of the methods of a class, and returns those that are left.
-    fn collect_methods<'o>(
+    // Adds the next offsets, which are those of the sets of the methods of a class.
+    fn collect_methods(
         &mut self,
         members: &Members<'_>,
-        offs: UseOffsets<'o>,
-    ) -> Result<UseOffsets<'o>, AllocError>
-        requires { length (flat_map sets_of_method (methods_of members.now)) ≤ length offs }
+        offs: &mut UseOffsets<'_>,
+    ) -> Result<(), AllocError>
+        requires { length (flat_map sets_of_method (methods_of members.now)) ≤ length offs.old }
         ensures collected { OnOk result (self.new
-            ≡ collect_methods self.old (parts_of_methods (methods_of members.now) offs.entry)) }
-        ensures left { IfOk result (λ rest.
-            rest ≡ drop (length (flat_map sets_of_method (methods_of members.now))) offs.entry) }
+            ≡ collect_methods self.old (parts_of_methods (methods_of members.now) offs.old)) }
+        ensures left { OnOk result (offs.new
+            ≡ drop (length (flat_map sets_of_method (methods_of members.now))) offs.old) }
     {
-        let mut rest = offs;
         for i in 0..members.method_count() {
             let parameters = method_at(members, i).parameter_annotations();
-            let (sets, following) = rest.split_at(1 + parameters.len());
-            self.collect_method(sets)?;
-            rest = following;
+            self.collect_method(parameters.len(), offs)?;
         }
-        Ok(rest)
+        Ok(())
     }
 
-    // Adds the offsets of the sets of a class, and returns those that are left.
-    fn collect_class<'o>(
+    // Adds the next offsets, which are those of the sets of a class.
+    fn collect_class(
         &mut self,
         class: &Class<'_>,
-        offs: UseOffsets<'o>,
-    ) -> Result<UseOffsets<'o>, AllocError>
-        requires { length (sets_of_class class.now) ≤ length offs }
+        offs: &mut UseOffsets<'_>,
+    ) -> Result<(), AllocError>
+        requires { length (sets_of_class class.now) ≤ length offs.old }
         ensures collected { OnOk result (self.new
-            ≡ collect_class self.old (parts_of_class class.now offs.entry)) }
-        ensures left { IfOk result (λ rest.
-            rest ≡ drop (length (sets_of_class class.now)) offs.entry) }
+            ≡ collect_class self.old (parts_of_class class.now offs.old)) }
+        ensures left { OnOk result (offs.new
+            ≡ drop (length (sets_of_class class.now)) offs.old) }
     {
         let members = class.members();
-        let (_, rest) = offs.split_at(1);
-        let (fields, rest) = rest.split_at(members.field_count());
-        self.collect_own(offs.first(), fields)?;
-        self.collect_methods(members, rest)
+        self.collect_own(members.field_count(), offs)?;
+        self.collect_methods(members, offs)
     }
 }
 
@@ -188,12 +193,12 @@ pub(crate) fn place_sets(
     let mut sets = Sets::none(input.alloc, input.classes.len(), written)?;
     let mut rest = UseOffsets::of(input.numbers, &offsets);
     for class in input.classes {
-        rest = sets.collect_class(class, rest)?;
+        sets.collect_class(class, &mut rest)?;
     }
     Ok(sets)
 }
 
-impl<'p> Sharing<&'p AnnotationSet> {
+impl<'p> ListSharing<&'p AnnotationSet> {
     // Adds a use of a set, which has no item where there is none or it is empty.
     fn add_set(&mut self, set: Option<&'p AnnotationSet>) -> Result<(), AllocError>
         ensures { AddsSet result self.old self.new set.entry }
@@ -206,7 +211,7 @@ impl<'p> Sharing<&'p AnnotationSet> {
 
     // Adds the uses of the sets of a method's parameters.
     fn add_sets(&mut self, sets: &ParameterSets<'p>) -> Result<(), AllocError>
-        ensures { AddsUses SharesSets result self.old self.new AreKnownParameters set_uses
+        ensures { AddsSets result self.old self.new AreKnownParameters set_uses
             sets.now }
     {
         for i in 0..sets.len() {
@@ -215,9 +220,21 @@ impl<'p> Sharing<&'p AnnotationSet> {
         Ok(())
     }
 
+    // Adds the uses of the sets of a method's parameters, as a list of their own if there are any.
+    fn add_list(&mut self, sets: &ParameterSets<'p>) -> Result<(), AllocError>
+        ensures { AddsSets result self.old self.new AreKnownParameters set_uses sets.now }
+    {
+        if sets.is_empty() {
+            return Ok(());
+        }
+        self.end_list()?;
+        self.add_sets(sets)?;
+        self.end_list()
+    }
+
     // Adds the uses of the sets of fields.
     fn add_fields(&mut self, fields: &Fields<'p>) -> Result<(), AllocError>
-        ensures { AddsUses SharesSets result self.old self.new AreKnownFields field_uses
+        ensures { AddsSets result self.old self.new AreKnownFields field_uses
             fields.now }
     {
         for i in 0..fields.len() {
@@ -228,16 +245,16 @@ impl<'p> Sharing<&'p AnnotationSet> {
 
     // Adds the uses of a method's own set and of those of its parameters.
     fn add_method(&mut self, method: &Method<'p, '_>) -> Result<(), AllocError>
-        ensures { AddsUses SharesSets result self.old self.new IsKnownMethod method_uses
+        ensures { AddsSets result self.old self.new IsKnownMethod method_uses
             method.now }
     {
         self.add_set(method.annotations())?;
-        self.add_sets(&method.parameter_annotations())
+        self.add_list(&method.parameter_annotations())
     }
 
     // Adds the uses of the sets of methods.
     fn add_methods(&mut self, methods: &Methods<'p, '_>) -> Result<(), AllocError>
-        ensures { AddsUses SharesSets result self.old self.new AreKnownMethods methods_uses
+        ensures { AddsSets result self.old self.new AreKnownMethods methods_uses
             methods.now }
     {
         for i in 0..methods.len() {
@@ -248,7 +265,7 @@ impl<'p> Sharing<&'p AnnotationSet> {
 
     // Adds the uses of the sets of what a class declares, its own first.
     fn add_members(&mut self, members: &'p Members<'_>) -> Result<(), AllocError>
-        ensures { AddsUses SharesSets result self.old self.new AreKnownMembers members_uses
+        ensures { AddsSets result self.old self.new AreKnownMembers members_uses
             members.now }
     {
         self.add_set(members.annotations())?;
@@ -265,11 +282,11 @@ impl<'p> Sharing<&'p AnnotationSet> {
 pub(crate) fn share_sets<'p>(
     alloc: Global,
     classes: &'p [Class<'_>],
-) -> Result<Shared<&'p AnnotationSet>, AllocError>
+) -> Result<ListShared<&'p AnnotationSet>, AllocError>
     ensures shared { IfOk result (HaveSets classes.now) }
     ensures known { IfOk result (HaveKnownSets classes.now) }
 {
-    let mut sharing = Sharing::for_uses(alloc, classes.len())?;
+    let mut sharing = ListSharing::none(alloc);
     for i in 0..classes.len() {
         sharing.add_members(classes[i].members())?;
     }

@@ -1,24 +1,23 @@
 //! Items that equal uses share.
 
 ghost use Rattle.std.specs.Prelude.{◌≡◌, List, [], Option, Some, None, IfOk};
-ghost use Rattle.std.specs.Prelude.{◌∷◌, ◌++◌, ◌+◌, ◌<◌, ◌≤◌, All, IfSome, OnOk, drop, length, slice_index, slice_index_or, take};
+ghost use Rattle.std.specs.Prelude.{◌∷◌, ◌++◌, ◌+◌, ◌<◌, All, IfSome, OnOk, length, slice_index, slice_index_or};
 ghost use Rattle.std.specs.Option.{option_map_or};
 ghost use Rattle.dexlayout.specs.internal.Sharing.{HaveItems};
 ghost use Rattle.dexlayout.specs.internal.Adding.{HasUses, AddsUse, AreOfUses};
-ghost use Rattle.dexlayout.specs.internal.Placing.{shared_places, use_offsets};
+ghost use Rattle.dexlayout.specs.internal.Placing.{shared_places};
 
 use crate::item_number::ItemNumber;
 use crate::offsets::Offsets;
 use indexmap::IndexSet;
 use std::alloc::{AllocError, Global};
 use std::hash::Hash;
-use std::marker::Model;
 
 /// Uses in their order, and what they use: of equal items only the first is kept.
 #[derive(Drop)]
 pub(crate) struct Sharing<T: Eq + Hash> {
     items: IndexSet<T>,
-    numbers: Vec<ItemNumber>,
+    pub(crate) numbers: Vec<ItemNumber>,
 }
 
 /// The items that uses share, each once, in the order of their first use, and for each use the number of its item, if
@@ -87,92 +86,14 @@ impl<T: Eq + Hash + Drop> Sharing<T> {
     }
 }
 
-// The offset of the item with a number, or 0 where there is none.
-fn offset_of(number: ItemNumber, written: &[u32]) -> u32
+/// The offset of the item with a number, or 0 where there is none.
+///
+/// Condition: the number is that of one of the items.
+pub(crate) fn offset_of(number: ItemNumber, written: &[u32]) -> u32
     requires { IfSome number (λ i. i < length written.now) }
     ensures { result ≡ option_map_or (slice_index written.now) number 0 }
 {
     number.get().map_or(0, |number| written[number])
-}
-
-// Appends the offsets of the items of uses with these numbers.
-fn push_offsets(
-    numbers: &[ItemNumber],
-    written: &[u32],
-    to: &mut Vec<u32>,
-) -> Result<(), AllocError>
-    requires { All (λ number. IfSome number (λ i. i < length written.now)) numbers.now }
-    ensures { OnOk result (to.new.items ≡ to.old.items ++ use_offsets numbers.now written.now) }
-{
-    to.reserve(numbers.len())?;
-    for number in numbers {
-        to.push(offset_of(*number, written))?;
-    }
-    Ok(())
-}
-
-/// The offset of the item of each of some uses, by the numbers of these and the offsets of the items that are written.
-/// They are looked up where they are asked for. Contracts see a list of them.
-#[derive(Drop)]
-pub(crate) struct UseOffsets<'o> {
-    numbers: &'o [ItemNumber],
-    written: &'o [u32],
-}
-
-impl<'o> Model for UseOffsets<'o> {
-    ghost use Rattle.std.specs.Prelude.{ℕ, List, ◌<◌, All, IfSome, length};
-    ghost use Rattle.dexlayout.specs.internal.Placing.{use_offsets};
-
-    ghost Value = { List ℕ };
-
-    ghost view = { λ u. use_offsets u.numbers.now u.written.now };
-
-    ghost invariant = { λ u. All (λ number. IfSome number (λ i. i < length u.written.now)) u.numbers.now };
-}
-
-impl<'o> UseOffsets<'o> {
-    /// The offsets of uses with these numbers.
-    ///
-    /// Condition: each number is that of one of the items.
-    pub(crate) fn of(numbers: &'o [ItemNumber], written: &'o [u32]) -> UseOffsets<'o>
-        requires { All (λ number. IfSome number (λ i. i < length written.now)) numbers.now }
-        ensures { result ≡ use_offsets numbers.now written.now }
-    {
-        UseOffsets { numbers, written }
-    }
-
-    /// The first of them.
-    pub(crate) fn first(&self) -> u32
-        requires { 1 ≤ length self.now }
-        ensures { result ≡ slice_index self.now 0 }
-    {
-        offset_of(self.numbers[0], self.written)
-    }
-
-    /// The first `count` of them, and the others.
-    pub(crate) fn split_at(&self, count: usize) -> (UseOffsets<'o>, UseOffsets<'o>)
-        requires { count ≤ length self.now }
-        ensures first { result.0 ≡ take count self.now }
-        ensures first_len { length result.0 ≡ count }
-        ensures back { result.1 ≡ drop count self.now }
-    {
-        let (numbers, others) = self.numbers.split_at(count);
-        let written = self.written;
-        (
-            UseOffsets { numbers, written },
-            UseOffsets {
-                numbers: others,
-                written,
-            },
-        )
-    }
-
-    /// Appends them.
-    pub(crate) fn append_to(&self, to: &mut Vec<u32>) -> Result<(), AllocError>
-        ensures { OnOk result (to.new.items ≡ to.old.items ++ self.now) }
-    {
-        push_offsets(self.numbers, self.written, to)
-    }
 }
 
 /// The offset of the item of each use, from the numbers of the uses and the offsets of the items that are written.

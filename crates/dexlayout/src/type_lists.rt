@@ -6,7 +6,7 @@ ghost use Rattle.dexspec.specs.Canonical.{data_start, type_list_section};
 ghost use Rattle.dexspec.specs.Placing.{section_bytes, uses_offsets};
 ghost use Rattle.dexlayout.specs.Laid.{AreTypeLists, AreWritable, ordered_of};
 ghost use Rattle.dexlayout.specs.internal.SharedUses.{AreTypes, SharesLists};
-ghost use Rattle.dexlayout.specs.internal.Adding.{AddsUses, AddsParameters, list_uses, AreKnownClasses, interfaces_uses};
+ghost use Rattle.dexlayout.specs.internal.Adding.{AddsUses, AddsListAgain, AddsParameters, list_uses, AreKnownClasses, interfaces_uses};
 ghost use Rattle.dexlayout.specs.internal.Encoding.{encode_use, list_bytes, without_bytes};
 ghost use Rattle.dexlayout.specs.internal.Placing.{HaveTypeLists, encoded_lists};
 
@@ -17,14 +17,17 @@ use crate::offsets::{Offsets, padding, round_up};
 use crate::sharing::{Shared, Sharing};
 use dexclass::Class;
 use dexhead::{Encode, Output};
-use dexpool::{Numbering, SymbolKind};
+use dexpool::{KnownParameters, Numbering, SymbolKind};
 use dexrows::TypeNumbers;
 use std::alloc::{AllocError, Global};
 
 impl<'p> Sharing<ListKey<'p>> {
     // Adds a use of a type list, which has no item where the list is empty.
     fn add_list(&mut self, list: TypeNumbers<'p>) -> Result<(), AllocError>
-        ensures { AddsUses SharesLists result self.old self.new AreTypes list_uses list.entry }
+        ensures added { AddsUses SharesLists result self.old self.new AreTypes
+            list_uses list.entry }
+        ensures more { OnOk result
+            (length self.new.numbers.items ≡ length self.old.numbers.items + 1) }
     {
         if list.len() == 0 {
             return self.add(None);
@@ -32,12 +35,29 @@ impl<'p> Sharing<ListKey<'p>> {
         self.add(Some(ListKey { list }))
     }
 
-    // Adds the uses of the parameters of protos.
+    // Adds a use of the list that an earlier use has.
+    fn add_list_again(&mut self, place: usize) -> Result<(), AllocError>
+        requires { place < length self.old.numbers.items }
+        ensures added { AddsListAgain place result self.old self.new }
+        ensures more { OnOk result
+            (length self.new.numbers.items ≡ length self.old.numbers.items + 1) }
+    {
+        self.add_again(place)
+    }
+
+    // Adds the uses of the parameters of protos. Where protos share a long list, only the first of them is looked up by it.
     fn add_parameters(&mut self, numbering: &'p Numbering<'_>) -> Result<(), AllocError>
         ensures { AddsParameters numbering.now result self.old self.new }
     {
+        let mut known = KnownParameters::none(*self.numbers.allocator());
+        let before = self.len();
         for i in 0..numbering.count(SymbolKind::Proto) {
-            self.add_list(numbering.proto(i).parameters())?;
+            let first = known.first(numbering, i)?;
+            if first < i {
+                self.add_list_again(before + first)?;
+            } else {
+                self.add_list(numbering.proto(i).parameters())?;
+            }
         }
         Ok(())
     }

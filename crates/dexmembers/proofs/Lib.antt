@@ -1,4 +1,5 @@
 pub mod Common
+pub mod AfterFaults
 pub mod Attachments
 pub mod ClassDataSpelled
 pub mod CodeLists

@@ -13,6 +13,7 @@ pub mod SharedDebugs
 pub mod SharedMembers
 pub mod Spelled
 pub mod StaticValues
+pub mod TooHeavy
 pub mod Uses
 pub mod Weighing
 pub mod Weight

@@ -36,6 +36,17 @@ impl Checks {
             statics: CheckedStatics::none(alloc),
         }
     }
+
+    /// Of what was checked the static values alone, the only part that a reader of class rows looks up.
+    pub fn only_statics(self, alloc: Global) -> Checks
+        ensures { (b : List ℕ) (m : Mentions) → AreChecks b m self → AreChecks b m result }
+    {
+        Checks {
+            sets: CheckedSets::none(alloc),
+            codes: CheckedCodes::none(alloc),
+            statics: self.statics,
+        }
+    }
 }
 
 /// Checks what a class row declares: its members with their code and annotations, its own annotations, and its static

@@ -2,9 +2,12 @@
 
 ghost use Rattle.std.specs.Prelude.{ℕ, IfOk, IfErr, OnOk};
 ghost use Rattle.dexpool.specs.Pools.{ArePools};
+ghost use Rattle.dexval.specs.CheckedStatics.{AreCheckedStatics};
+ghost use Rattle.dexmembers.specs.Checking.{AreChecks};
 ghost use Rattle.dexmembers.specs.ClassDefs.{IsClassDef};
 ghost use Rattle.dexmembers.specs.Reading.{AreReadWithin, IsMembersFaultWithin, InClass};
 ghost use Rattle.dexmembers.specs.SharedMembers.{AreSharedMembers};
+ghost use Rattle.dexmembers.specs.TooHeavy.{IfTooHeavy};
 ghost use Rattle.dexmembers.specs.internal.RowParts.{IsPartFault};
 
 use crate::class_data::read_class_data;
@@ -13,9 +16,11 @@ use crate::{Checks, ClassDef, Members, SharedMembers, check_members, members_wei
 use dexcode::code_meaning_law;
 use dexhead::{Condition, Frame};
 use dexpool::{ItemFault, Pools};
+use dexval::CheckedStatics;
 use std::alloc::Global;
 
-// Reads what a class row declares, and stops at the part by which it weighs more than `most`.
+// Reads what a class row declares, and stops at the part by which it weighs more than `most`. Static values that are
+// checked already are not checked again.
 fn read_row<'a>(
     alloc: Global,
     frame: &Frame<'a>,
@@ -23,10 +28,18 @@ fn read_row<'a>(
     row: &ClassDef,
     most: u32,
     shared: &mut SharedMembers<'a>,
+    checked: &mut CheckedStatics,
 ) -> Result<(Members<'a>, u32), ItemFault>
-    requires { ArePools frame.now pools.now → AreSharedMembers frame.now pools.now shared.old }
+    requires shared { ArePools frame.now pools.now
+        → AreSharedMembers frame.now pools.now shared.old }
+    requires checked { ArePools frame.now pools.now
+        → AreCheckedStatics frame.now pools.now checked.old }
     ensures shared { ArePools frame.now pools.now
         → OnOk result (AreSharedMembers frame.now pools.now shared.new) }
+    ensures checked { ArePools frame.now pools.now
+        → OnOk result (AreCheckedStatics frame.now pools.now checked.new) }
+    ensures heavy { ArePools frame.now pools.now
+        → IfErr result (IfTooHeavy (AreCheckedStatics frame.now pools.now checked.new)) }
     ensures read { (r : ℕ) → IsClassDef frame.now r row.now
         → InClass frame.now pools.now r (IfOk result (AreReadWithin frame.now r pools.now most)) }
     ensures refused { (r : ℕ) → IsClassDef frame.now r row.now
@@ -44,7 +57,7 @@ fn read_row<'a>(
         declared: &declared,
         most: u64::from(most),
     };
-    let (contents, codes) = reader.read_contents(shared)?;
+    let (contents, codes) = reader.read_contents(shared, checked)?;
     let weight = contents.weight_with(codes);
     if weight > u64::from(most) {
         return Err(too_heavy());
@@ -74,16 +87,17 @@ pub fn read_members<'a>(
     ensures refused { (r : ℕ) → IsClassDef frame.now r row.now
         → InClass frame.now pools.now r (IfErr result (IsMembersFaultWithin frame.now r most)) }
 {
-    let mut shared = SharedMembers::none();
-    read_shared_members(alloc, frame, pools, row, most, &mut shared)
+    let (mut shared, mut checks) = (SharedMembers::none(), Checks::none(alloc));
+    read_shared_members(alloc, frame, pools, row, most, &mut shared, &mut checks)
 }
 
 /// Reads what a class row declares, as [`read_members`] does. If classes share what they declare, its sets of
 /// annotations, static values, code and debug programs are in the memory of `shared`; sets and values are read only if
-/// they were not before.
+/// they were not before. Static values that are in `checks` are not checked again, and others are added to it. A row that
+/// weighs too much is checked as [`check_members`] does, with `checks`.
 ///
-/// Condition: what is shared is of this file. Error: as of [`read_members`]; the contents of `shared` are then
-/// unspecified.
+/// Condition: what is shared and what is checked already are of this file. Error: as of [`read_members`]; the contents of
+/// `shared` are then unspecified, and so are those of `checks` after any error but `Refused(23)`.
 ///
 /// Source: "class_def_item", the fields `annotations_off`, `class_data_off` and `static_values_off`.
 pub fn read_shared_members<'a>(
@@ -93,23 +107,32 @@ pub fn read_shared_members<'a>(
     row: &ClassDef,
     most: u32,
     shared: &mut SharedMembers<'a>,
+    checks: &mut Checks,
 ) -> Result<(Members<'a>, u32), ItemFault>
-    requires { ArePools frame.now pools.now → AreSharedMembers frame.now pools.now shared.old }
+    requires shared { ArePools frame.now pools.now
+        → AreSharedMembers frame.now pools.now shared.old }
+    requires checks { ArePools frame.now pools.now → AreChecks frame.now pools.now checks.old }
     ensures shared { ArePools frame.now pools.now
         → OnOk result (AreSharedMembers frame.now pools.now shared.new) }
+    ensures checks { ArePools frame.now pools.now
+        → OnOk result (AreChecks frame.now pools.now checks.new) }
+    ensures heavy { (r : ℕ) → IsClassDef frame.now r row.now → InClass frame.now pools.now r
+        (IfErr result (IfTooHeavy (AreChecks frame.now pools.now checks.new))) }
     ensures read { (r : ℕ) → IsClassDef frame.now r row.now
         → InClass frame.now pools.now r (IfOk result (AreReadWithin frame.now r pools.now most)) }
     ensures refused { (r : ℕ) → IsClassDef frame.now r row.now
         → InClass frame.now pools.now r (IfErr result (IsMembersFaultWithin frame.now r most)) }
 {
-    let number = match read_row(alloc, frame, pools, row, most, shared) {
+    let statics = &mut checks.statics;
+    let number = match read_row(alloc, frame, pools, row, most, shared, statics) {
         Ok(read) => return Ok(read),
         Err(ItemFault::Memory) => return Err(ItemFault::Memory),
         Err(ItemFault::Refused(number)) => number,
     };
-    if number == Condition::Weight as u8 {
-        // It is too heavy only if all of it is there.
-        check_members(alloc, frame, pools, row, &mut Checks::none(alloc))?;
+    if number != Condition::Weight as u8 {
+        return Err(ItemFault::Refused(number));
     }
+    // It is too heavy only if all of it is there.
+    check_members(alloc, frame, pools, row, checks)?;
     Err(ItemFault::Refused(number))
 }

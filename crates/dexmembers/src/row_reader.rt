@@ -12,6 +12,7 @@ ghost use Rattle.dexmembers.specs.Contents.{AreHeld};
 ghost use Rattle.dexmembers.specs.SharedMembers.{AreSharedMembers};
 ghost use Rattle.dexmembers.specs.internal.RowReaders.{IsFile};
 ghost use Rattle.dexmembers.specs.Checking.{WeighsAnnotations, WeighsValues};
+ghost use Rattle.dexmembers.specs.TooHeavy.{IfTooHeavy};
 ghost use Rattle.dexmembers.specs.internal.RowParts.{AreEntered, IsHeldDirectory, ReadsAnnotations, RefusesAnnotations, RefusesAnnotationsWithin, IsLight, ReadsContents, RefusesParts};
 ghost use Rattle.dexmembers.specs.internal.StaticValues.{ReadsValues, RefusesValues, RefusesValuesWithin};
 ghost use Rattle.dexmembers.specs.StaticValues.{values_in};
@@ -28,8 +29,8 @@ use dexinsn::Scratch;
 use dexpool::{ItemFault, Pools};
 use dexval::{
     CheckedSets, CheckedStatics, SetTable, SharedDirectory, SharedItems, StaticsShape,
-    check_directory, check_statics, checked_statics_at, item_key, read_shared_directory_with,
-    read_statics, shared_statics_at,
+    check_directory, checked_statics_at, item_key, read_shared_directory_with, read_statics,
+    shared_statics_at,
 };
 use std::alloc::Global;
 
@@ -182,26 +183,6 @@ impl<'f> RowReader<'_, 'f, '_> {
         self.weight_of_values(shape)
     }
 
-    // The shape of the static values at an offset. Those that are shared are checked once.
-    fn shape_of_values(
-        &self,
-        off: u32,
-        items: &mut Option<SharedItems>,
-    ) -> Result<StaticsShape, ItemFault>
-        requires { IsFile self.now
-            → AreSharedIn self.now.frame.now self.now.pools.now items.old }
-        ensures items { IsFile self.now
-            → OnOk result (AreSharedIn self.now.frame.now self.now.pools.now items.new) }
-        ensures shape { IsFile self.now
-            → IfOk result (HasStaticsShape self.now.frame.now off self.now.pools.now) }
-        ensures refused { IsFile self.now → IfErr result (IsStaticsFault self.now.frame.now off) }
-    {
-        match items {
-            Some(items) => checked_statics_at(self.frame, self.pools, off, &mut items.statics),
-            None => check_statics(self.frame, self.pools, off),
-        }
-    }
-
     // The static values at an offset: in memory of their own, or in that of the shared items, if there are some.
     fn values_at(
         &self,
@@ -230,18 +211,29 @@ impl<'f> RowReader<'_, 'f, '_> {
     }
 
     /// Reads the values that the static fields of the class begin with, or none where the row's offset is 0. They are
-    /// shared, if items are.
+    /// shared, if items are. What is checked already is not checked again.
     ///
-    /// Condition: the items are of this file. Error: `Refused(21)` exactly where no encoded_array_item is there, or it
-    /// has more values than the row declares static fields; `Refused(23)` exactly where they weigh more than `most`;
-    /// `Memory` where an allocation failed.
+    /// Condition: the items and the values that are checked already are of this file. After success and after
+    /// `Refused(23)` those that are checked then are too. Error: `Refused(21)` exactly where no encoded_array_item is
+    /// there, or it has more values than the row declares static fields; `Refused(23)` exactly where they weigh more than
+    /// `most`; `Memory` where an allocation failed.
     ///
     /// Source: "class_def_item", the field `static_values_off`, and "encoded_array_item".
-    fn read_static_values(&self, items: &mut Option<SharedItems>) -> Result<StaticValues, ItemFault>
-        requires { IsFile self.now
+    fn read_static_values(
+        &self,
+        items: &mut Option<SharedItems>,
+        checked: &mut CheckedStatics,
+    ) -> Result<StaticValues, ItemFault>
+        requires items { IsFile self.now
             → AreSharedIn self.now.frame.now self.now.pools.now items.old }
+        requires checked { IsFile self.now
+            → AreCheckedStatics self.now.frame.now self.now.pools.now checked.old }
         ensures items { IsFile self.now
             → OnOk result (AreSharedIn self.now.frame.now self.now.pools.now items.new) }
+        ensures checked { IsFile self.now
+            → OnOk result (AreCheckedStatics self.now.frame.now self.now.pools.now checked.new) }
+        ensures heavy { IsFile self.now → IfErr result (IfTooHeavy
+            (AreCheckedStatics self.now.frame.now self.now.pools.now checked.new)) }
         ensures read { ReadsValues self.now self.now.row.now.static_values_off
             (length self.now.declared.now.static_fields.items) result }
         ensures refused { RefusesValuesWithin self.now self.now.row.now.static_values_off
@@ -251,7 +243,7 @@ impl<'f> RowReader<'_, 'f, '_> {
         if off == 0 {
             return Ok(StaticValues::own(0, Vec::new(self.alloc)));
         }
-        let shape = self.shape_of_values(off, items)?;
+        let shape = checked_statics_at(self.frame, self.pools, off, checked)?;
         let weight = self.weight_of_values(shape)?;
         if weight > self.most {
             return Err(too_heavy());
@@ -262,20 +254,28 @@ impl<'f> RowReader<'_, 'f, '_> {
     /// Reads what the class row declares: the members of its class data, with what is at the row beside it. Returns it
     /// with the weight of the code, or 2^64 - 1 where that is more.
     ///
-    /// Condition: the row declares the members; what classes share is of this file. Error: `Refused` with a number from 18
-    /// to 22, a condition that fails at the row; `Refused(23)` at the part that weighs more than `most`, and what comes
-    /// after it is not looked at; `Memory` where an allocation failed.
+    /// Condition: the row declares the members; what classes share and the static values that are checked already are of
+    /// this file. After success and after `Refused(23)` those that are checked then are too. Error: `Refused` with a
+    /// number from 18 to 22, a condition that fails at the row; `Refused(23)` at the part that weighs more than `most`,
+    /// and what comes after it is not looked at; `Memory` where an allocation failed.
     ///
     /// Source: "class_def_item", the fields `annotations_off` and `static_values_off`, and "encoded_method format", the
     /// field `code_off`.
     pub(crate) fn read_contents(
         &self,
         shared: &mut SharedMembers<'f>,
+        checked: &mut CheckedStatics,
     ) -> Result<(Contents<'f>, u64), ItemFault>
-        requires { IsFile self.now
+        requires shared { IsFile self.now
             → AreSharedMembers self.now.frame.now self.now.pools.now shared.old }
+        requires checked { IsFile self.now
+            → AreCheckedStatics self.now.frame.now self.now.pools.now checked.old }
         ensures shared { IsFile self.now
             → OnOk result (AreSharedMembers self.now.frame.now self.now.pools.now shared.new) }
+        ensures checked { IsFile self.now
+            → OnOk result (AreCheckedStatics self.now.frame.now self.now.pools.now checked.new) }
+        ensures heavy { IsFile self.now → IfErr result (IfTooHeavy
+            (AreCheckedStatics self.now.frame.now self.now.pools.now checked.new)) }
         ensures read { ReadsContents self.now self.now.row.now self.now.declared.now result }
         ensures held { IfOk result (λ x. AreHeld x.0) }
         ensures refused { RefusesParts self.now self.now.row.now self.now.declared.now result }
@@ -299,7 +299,7 @@ impl<'f> RowReader<'_, 'f, '_> {
             &mut scratch,
             &mut shared.codes,
         )?;
-        let static_values = self.read_static_values(&mut shared.items)?;
+        let static_values = self.read_static_values(&mut shared.items, checked)?;
         let sets = &directory.fields;
         let contents = Contents {
             static_fields: attach_fields(alloc, &declared.static_fields, sets)?,

@@ -1,7 +1,7 @@
 //! Numberings: symbols, each with the number of its place in the order of its kind. A numbering has five tables, each
 //! sorted, whose rows are numbers of rows below them.
 
-ghost use Rattle.std.specs.Prelude.{◌≡◌, ◌<◌, ◌^◌, ◌-◌, ℕ, List, length, slice_index_or, min, IfOk, []};
+ghost use Rattle.std.specs.Prelude.{◌≡◌, ◌<◌, ◌≤◌, ◌^◌, ◌-◌, ℕ, List, length, slice_index_or, min, IfOk, []};
 ghost use Rattle.dexspec.specs.Weight.{mentions_weight};
 ghost use Rattle.dexspec.specs.Symbols.{Proto, Field, Method};
 ghost use Rattle.dexpool.specs.Pools.{count_of};
@@ -9,7 +9,7 @@ ghost use Rattle.dexpool.specs.Numberings.{IsAt, IsNumbering, DenotesProto, Deno
 
 use crate::pools::Pools;
 use crate::symbols::SymbolKind;
-use dexids::{Parameters, ProtoEntry};
+use dexids::{Parameters, ProtoEntry, Span};
 use dexrows::{FieldRow, MethodRow, ProtoRow};
 use dexstr::Text;
 use std::alloc::{AllocError, Global};
@@ -182,6 +182,29 @@ impl<'a> Numbering<'a> {
         let entry = self.tables.protos[i];
         let parameters = self.tables.parameters.part(entry.parameters);
         ProtoRow::of(entry.shorty, entry.return_type, parameters)
+    }
+
+    // Where the parameters of a proto are in the table of all parameters.
+    pub(crate) fn parameters_span(&self, i: usize) -> Span
+        requires { i < length self.now.protos }
+    {
+        self.tables.protos[i].parameters
+    }
+
+    // Proto `found`, if it is before proto `i` and its parameters are at the same place, and else proto `i`.
+    pub(crate) fn first_or_same(&self, found: usize, i: usize) -> usize
+        requires { i < length self.now.protos }
+        ensures before { result ≤ i }
+        ensures equal { (d : Proto) → (slice_index_or self.now.protos result d).parameters
+            ≡ (slice_index_or self.now.protos i d).parameters }
+    {
+        if found < i {
+            let parameters = self.tables.protos[found].parameters;
+            if parameters.is(self.tables.protos[i].parameters) {
+                return found;
+            }
+        }
+        i
     }
 
     /// The numbers of the parts of a field.

@@ -3,7 +3,6 @@ use Rattle.std.specs.Prelude.{ℕ, List, Option, IfSome, nat_eq}
 use Rattle.std.specs.HashMap.{get}
 use Rattle.dexspec.specs.Mentions.{Mentions}
 use Rattle.dexval.specs.declared.shared_items.SharedItems.{SharedItems}
-use Rattle.dexval.specs.CheckedStatics.{AreCheckedStatics}
 use Rattle.dexval.specs.Reading.{AreStaticsAt, IsSetAt}
 
 -- each item is at its offset
@@ -11,7 +10,6 @@ pub record AreShared (b : List ℕ) (m : Mentions) (items : SharedItems) : Type 
   pub sets_shared : (off : ℕ) → IfSome (get nat_eq items.sets off) (λ set. IsSetAt b off m set.value)
   pub values_shared : (off : ℕ)
       → IfSome (get nat_eq items.values off) (λ values. AreStaticsAt b off m values.value)
-  pub statics_checked : AreCheckedStatics b m items.statics
 
 -- so is each item, if some are shared
 abbrev pub AreSharedIn : List ℕ → Mentions → Option SharedItems → Type 0

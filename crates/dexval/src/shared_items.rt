@@ -9,7 +9,7 @@ ghost use Rattle.dexval.specs.SharedItems.{AreShared};
 
 use crate::weighed_set::WeighedSet;
 use crate::weighed_values::WeighedValues;
-use crate::{CheckedStatics, read_set, read_statics};
+use crate::{read_set, read_statics};
 use dexhead::{Frame, u32_at};
 use dexpool::{ItemFault, Pools};
 use std::alloc::Global;
@@ -41,8 +41,6 @@ pub struct SharedItems {
     alloc: Global,
     pub(crate) sets: HashMap<u32, Rc<WeighedSet>>,
     pub(crate) values: HashMap<u32, Rc<WeighedValues>>,
-    /// The arrays of static values that were checked. Those that are not read yet may be among them.
-    pub statics: CheckedStatics,
 }
 
 impl SharedItems {
@@ -54,7 +52,6 @@ impl SharedItems {
             alloc,
             sets: HashMap::new(alloc),
             values: HashMap::new(alloc),
-            statics: CheckedStatics::none(alloc),
         }
     }
 }

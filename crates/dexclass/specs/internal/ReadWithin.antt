@@ -9,3 +9,8 @@ use Rattle.dexids.specs.declared.faults.ReadFault.TheVariants.{Refused, Memory}
 abbrev pub IsFaultWithin : ℕ → List ℕ → ReadFault → Type 0
 IsFaultWithin most b Memory = Unit {0}
 IsFaultWithin most b (Refused r) = IsRefused b r.number r.place ⊎ ((r.number ≡ 23) × (most < most_weight))
+
+-- so it is if the fault is that something is too heavy: 23
+abbrev pub IfTooHeavy : Type 0 → ReadFault → Type 0
+IfTooHeavy P Memory = Unit {0}
+IfTooHeavy P (Refused r) = r.number ≡ 23 → P

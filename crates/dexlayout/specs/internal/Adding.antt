@@ -1,5 +1,5 @@
 -- What a call adds to the uses that were found before.
-use Rattle.std.specs.Prelude.{◌≡◌, ℕ, Bool, List, [], ◌∷◌, ◌++◌, Option, Result, MatchOption, OnOk, All, map}
+use Rattle.std.specs.Prelude.{◌≡◌, ℕ, Bool, List, [], ◌∷◌, ◌++◌, Option, None, Result, MatchOption, OnOk, All, map, slice_index_or}
 use Rattle.std.specs.Borrow.{Bor}
 use Rattle.dexspec.specs.Texts.{Text}
 use Rattle.dexspec.specs.Annotations.{AnnotationSet}
@@ -13,6 +13,7 @@ use Rattle.dexclass.specs.Numbered.{NumberedClass}
 use Rattle.dexclass.specs.Uses.{IsKnownClass}
 use Rattle.dexlayout.specs.declared.sharing.Sharing.{Sharing}
 use Rattle.dexlayout.specs.declared.sharing.Shared.{Shared}
+use Rattle.dexlayout.specs.declared.list_sharing.ListSharing.{ListSharing}
 use Rattle.dexlayout.specs.internal.Sharing.{HaveItems}
 use Rattle.dexlayout.specs.internal.SharedUses.{SharesLists, SharesSets, interfaces_use, set_use}
 
@@ -44,6 +45,12 @@ AddsUses {Y = Y} Shares result old new IsKnown uses_of x =
 abbrev pub list_uses : Mentions → List ℕ → List (Option (List Text))
 list_uses m list = unless_empty (map (type_at m) list) ∷ []
 
+-- a use more, of the list that the use at a place has
+abbrev pub AddsListAgain : {A E : Type 0} → ℕ → Result A E → Sharing (List ℕ) → Sharing (List ℕ) → Type 0
+AddsListAgain place result old new =
+    (m : Mentions) (uses : List (Option (List Text))) → SharesLists m uses old.items.keys old.numbers.items
+    → OnOk result (SharesLists m (uses ++ slice_index_or uses place None ∷ []) new.items.keys new.numbers.items)
+
 -- the uses of all protos more
 abbrev pub AddsParameters : {A E : Type 0} → Mentions → Result A E → Sharing (List ℕ) → Sharing (List ℕ) → Type 0
 AddsParameters m result old new =
@@ -62,13 +69,20 @@ interfaces_uses m cs = map (interfaces_use m) cs
 -- ---- sets
 
 -- the use of a set more, which is empty where there is none
-abbrev pub AddsSet : {A E : Type 0} → Result A E → Sharing (Bor CodeSet) → Sharing (Bor CodeSet) → Option (Bor CodeSet)
-    → Type 0
+abbrev pub AddsSet : {A E : Type 0} → Result A E → ListSharing (Bor CodeSet) → ListSharing (Bor CodeSet)
+    → Option (Bor CodeSet) → Type 0
 AddsSet result old new set =
     (m : Mentions) (uses : List (Option AnnotationSet)) (meant : NumberedSet)
     → MatchOption set (meant ≡ []) (λ s. set_of s.now ≡ meant) → IsKnownSet m meant
-    → SharesSets m uses old.items.keys old.numbers.items
-    → OnOk result (SharesSets m (uses ++ set_use m meant ∷ []) new.items.keys new.numbers.items)
+    → SharesSets m uses old.items.keys old.numbers
+    → OnOk result (SharesSets m (uses ++ set_use m meant ∷ []) new.items.keys new.numbers)
+
+-- the uses of the sets of a thing more, where the numbers in it are known
+abbrev pub AddsSets : {T A E : Type 0} → Result A E → ListSharing (Bor CodeSet) → ListSharing (Bor CodeSet)
+    → (Mentions → T → Type 0) → (Mentions → T → List (Option AnnotationSet)) → T → Type 0
+AddsSets result old new IsKnown uses_of x =
+    (m : Mentions) (uses : List (Option AnnotationSet)) → IsKnown m x → SharesSets m uses old.items.keys old.numbers
+    → OnOk result (SharesSets m (uses ++ uses_of m x) new.items.keys new.numbers)
 
 -- the numbers in a method's sets of parameters are known
 abbrev pub AreKnownParameters : Mentions → List NumberedSet → Type 0

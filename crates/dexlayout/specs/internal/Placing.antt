@@ -1,5 +1,6 @@
 -- Items of a layout, from the offset on where those of the sections before end.
-use Rattle.std.specs.Prelude.{◌≡◌, ℕ, List, [], ◌∷◌, ◌++◌, Option, Some, map, length, All, slice_index}
+use Rattle.std.specs.Prelude.{◌≡◌, ℕ, ◌^◌, ◌≤◌, List, [], ◌∷◌, ◌++◌, Option, Some, map, length, All, slice_index}
+use Rattle.std.specs.Prelude.{Result, OnOk}
 use Rattle.std.specs.Option.{option_map_or}
 use Rattle.std.specs.Borrow.{Bor}
 use Rattle.std.specs.List.{flat_map}
@@ -20,13 +21,15 @@ use Rattle.dexval.specs.Numbered.{set_in, type_at, IsKnownSet}
 use Rattle.dexclass.specs.Numbered.{NumberedClass}
 use Rattle.dexlayout.specs.declared.data.Back.{Back}
 use Rattle.dexlayout.specs.declared.data.Data.{Data}
+use Rattle.dexlayout.specs.declared.list_sharing.ListShared.{ListShared}
 use Rattle.dexlayout.specs.declared.sharing.Shared.{Shared}
 use Rattle.dexlayout.specs.declared.tables.Tables.{Tables}
 use Rattle.dexlayout.specs.Places.{ItemPlaces, EncodedItems, KeptItems, EncodedSharedItems, SharedPlaces, SetPlaces}
 use Rattle.dexlayout.specs.Laid.{ordered_of, file_end, AreWritable, AreLaidSo, AreLaidIn, AreAnnotations, AreCodes}
 use Rattle.dexlayout.specs.Laid.{AreClassData, AreDirectories, AreRefLists, AreSets, AreShared}
 use Rattle.dexlayout.specs.internal.Parts.{AreTables, AreBack, AreData, entry_of, section_parts}
-use Rattle.dexlayout.specs.internal.Encoding.{encode_use, encode_uses, list_bytes, no_items_from}
+use Rattle.dexlayout.specs.internal.Encoding.{encode_use, encode_uses, list_bytes, no_items_from, without_bytes}
+use Rattle.dexlayout.specs.internal.OffsetLists.{list_item}
 
 -- ---- sections
 
@@ -85,6 +88,18 @@ CanPlaceRefLists cs sets = (m : Mentions) × AreWritable m cs × AreSets m cs se
 -- they are placed so
 abbrev pub PlacedRefLists : List NumberedClass → SetPlaces → ItemPlaces → Type 0
 PlacedRefLists cs sets p = (m : Mentions) → AreWritable m cs → AreSets m cs sets → AreRefLists m cs p
+
+-- a list of `count` sets can be added to items at these places
+abbrev pub CanPutList : ℕ → ItemPlaces → Type 0
+CanPutList count p =
+    (list : List ℕ) × (length list ≡ count)
+    × ((encode_use 4 (without_bytes p) (list_item list)).places.end ≤ 2 ^ 30)
+
+-- it is added, whatever its offsets
+abbrev pub PutsList : {A E : Type 0} → Result A E → ℕ → ItemPlaces → ItemPlaces → Type 0
+PutsList result count old new =
+    (list : List ℕ) → length list ≡ count
+    → OnOk result (new ≡ (encode_use 4 (without_bytes old) (list_item list)).places)
 
 -- the directories can be placed, by these offsets of the sets and of the lists of sets
 abbrev pub CanPlaceDirectories : List NumberedClass → SetPlaces → ItemPlaces → Type 0
@@ -158,11 +173,11 @@ AreSharedBy cs written numbers =
     (m : Mentions) → AreWritable m cs
     → AreShared (λ s. set_in m (set_of s.now)) (set_items (ordered_of m cs)) written numbers
 
-abbrev pub HaveSets : List NumberedClass → Shared (Bor CodeSet) → Type 0
-HaveSets cs shared = AreSharedBy cs shared.written.items shared.numbers.items
+abbrev pub HaveSets : List NumberedClass → ListShared (Bor CodeSet) → Type 0
+HaveSets cs shared = AreSharedBy cs shared.written.items shared.numbers
 
 -- the numbers in the sets are known
-abbrev pub HaveKnownSets : List NumberedClass → Shared (Bor CodeSet) → Type 0
+abbrev pub HaveKnownSets : List NumberedClass → ListShared (Bor CodeSet) → Type 0
 HaveKnownSets cs shared = (m : Mentions) → AreWritable m cs → AreKnownSets m shared.written.items
 
 -- no offsets of sets yet, beside the sets that are written

@@ -1,9 +1,11 @@
 use Rattle.dexclass.proofs.Common.{◌≡◌, ◌<◌, ◌+◌, ◌*◌, ◌∙◌, ℕ, ap, length, refl, sym, subst, arith, interfaces_off, Condition, ClassDefs, table_size}
+use Rattle.dexmembers.specs.Checking.{AreChecks}
 use Rattle.dexclass.specs.internal.Reading.{AreBodies}
 use Rattle.dexclass.specs.internal.Rows.{HasInterfaceList, interface_indices}
 use Rattle.dexclass.specs.{class_of_row, number_of}
-use Rattle.dexclass.specs.internal.ReadWithin.{IsFaultWithin}
+use Rattle.dexclass.specs.internal.ReadWithin.{IsFaultWithin, IfTooHeavy}
 use Rattle.dexclass.proofs.Interfaces.{row_interfaces}
+use Rattle.dexclass.proofs.AfterFaults.{at_row_heavy}
 use Rattle.dexclass.proofs.RowFaults.{row_fault_up_to, heavy_within}
 use Rattle.dexclass.proofs.Summing.{class_heavy, class_more}
 use Rattle.dexclass.proofs.reading.read_bodies_within.Goals as goal
@@ -41,6 +43,16 @@ returns-then-before-most-clause-refused c =
     (class_heavy b c.args.pools.now c.requires.pools c.requires.before c.loop-r.r lt c.saturating_sub-left.result c.in-Ok.found.0 read.0 w
     (omega (arith, own (goal.at.returns-then-before-most-clause-refused c).After-row_weight-own, read.1)) c.loop-r.bodies c.loop-r.invariant.bodies_are))
 
+pub returns-in-Err-clause-checks : goal.returns-in-Err-clause-checks
+returns-in-Err-clause-checks c =
+    let lt : c.loop-r.r < table_size c.args.frame.now ClassDefs = omega (arith, c.loop-r-test.true, c.size-rows.ensures) in
+    at_row_heavy (AreChecks c.args.frame.now c.args.pools.now c.read_shared_members.new.checks) c.loop-r.r c.in-Err.fault c.at_row.result c.at_row.ensures
+    (c.in-Err.ensures.heavy c.loop-r.r c.at-row.ensures c.requires.pools (c.requires.before Condition.Classes (omega arith) c.loop-r.r lt))
+
+pub returns-then-before-most-clause-checks : goal.returns-then-before-most-clause-checks
+returns-then-before-most-clause-checks c =
+    subst (IfTooHeavy (AreChecks c.args.frame.now c.args.pools.now c.read_shared_members.new.checks)) (sym c.too_heavy.ensures) (λ heavy. c.in-Ok.ensures.checks c.requires.pools)
+
 pub loop-r-preserved : goal.loop-r-preserved
 loop-r-preserved c =
     let b = c.args.frame.now in
@@ -57,6 +69,7 @@ loop-r-preserved c =
       bodies_are = class_more b c.args.pools.now c.requires.pools c.requires.before c.loop-r.r lt c.saturating_sub-left.result c.in-Ok.found.0 read.0 w (omega (arith, own (goal.at.loop-r-preserved c).After-row_weight-own, c.from.ensures, read.1))
           c.loop-r.bodies c.loop-r.invariant.bodies_are (omega (arith, c.if-before-most.false, c.requires.most, c.saturating_sub-left.ensures, c.from.ensures, read.0.light, read.1)) _ class (record { classes = c.push.new.self; weight = c.loop-r.bodies.weight + w }) c.in_ok-push.ensures.items refl;
       shared_are = c.in-Ok.ensures.shared c.requires.pools;
+      checks_are = c.in-Ok.ensures.checks c.requires.pools;
     }
 
 pub returns-clause-accepted : goal.returns-clause-accepted

@@ -1,4 +1,4 @@
-use Rattle.dexlayout.proofs.Common.{◌≡◌, ℕ, ◌+◌, ◌∷◌, ◌++◌, List, length, drop, sym, ap, subst, ◌∙◌, arith, drop_all, NumberedSet, NumberedMembers, NumberedMethod, NumberedClass, methods_of, ordered_of, ItemPlaces, EncodedItems, SetPlaces, encode_uses, no_items_from, class_parameter_counts, list_item, offset_lists, parameter_counts}
+use Rattle.dexlayout.proofs.Common.{◌≡◌, ℕ, ◌+◌, ◌∷◌, ◌++◌, List, length, take, drop, refl, sym, ap, subst, ◌∙◌, arith, drop_all, NumberedSet, NumberedMembers, NumberedMethod, NumberedClass, methods_of, ordered_of, ItemPlaces, EncodedItems, SetPlaces, encode_uses, no_items_from, class_parameter_counts, list_item, offset_lists, parameter_counts}
 use Rattle.dexlayout.proofs.EncodedUses.{given_next}
 use Rattle.dexlayout.proofs.Ends.{end_in_file}
 use Rattle.dexlayout.proofs.RefLists.{class_counts, list_enough, list_fits, lists_more, lists_same, next_counts, no_lists, parameters_enough, ref_lists_laid}
@@ -30,22 +30,22 @@ counts g c =
     ap (λ ns. ns ++ class_parameter_counts (drop (c.loop-class.class-index + 1) c.args.classes.now))
     (next_counts (λ (x : NumberedMethod). length x.parameter_annotations) (methods_of c.members-members.result.now) c.loop-i.i c.method_at.result c.len.result (omega (arith, c.loop-i-test.true, c.method_count-i-end.ensures)) (sym c.method_at.ensures) many)
 
-pub split_at-requires : goal.split_at-requires
-split_at-requires g c = list_enough c.loop-i.rest.now (counts g (goal.at.split_at-requires g c).After-len) c.loop-i.invariant.enough
+pub encode_list-at-requires-clause-enough : goal.encode_list-at-requires-clause-enough
+encode_list-at-requires-clause-enough g c = list_enough c.loop-i.rest (counts g (goal.at.encode_list-at-requires-clause-enough g c).After-len) c.loop-i.invariant.enough
 
-pub encode_list-at-requires : goal.encode_list-at-requires
-encode_list-at-requires g c =
+pub encode_list-at-requires-clause-fits : goal.encode_list-at-requires-clause-fits
+encode_list-at-requires-clause-fits g c =
     omega (
       arith,
-      list_fits c.loop-i.rest.now (counts g (goal.at.encode_list-at-requires g c).After-len) c.split_at.ensures.back c.split_at.ensures.front c.loop-i.invariant (no_items_from c.loop-i.at) (λ items h. h.ends),
+      list_fits c.loop-i.rest (counts g (goal.at.encode_list-at-requires-clause-fits g c).After-len) refl refl c.loop-i.invariant (no_items_from c.loop-i.at) (λ items h. h.ends),
       (ref_lists_laid c.requires.0 c.args.classes.now c.requires.2).places_are.end_is,
       (end_in_file (ordered_of c.requires.0 c.args.classes.now) c.requires.1.fits).ref_lists,
     )
 
 pub loop-i-preserved : goal.loop-i-preserved
 loop-i-preserved g c =
-    lists_more c.loop-i.rest.now (counts g (goal.at.loop-i-preserved g c).After-len) c.split_at.ensures.back c.split_at.ensures.front c.loop-i.invariant
-    (given_next (list_item c.split_at.result.0.now) g.met.O.Output.both c.encode_list-at.ensures.end c.encode_list-at.ensures.given)
+    lists_more c.loop-i.rest (counts g (goal.at.loop-i-preserved g c).After-len) c.encode_list-at.ensures.others refl c.loop-i.invariant
+    (given_next (list_item (take c.len.result c.loop-i.rest)) g.met.O.Output.both c.encode_list-at.ensures.end c.encode_list-at.ensures.given)
 
 pub loop-class-preserved : goal.loop-class-preserved
 loop-class-preserved g c =

@@ -2,20 +2,17 @@ use Rattle.dexlayout.proofs.Common.{◌≡◌, ℕ, ◌+◌, ◌<◌, List, leng
 use Rattle.dexlayout.proofs.SetsCollected.{next_parts, next_count}
 use Rattle.dexlayout.proofs.sets.Sets.collect_methods.Goals as goal
 
-pub split_at-sets-requires : goal.split_at-sets-requires
-split_at-sets-requires c =
+pub collect_method-requires : goal.collect_method-requires
+collect_method-requires c =
     let many : c.len.result ≡ length c.method_at.result.parameter_annotations = c.len.ensures ∙ ap (λ (l : List NumberedSet). length l) c.parameter_annotations-parameters.ensures in
     omega (arith, many, next_count (methods_of c.args.members.now) c.loop-i.i c.method_at.result (omega (arith, c.loop-i-test.true, c.method_count-i-end.ensures)) (sym c.method_at.ensures), c.loop-i.invariant.enough)
-
-pub collect_method-requires : goal.collect_method-requires
-collect_method-requires c = omega (arith, c.split_at-sets.ensures.first_len)
 
 pub loop-i-preserved : goal.loop-i-preserved
 loop-i-preserved c =
     let xs = methods_of c.args.members.now in
     let i = c.loop-i.i in
     let x = c.method_at.result in
-    let rest = c.loop-i.rest in
+    let offs = c.loop-i.offs in
     let n = length (sets_of_method x) in
     let more = drop (i + 1) xs in
     let k = length (flat_map sets_of_method more) in
@@ -23,12 +20,11 @@ loop-i-preserved c =
     let many : c.len.result ≡ length x.parameter_annotations = c.len.ensures ∙ ap (λ (l : List NumberedSet). length l) c.parameter_annotations-parameters.ensures in
     let lt : i < length xs = omega (arith, c.loop-i-test.true, c.method_count-i-end.ensures) in
     let count : 1 + c.len.result ≡ n = omega (arith, many) in
-    let first_sections : c.split_at-sets.result.0 ≡ take n rest = c.split_at-sets.ensures.first ∙ ap (λ j. take j rest) count in
-    let back : c.split_at-sets.result.1 ≡ drop n rest = c.split_at-sets.ensures.back ∙ ap (λ j. drop j rest) count in
-    let self : c.collect_method.new.self ≡ collect_method c.loop-i.self (take n rest) = c.in_ok-collect_method.ensures ∙ ap (collect_method c.loop-i.self) first_sections in
+    let self : c.collect_method.new.self ≡ collect_method c.loop-i.self (take n offs) = c.in_ok-collect_method.ensures.collected ∙ ap (λ j. collect_method c.loop-i.self (take j offs)) count in
+    let back : c.collect_method.new.offs ≡ drop n offs = c.in_ok-collect_method.ensures.left ∙ ap (λ j. drop j offs) count in
     let counts : n + k ≡ length (flat_map sets_of_method (drop i xs)) = sym (next_count xs i x lt (sym c.method_at.ensures)) in
     record {
-      collected = (λ j. collect_methods (self j) (parts_of_methods more (back j))) ∙ sym (next_parts xs i x lt (sym c.method_at.ensures) c.loop-i.self rest) ∙ h.collected;
-      left = ap (drop k) back ∙ drop-drop k n rest ∙ ap (λ j. drop j rest) counts ∙ h.left;
-      enough = omega (arith, ap (λ (l : List ℕ). length l) back, length-drop n rest, counts, h.enough);
+      collected = (λ j. collect_methods (self j) (parts_of_methods more (back j))) ∙ sym (next_parts xs i x lt (sym c.method_at.ensures) c.loop-i.self offs) ∙ h.collected;
+      left = ap (drop k) back ∙ drop-drop k n offs ∙ ap (λ j. drop j offs) counts ∙ h.left;
+      enough = omega (arith, ap (λ (l : List ℕ). length l) back, length-drop n offs, counts, h.enough);
     }

@@ -13,4 +13,4 @@ loop-i-preserved c = λ m uses known h.
     let means : c.interfaces.result ≡ x.interfaces = c.interfaces.ensures in
     subst (λ us. SharesLists m us c.add_list.new.self.items.keys c.add_list.new.self.numbers.items)
     (ap (λ ns. (uses ++ map (interfaces_use m) (take i cs)) ++ unless_empty (map (type_at m) ns) ∷ []) means ∙ uses_next (interfaces_use m) uses cs i x c.loop-i-test.true (sym c.index-classes-i.is))
-    (c.in_ok-add_list.ensures m (uses ++ map (interfaces_use m) (take i cs)) (subst (AreTypes m) (sym means) interfaces) (c.loop-i.invariant m uses known h))
+    (c.in_ok-add_list.ensures.added m (uses ++ map (interfaces_use m) (take i cs)) (subst (AreTypes m) (sym means) interfaces) (c.loop-i.invariant m uses known h))

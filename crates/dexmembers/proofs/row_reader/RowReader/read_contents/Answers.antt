@@ -4,6 +4,8 @@ use Rattle.dexmembers.specs.StaticValues.{values_in}
 use Rattle.dexmembers.specs.internal.Attaching.{held_codes}
 use Rattle.dexmembers.specs.internal.MethodCodes.{AreCodesOf, IsCodesFaultWithin}
 use Rattle.dexmembers.specs.declared.class_data.EncodedMethod.{EncodedMethod}
+use Rattle.dexval.specs.CheckedStatics.{AreCheckedStatics}
+use Rattle.dexmembers.proofs.AfterFaults.{still_holds}
 use Rattle.dexmembers.proofs.Attachments.{fields_attached, methods_attached, fields_held, methods_held, few_places}
 use Rattle.dexmembers.proofs.RowsAreAt.{annotations_part, direct_part, virtual_part, values_part}
 use Rattle.dexmembers.proofs.row_reader.RowReader.read_contents.Goals as goal
@@ -87,3 +89,23 @@ returns-clause-held c =
       direct_codes_placed = c.in_ok-direct_methods.ensures.placed;
       virtual_codes_placed = c.in_ok-virtual_methods.ensures.placed;
     }
+
+pub returns-in_err-directory-clause-heavy : goal.returns-in_err-directory-clause-heavy
+returns-in_err-directory-clause-heavy c = λ pools.
+    let p = err_from_is_err_and c.from_residual.result c.from_residual.ensures.1 in
+    rw (p.1, p.2) (still_holds (AreCheckedStatics c.args.self.now.frame.now c.args.self.now.pools.now c.args.checked.now) c.in_err-directory.field-0.0 (c.requires.checked pools))
+
+pub returns-in_err-direct_methods-clause-heavy : goal.returns-in_err-direct_methods-clause-heavy
+returns-in_err-direct_methods-clause-heavy c = λ pools.
+    let p = err_from_is_err_and c.from_residual-in_err-direct_methods.result c.from_residual-in_err-direct_methods.ensures.1 in
+    rw (p.1, p.2) (still_holds (AreCheckedStatics c.args.self.now.frame.now c.args.self.now.pools.now c.args.checked.now) c.in_err-direct_methods.field-0.0 (c.requires.checked pools))
+
+pub returns-in_err-virtual_methods-clause-heavy : goal.returns-in_err-virtual_methods-clause-heavy
+returns-in_err-virtual_methods-clause-heavy c = λ pools.
+    let p = err_from_is_err_and c.from_residual-in_err-virtual_methods.result c.from_residual-in_err-virtual_methods.ensures.1 in
+    rw (p.1, p.2) (still_holds (AreCheckedStatics c.args.self.now.frame.now c.args.self.now.pools.now c.args.checked.now) c.in_err-virtual_methods.field-0.0 (c.requires.checked pools))
+
+pub returns-in_err-static_values-clause-heavy : goal.returns-in_err-static_values-clause-heavy
+returns-in_err-static_values-clause-heavy c = λ pools.
+    let p = err_from_is_err_and c.from_residual-in_err-static_values.result c.from_residual-in_err-static_values.ensures.1 in
+    rw (p.1, p.2) (c.in_err-static_values.ensures.heavy pools)

@@ -332,6 +332,7 @@ OF_MANY = [
     shaped("classes-over-annotations", Shape(classes=MANY, fields=1, value=shapes.annotated_array(1_000))),
     shaped("last-value-is-none", Shape(classes=MANY, fields=1, value=shapes.nulls(1_000), bad=True)),
     shaped("methods-share-parameters", Shape(methods=MANY, parameters=200_000, protos=1_000)),
+    shaped("classes-share-parameters", Shape(classes=60, methods=1_000, parameters=300_000, protos=1_000)),
     one("methods-over-overlapping-lists", "ok classes=1", lambda: methods_of_overlapping_lists(3_000)),
 ]
 

@@ -1,5 +1,6 @@
 -- Lists that are equal member by member, once their numbers are remapped.
 use Rattle.dexval.proofs.Common.{◌≡◌, ℕ, ◌<◌, ◌≤◌, List, [], ◌∷◌, length, take, map, get_or, refl, ap, sym, ◌∙◌, arith, take_all, get_or-map, length-map, Maps, NumberedValue, NumberedValues, NumberedElements, NoValue, ThenNext, NoElement, ThenNamed, values_of_list, elements_of_list, renumbered, renumbered_values, renumbered_elements, renumbered_element}
+use Rattle.dexval.specs.Numbered as numbered
 use Rattle.dexval.proofs.Renumbered.{values_renumbered, elements_renumbered}
 
 -- ---- lists of the same items
@@ -36,6 +37,16 @@ list_of_values (ThenNext x xs) = x ∷ list_of_values xs
 values_listed : (xs : List NumberedValue) → list_of_values (values_of_list xs) ≡ xs
 values_listed [] = refl
 values_listed (x ∷ xs) = ap (λ l. x ∷ l) (values_listed xs)
+
+-- the values in an array
+abbrev list_in_array : NumberedValue → List NumberedValue
+list_in_array (numbered.Array values) = list_of_values values
+list_in_array (numbered.Plain literal) = []
+list_in_array (numbered.Named kind i) = []
+list_in_array (numbered.Annotated typ elements) = []
+
+pub values_in_array : (xs ys : List NumberedValue) → numbered.Array (values_of_list xs) ≡ numbered.Array (values_of_list ys) → xs ≡ ys
+values_in_array xs ys e = sym (values_listed xs) ∙ ap list_in_array e ∙ values_listed ys
 
 -- equal values are equal as lists
 pub values_same : (r q : Maps) (xs ys : List NumberedValue) → renumbered_values r (values_of_list xs) ≡ renumbered_values q (values_of_list ys) → map (renumbered r) xs ≡ map (renumbered q) ys

@@ -12,7 +12,25 @@ use crate::{Annotation, AnnotationSet, Element, Value};
 use dexpool::Remap;
 use std::hash::{Hash, Hasher};
 
-// Returns whether two values are the same. Numbers are compared as they are, but for those inside other values.
+// Returns whether values are the same, one for one.
+#[cycle(comparing)]
+fn are_same(values: &[Value], others: &[Value], nowhere: &Remap) -> bool
+    requires { nowhere.now ≡ no_images }
+    ensures { IsTrue result ↔ (map value_of values.now ≡ map value_of others.now) }
+{
+    if values.len() != others.len() {
+        return false;
+    }
+    for i in 0..values.len() {
+        if !is_same_value(&values[i], &others[i], nowhere) {
+            return false;
+        }
+    }
+    true
+}
+
+// Returns whether two values are the same. Numbers are compared as they are, but for those in annotations.
+#[cycle(comparing)]
 fn is_same_value(value: &Value, other: &Value, nowhere: &Remap) -> bool
     requires { nowhere.now ≡ no_images }
     ensures { IsTrue result ↔ (value_of value.now ≡ value_of other.now) }
@@ -31,6 +49,8 @@ fn is_same_value(value: &Value, other: &Value, nowhere: &Remap) -> bool
         (Value::Method(number), Value::Method(same)) => number == same,
         (Value::Enum(number), Value::Enum(same)) => number == same,
         (Value::Boolean(is), Value::Boolean(same)) => is == same,
+        (Value::Null, Value::Null) => true,
+        (Value::Array(values), Value::Array(others)) => are_same(values, others, nowhere),
         _ => value.same_mapped(nowhere, other, nowhere),
     }
 }
@@ -39,16 +59,7 @@ fn is_same_value(value: &Value, other: &Value, nowhere: &Remap) -> bool
 pub(crate) fn are_same_values(values: &Vec<Value>, others: &Vec<Value>) -> bool
     ensures { IsTrue result → values_of values.now.items ≡ values_of others.now.items }
 {
-    if values.len() != others.len() {
-        return false;
-    }
-    let nowhere = Remap::none(*values.allocator());
-    for i in 0..values.len() {
-        if !is_same_value(&values[i], &others[i], &nowhere) {
-            return false;
-        }
-    }
-    true
+    are_same(values, others, &Remap::none(*values.allocator()))
 }
 
 // Returns whether two elements have the same name and value.

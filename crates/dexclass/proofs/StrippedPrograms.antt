@@ -1,9 +1,10 @@
 -- Classes without their debug programs and source texts make the stripped program.
-use Rattle.dexclass.proofs.Common.{◌≡◌, ℕ, ◌-◌, ◌^◌, ◌<◌, min, List, length, get_or, map, sym, ap, ◌∙◌, subst, arith, All, length-map, get_or-map, All-nil, All-map, Definition, Collection, definitions, IsCollectionOf, Mentions, mentions, in_class_order, AreWellFormed, Caps, IsGood, greatest_caps, strip_definition, strip, strip_collection, IsGood-within, definitions-distinct, in_class_order-only, in_class_order-has, class_names-apart, definitions-are, collection-one, members_in, AreKnownMembers, AreOrdered, AreOfClass, stripped_members, strip_members, members_weight, both_ways}
+use Rattle.dexclass.proofs.Common.{◌≡◌, ℕ, ◌-◌, ◌^◌, ◌<◌, min, List, length, get_or, map, sym, ap, ◌∙◌, subst, arith, All, length-map, get_or-map, All-nil, All-map, Definition, Collection, definitions, IsCollectionOf, Mentions, mentions, in_class_order, AreWellFormed, Caps, IsGood, greatest_caps, strip_definition, strip, strip_collection, IsGood-within, definitions-distinct, in_class_order-only, in_class_order-has, class_names-apart, definitions-are, collection-one, members_in, AreKnownMembers, AreOrdered, AreOfClass, stripped_members, strip_members, members_weight, both_ways, AreDistinct, IsAcyclic}
 use Rattle.dexspec.proofs.strip.StripCollection.{definitions-strip_collection}
 use Rattle.dexspec.proofs.strip.StripGood.{IsGood-strip}
 use Rattle.dexmembers.specs.Weighing.{numbered_members_weight}
-use Rattle.dexclass.specs.{NumberedClass, type_at, definition_of, IsKnownClass, AreClassesOf, AreMergeable}
+use Rattle.dexclass.proofs.ProgramsOf.{one_class_order}
+use Rattle.dexclass.specs.{NumberedClass, no_class, type_at, definition_of, IsKnownClass, AreClassesOf, AreMergeable}
 use Rattle.dexclass.specs.internal.Stripped.{stripped_class}
 use Rattle.dexclass.proofs.Places.{one_place}
 use Rattle.dexclass.proofs.RowClasses.{body_weighs}
@@ -82,3 +83,20 @@ module _ (K : Collection) where
   -- and their program is the stripped one
   pub stripped_collection : (n : Mentions) (cs : List NumberedClass) → AreTrimmed (strip E) n cs → (IsCollectionOf E K → IsCollectionOf (strip E) (strip_collection K)) → (L : Collection) → IsCollectionOf (map (definition_of n) cs) L → L ≡ strip_collection K
   stripped_collection n cs trimmed listed L is = collection-one (strip E) L (strip_collection K) (subst (λ (D : List Definition). IsCollectionOf D L) trimmed.same is) (listed order_of)
+
+  -- no two of its definitions have one name
+  names_apart : AreDistinct (map (λ (d : Definition). d.0) E)
+  names_apart i j t less lt e =
+      let few : j < length E = omega (arith, lt, length-map E (λ (d : Definition). d.0)) in
+      let none : Definition = definition_of (mentions (definitions K)) no_class in
+      class_names-apart (definitions K) i j none less few
+      (sym (get_or-map (λ (d : Definition). d.0) E i none t (omega (arith, less, few))) ∙ e ∙ get_or-map (λ (d : Definition). d.0) E j none t few)
+
+  -- definitions in order are in order
+  in_order : IsAcyclic (definitions K) → in_class_order E ≡ E
+  in_order acyclic =
+      sym (one_class_order (definitions K) E (λ d. (in_class_order-has (definitions K) d (definitions-distinct K), in_class_order-only (definitions K) d)) acyclic (definitions-distinct K) names_apart)
+
+  -- and they are so trimmed, where stripping keeps their order
+  pub stripped_in_order : (n : Mentions) (cs : List NumberedClass) → AreTrimmed (strip E) n cs → IsAcyclic (definitions K) → in_class_order (strip E) ≡ strip (in_class_order E) → in_class_order (map (definition_of n) cs) ≡ map (definition_of n) cs
+  stripped_in_order n cs trimmed acyclic kept = ap in_class_order trimmed.same ∙ kept ∙ ap strip (in_order acyclic) ∙ sym trimmed.same

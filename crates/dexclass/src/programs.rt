@@ -5,6 +5,7 @@ ghost use Rattle.std.specs.FinMap as finite;
 ghost use Rattle.dexspec.specs.Files.{definitions, IsCollectionOf};
 ghost use Rattle.dexspec.specs.WellFormed.{AreWellFormed};
 ghost use Rattle.dexspec.specs.Mentions.{mentions};
+ghost use Rattle.dexspec.specs.Depth.{in_class_order};
 ghost use Rattle.dexspec.specs.Weight.{weight};
 ghost use Rattle.dexspec.specs.Merging.{IsGood, greatest_caps};
 ghost use Rattle.dexclass.specs.Numbered.{definition_of};
@@ -204,6 +205,25 @@ impl<'a> Program<'a> {
         let firsts = first_equal(alloc, &classes)?;
         let depths = depths_with_firsts(alloc, &classes, types, &firsts)?;
         Program::arranged(alloc, numbering, classes, &depths, total)
+    }
+
+    /// The program of classes that are by depth and then by name already, as [`Program::of`] makes it. It computes no
+    /// depths.
+    ///
+    /// Conditions: those of [`Program::of`], and the order.
+    pub(crate) fn of_ordered(numbering: Numbering<'a>, classes: Vec<Class<'a>>) -> Program<'a>
+        requires mergeable { AreMergeable numbering classes.items }
+        requires order { in_class_order (map (definition_of numbering) classes.items)
+            ≡ map (definition_of numbering) classes.items }
+        ensures { IsCollectionOf (map (definition_of numbering.entry) classes.entry.items) result }
+    {
+        numbering.is_numbering();
+        let weight = weight_of(&numbering, &classes);
+        Program {
+            numbering,
+            classes,
+            weight,
+        }
     }
 
     // The program of classes of these depths that weigh `total` together. It puts them in order.

@@ -11,7 +11,7 @@ ghost use Rattle.dexclass.specs.internal.Stripped.{stripped_class};
 use crate::classes::Class;
 use crate::programs::Program;
 use crate::trimming::into_trimmed;
-use dexlaws::strip::{strip_collection_law, strip_good, strip_merge_law};
+use dexlaws::strip::{strip_collection_law, strip_depth, strip_good, strip_merge_law};
 use dexmembers::{members_stripped_law, members_weight_law};
 use std::alloc::{AllocError, Global};
 
@@ -42,6 +42,7 @@ pub fn into_stripped<'a>(alloc: Global, program: Program<'a>) -> Result<Program<
     ensures { IfOk result (λ stripped. stripped ≡ strip_collection program.entry) }
 {
     strip_collection_law();
+    strip_depth();
     strip_good();
     members_stripped_law();
     members_weight_law();
@@ -50,7 +51,8 @@ pub fn into_stripped<'a>(alloc: Global, program: Program<'a>) -> Result<Program<
     numbering.is_numbering();
     strip_all(&mut classes);
     let trimmed = into_trimmed(alloc, numbering, &mut classes)?;
-    Program::of(alloc, trimmed, classes)
+    // Names, superclasses and interfaces stay, so the classes are in order still.
+    Ok(Program::of_ordered(trimmed, classes))
 }
 
 /// The program without its debug programs and source texts. The texts and types that only they mentioned leave the

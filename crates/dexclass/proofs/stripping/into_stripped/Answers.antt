@@ -1,7 +1,7 @@
-use Rattle.dexclass.proofs.Common.{map, sym, subst, All, definitions, in_class_order, Mentions, mentions, greatest_caps, strip, stripped_members, AreRising, if_ok_map}
+use Rattle.dexclass.proofs.Common.{map, sym, subst, All, definitions, in_class_order, Mentions, mentions, greatest_caps, strip, stripped_members, AreRising}
 use Rattle.dexclass.specs.{type_at, definition_of, IsKnownClass}
 use Rattle.dexclass.specs.internal.Trimming.{AreTrimmed}
-use Rattle.dexclass.proofs.StrippedPrograms.{class_stripped, class_known, all_known, all_stripped, stripped_mergeable, stripped_collection}
+use Rattle.dexclass.proofs.StrippedPrograms.{class_stripped, class_known, all_known, all_stripped, stripped_mergeable, stripped_in_order, stripped_collection}
 use Rattle.dexclass.proofs.stripping.into_stripped.Goals as goal
 use Rattle.dexclass.proofs.stripping.into_stripped.Goals.{In_ok-trimmed}
 
@@ -21,11 +21,15 @@ trimmed c =
     (all_stripped c.args.program c.into_parts-numbering.result.1.items c.into_parts-numbering.ensures.classes (λ n x. class_stripped n x (c.members_stripped_law.ensures.same n x.members)) c.strip_all.new.classes.items c.strip_all.ensures)
     (subst (λ n. AreTrimmed (map (definition_of n) c.strip_all.new.classes.items) c.in_ok-trimmed.trimmed c.into_trimmed.new.classes.items) c.into_parts-numbering.ensures.numbering c.in_ok-trimmed.ensures)
 
-pub of-requires : goal.of-requires
-of-requires c =
+pub of_ordered-requires-clause-mergeable : goal.of_ordered-requires-clause-mergeable
+of_ordered-requires-clause-mergeable c =
     let E = in_class_order (definitions c.args.program) in
-    stripped_mergeable c.args.program c.in_ok-trimmed.trimmed c.into_trimmed.new.classes.items (trimmed (goal.at.of-requires c).In_ok-trimmed) c.is_good.ensures.good c.is_good.ensures.formed (c.strip_good.ensures.good greatest_caps E) (c.strip_good.ensures.well_formed E)
+    stripped_mergeable c.args.program c.in_ok-trimmed.trimmed c.into_trimmed.new.classes.items (trimmed (goal.at.of_ordered-requires-clause-mergeable c).In_ok-trimmed) c.is_good.ensures.good c.is_good.ensures.formed (c.strip_good.ensures.good greatest_caps E) (c.strip_good.ensures.well_formed E)
+
+pub of_ordered-requires-clause-order : goal.of_ordered-requires-clause-order
+of_ordered-requires-clause-order c =
+    stripped_in_order c.args.program c.in_ok-trimmed.trimmed c.into_trimmed.new.classes.items (trimmed (goal.at.of_ordered-requires-clause-order c).In_ok-trimmed) c.is_good.ensures.good.acyclic (c.strip_depth.ensures (in_class_order (definitions c.args.program))).order
 
 pub returns : goal.returns
 returns c =
-    if_ok_map _ _ c.of.result (λ L is. stripped_collection c.args.program c.in_ok-trimmed.trimmed c.into_trimmed.new.classes.items (trimmed (goal.at.returns c).In_ok-trimmed) (c.strip_collection_law.ensures.listed (in_class_order (definitions c.args.program)) c.args.program) L is) c.of.ensures
+    stripped_collection c.args.program c.in_ok-trimmed.trimmed c.into_trimmed.new.classes.items (trimmed (goal.at.returns c).In_ok-trimmed) (c.strip_collection_law.ensures.listed (in_class_order (definitions c.args.program)) c.args.program) c.of_ordered.result c.of_ordered.ensures

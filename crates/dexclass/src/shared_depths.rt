@@ -1,10 +1,10 @@
 //! The depths of classes of which many have the same list of interfaces.
 
-ghost use Rattle.std.specs.Prelude.{◌≡◌, ◌<◌, ℕ, List, Option, All, length, slice_index, slice_index_or, IfOk, IfSome, OnOk};
+ghost use Rattle.std.specs.Prelude.{◌≡◌, ◌<◌, ◌≤◌, ℕ, List, Option, All, length, slice_index, slice_index_or, IfOk, IfSome, OnOk};
 ghost use Rattle.std.specs.List.{AllZip, filter};
 ghost use Rattle.dexorder.specs.Parents.{AreDepthsOfClasses};
 ghost use Rattle.dexclass.specs.EqualLists.{AreFirstEqual};
-ghost use Rattle.dexclass.specs.internal.ClassLists.{has_class, AreListsOf, IsListed};
+ghost use Rattle.dexclass.specs.internal.ClassLists.{has_class, AreListsOf, kept_numbers, all_room, IsListed};
 
 use dexorder::{HasParents, class_of_type, classes_by_type, depths_of};
 use std::alloc::{AllocError, Global};
@@ -81,7 +81,7 @@ struct ClassLists {
     lists: Vec<Vec<usize>>,
     /// For each class the number of its list, if it has one.
     numbers: Vec<Option<usize>>,
-    /// How many numbers more are kept, so that they are never many more than types.
+    /// How many numbers more are kept, so that they are never more than types.
     room: usize,
 }
 
@@ -90,6 +90,7 @@ impl ClassLists {
     fn none(alloc: Global, classes: usize, room: usize) -> Result<ClassLists, AllocError>
         ensures count { IfOk result (λ lists. length lists.numbers.items ≡ classes) }
         ensures none { IfOk result (λ lists. (list_of : ℕ → List ℕ) → AreListsOf list_of lists) }
+        ensures room { IfOk result (λ lists. all_room lists ≡ room) }
     {
         Ok(ClassLists {
             lists: Vec::new(alloc),
@@ -104,6 +105,7 @@ impl ClassLists {
         ensures count { length self.new.numbers.items ≡ length self.old.numbers.items }
         ensures lists { OnOk result ((list_of : ℕ → List ℕ) → list.items ≡ list_of class
             → AreListsOf list_of self.old → AreListsOf list_of self.new) }
+        ensures room { OnOk result (all_room self.new ≡ all_room self.old) }
     {
         let Some(room) = self.room.checked_sub(list.len()) else {
             return Ok(());
@@ -130,6 +132,7 @@ impl ClassLists {
             → list_of first ≡ filter (has_class by_type.now) (C.interfaces_of owner.now)
             → list_of class ≡ list_of first
             → AreListsOf list_of self.old → AreListsOf list_of self.new) }
+        ensures room { OnOk result (all_room self.new ≡ all_room self.old) }
     {
         if self.numbers[first].is_none() {
             let list = class_list(*self.lists.allocator(), by_type, owner)?;
@@ -152,7 +155,8 @@ impl ClassLists {
     }
 }
 
-// The lists of interfaces that are classes of those classes that share theirs with one before them.
+// The lists of interfaces that are classes of those classes that share theirs with one before them. However many there
+// are, they have together no more numbers than there are types.
 fn class_lists<C: HasParents>(
     alloc: Global,
     by_type: &[Option<usize>],
@@ -160,9 +164,10 @@ fn class_lists<C: HasParents>(
     firsts: &[usize],
 ) -> Result<ClassLists, AllocError>
     requires { AreFirstEqual C.interfaces_of classes.now firsts.now }
-    ensures { IfOk result (λ lists. (d : C) → AreListsOf
+    ensures lists { IfOk result (λ lists. (d : C) → AreListsOf
         (λ i. filter (has_class by_type.now) (C.interfaces_of (slice_index_or classes.now i d)))
         lists) }
+    ensures kept { IfOk result (λ lists. kept_numbers lists ≤ length by_type.now) }
 {
     let mut lists = ClassLists::none(alloc, classes.len(), by_type.len())?;
     for i in 0..classes.len() {

@@ -1,5 +1,5 @@
 -- Lists of interfaces without those that are no classes.
-use Rattle.std.specs.Prelude.{◌≡◌, ◌⊎◌, ℕ, ◌<◌, Bool, List, length, Option, None, Some, slice_index_or}
+use Rattle.std.specs.Prelude.{◌≡◌, ◌⊎◌, ℕ, ◌+◌, ◌<◌, Bool, List, length, Option, None, Some, slice_index_or, sum_by}
 use Rattle.std.specs.Borrow.{Bor}
 use Rattle.std.specs.Global.{Vec}
 use Rattle.std.specs.List.{filter}
@@ -20,6 +20,14 @@ listed_interfaces (Some list) own = list.now
 abbrev pub AreListsOf : (ℕ → List ℕ) → ClassLists → Type 0
 AreListsOf list_of lists = (i n : ℕ) (d : Vec ℕ) → slice_index_or lists.numbers.items i None ≡ Some n
     → (n < length lists.lists.items) × ((slice_index_or lists.lists.items n d).items ≡ list_of i)
+
+-- how many numbers the lists have together
+abbrev pub kept_numbers : ClassLists → ℕ
+kept_numbers lists = sum_by (λ (list : Vec ℕ). length list.items) lists.lists.items
+
+-- how many numbers there was room for: those that are kept, and those that still may be
+abbrev pub all_room : ClassLists → ℕ
+all_room lists = kept_numbers lists + lists.room
 
 -- it is the class, with all of its interfaces or those that are classes
 pub record IsListed {C : Type 0} (interfaces_of : C → List ℕ) (by_type : List (Option ℕ)) (c : C) (listed : Listed C) : Type 0 where

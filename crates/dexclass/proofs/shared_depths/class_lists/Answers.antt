@@ -1,17 +1,21 @@
 use Rattle.dexclass.proofs.Common.{◌≡◌, ◌∙◌, ◌<◌, ℕ, List, length, get_or, get_or_default, filter, ap, sym, subst, arith}
 use Rattle.dexclass.specs.declared.shared_depths.ClassLists.{ClassLists}
-use Rattle.dexclass.specs.internal.ClassLists.{has_class, AreListsOf}
+use Rattle.dexclass.specs.internal.ClassLists.{has_class, AreListsOf, all_room}
 use Rattle.dexclass.proofs.shared_depths.class_lists.Goals as goal
 use Rattle.dexclass.proofs.shared_depths.class_lists.Goals.{then-first-i+in_ok-share, else-first-i}
 
 pub loop-i-init : goal.loop-i-init
-loop-i-init g c = record { count = c.in_ok-lists.ensures.count; are = λ d. c.in_ok-lists.ensures.none (λ i. filter (has_class c.args.by_type.now) (g.C.HasParents.interfaces_of (get_or c.args.classes.now i d))) }
+loop-i-init g c = record { count = c.in_ok-lists.ensures.count; room = c.in_ok-lists.ensures.room; are = λ d. c.in_ok-lists.ensures.none (λ i. filter (has_class c.args.by_type.now) (g.C.HasParents.interfaces_of (get_or c.args.classes.now i d))) }
 
 pub loop-i-preserved : goal.loop-i-preserved
 loop-i-preserved g c = record {
   count = elim c.if-first-i.branch [
     | then-first-i+in_ok-share w ↦ ap (λ (t : ClassLists). length t.numbers.items) w.lists-is ∙ w.in_ok-share.ensures.count ∙ c.loop-i.invariant.count
     | else-first-i w ↦ ap (λ (t : ClassLists). length t.numbers.items) w.lists-is ∙ c.loop-i.invariant.count
+  ];
+  room = elim c.if-first-i.branch [
+    | then-first-i+in_ok-share w ↦ ap all_room w.lists-is ∙ w.in_ok-share.ensures.room ∙ c.loop-i.invariant.room
+    | else-first-i w ↦ ap all_room w.lists-is ∙ c.loop-i.invariant.room
   ];
   are = λ d. elim c.if-first-i.branch [
     | then-first-i+in_ok-share w ↦

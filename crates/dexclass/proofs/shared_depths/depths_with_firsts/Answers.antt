@@ -9,7 +9,7 @@ use Rattle.dexclass.proofs.shared_depths.depths_with_firsts.Goals.{After-deref-2
 
 -- the classes with their lists
 zip : (g : Over) (c : After-deref-2 g) → AllZip (IsListed g.C.HasParents.interfaces_of c.deref.result.now) c.args.classes.now c.deref-2.result.now
-zip g c = subst (λ (ls : List (Listed g.row.C.Denot)). AllZip (IsListed g.C.HasParents.interfaces_of c.deref.result.now) c.args.classes.now ls) (sym c.deref-2.ensures.value) (c.in_ok-listed.ensures c.deref.result.now c.in_ok-lists.ensures)
+zip g c = subst (λ (ls : List (Listed g.row.C.Denot)). AllZip (IsListed g.C.HasParents.interfaces_of c.deref.result.now) c.args.classes.now ls) (sym c.deref-2.ensures.value) (c.in_ok-listed.ensures c.deref.result.now c.in_ok-lists.ensures.lists)
 
 pub depths_of-requires-2 : goal.depths_of-requires-2
 depths_of-requires-2 g c = names_below g.C.HasParents.name_of g.C.HasParents.superclass_of g.C.HasParents.interfaces_of c.deref.result.now c.args.types c.args.classes.now c.deref-2.result.now (zip g (goal.at.depths_of-requires-2 g c).After-deref-2) c.requires.names

@@ -112,6 +112,7 @@ fn read_bodies_within<'a>(
     requires checks { AreChecks frame.now pools.now checks.old }
     ensures accepted { IfOk result
         (AreBodies frame.now pools.now (table_size frame.now ClassDefs)) }
+    ensures light { IfOk result (λ bodies. bodies.weight ≤ most) }
     ensures refused { IfErr result (IsFaultWithin most frame.now) }
     ensures checks { IfErr result (IfTooHeavy (AreChecks frame.now pools.now checks.new)) }
 {
@@ -161,7 +162,8 @@ fn read_bodies_within<'a>(
 
 // What classes may weigh before all rows are checked. Those of compilers weigh less.
 fn most_unchecked(frame: &Frame<'_>) -> u64
-    ensures { result ≤ most_weight }
+    ensures most { result ≤ most_weight }
+    ensures few { result ≤ 4 * length frame.now + 65536 }
 {
     let len = frame.bytes().len() as u64;
     len.saturating_mul(4)

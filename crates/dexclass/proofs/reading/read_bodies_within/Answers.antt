@@ -68,6 +68,7 @@ loop-r-preserved c =
     record {
       bodies_are = class_more b c.args.pools.now c.requires.pools c.requires.before c.loop-r.r lt c.saturating_sub-left.result c.in-Ok.found.0 read.0 w (omega (arith, own (goal.at.loop-r-preserved c).After-row_weight-own, c.from.ensures, read.1))
           c.loop-r.bodies c.loop-r.invariant.bodies_are (omega (arith, c.if-before-most.false, c.requires.most, c.saturating_sub-left.ensures, c.from.ensures, read.0.light, read.1)) _ class (record { classes = c.push.new.self; weight = c.loop-r.bodies.weight + w }) c.in_ok-push.ensures.items refl;
+      light = omega (arith, c.if-before-most.false, c.saturating_sub-left.ensures, c.from.ensures, read.0.light, read.1);
       shared_are = c.in-Ok.ensures.shared c.requires.pools;
       checks_are = c.in-Ok.ensures.checks c.requires.pools;
     }

@@ -3,6 +3,7 @@ pub mod CodeItems
 pub mod Counted
 pub mod DataItems
 pub mod DebugsApart
+pub mod EarlierLists
 pub mod EncodedUses
 pub mod Ends
 pub mod FirstUses
@@ -16,6 +17,5 @@ pub mod SetsCollected
 pub mod SetsAreAt
 pub mod SharedEncodings
 pub mod SharedKinds
-pub mod SharedParameters
 pub mod SharedUses
 pub mod StaticItems

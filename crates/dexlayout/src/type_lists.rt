@@ -1,12 +1,13 @@
 //! Type lists: those of the parameters of protos, and of the interfaces of classes.
 
-ghost use Rattle.std.specs.Prelude.{◌≡◌, ◌^◌, ◌<◌, ◌≤◌, ◌+◌, ◌++◌, All, IfOk, OnOk, Some, [], length};
+ghost use Rattle.std.specs.Prelude.{◌≡◌, ◌^◌, ◌<◌, ◌≤◌, ◌+◌, ◌++◌, All, IfOk, OnOk, Some, [], length, slice_index_or};
 ghost use Rattle.dexspec.specs.Bytes as bytes;
 ghost use Rattle.dexspec.specs.Canonical.{data_start, type_list_section};
 ghost use Rattle.dexspec.specs.Placing.{section_bytes, uses_offsets};
+ghost use Rattle.dexclass.specs.Numbered.{NumberedClass};
 ghost use Rattle.dexlayout.specs.Laid.{AreTypeLists, AreWritable, ordered_of};
 ghost use Rattle.dexlayout.specs.internal.SharedUses.{AreTypes, SharesLists};
-ghost use Rattle.dexlayout.specs.internal.Adding.{AddsUses, AddsListAgain, AddsParameters, list_uses, AreKnownClasses, interfaces_uses};
+ghost use Rattle.dexlayout.specs.internal.Adding.{AddsUses, AddsListAt, AddsParameters, list_uses, AreKnownClasses, interfaces_uses};
 ghost use Rattle.dexlayout.specs.internal.Encoding.{encode_use, list_bytes, without_bytes};
 ghost use Rattle.dexlayout.specs.internal.Placing.{HaveTypeLists, encoded_lists};
 
@@ -15,7 +16,7 @@ use crate::items::SharedOffsets;
 use crate::keys::ListKey;
 use crate::offsets::{Offsets, padding, round_up};
 use crate::sharing::{Shared, Sharing};
-use dexclass::Class;
+use dexclass::{Class, KnownLists};
 use dexhead::{Encode, Output};
 use dexpool::{KnownParameters, Numbering, SymbolKind};
 use dexrows::TypeNumbers;
@@ -35,14 +36,16 @@ impl<'p> Sharing<ListKey<'p>> {
         self.add(Some(ListKey { list }))
     }
 
-    // Adds a use of the list that an earlier use has.
-    fn add_list_again(&mut self, place: usize) -> Result<(), AllocError>
-        requires { place < length self.old.numbers.items }
-        ensures added { AddsListAgain place result self.old self.new }
+    // Adds a use of a list. If there is a use at a place already, it has that list, which is not looked up again.
+    fn add_list_at(&mut self, place: usize, list: TypeNumbers<'p>) -> Result<(), AllocError>
+        ensures added { AddsListAt place result self.old self.new list.entry }
         ensures more { OnOk result
             (length self.new.numbers.items ≡ length self.old.numbers.items + 1) }
     {
-        self.add_again(place)
+        if place < self.len() {
+            return self.add_again(place);
+        }
+        self.add_list(list)
     }
 
     // Adds the uses of the parameters of protos. Where protos share a long list, only the first of them is looked up by it.
@@ -53,25 +56,40 @@ impl<'p> Sharing<ListKey<'p>> {
         let before = self.len();
         for i in 0..numbering.count(SymbolKind::Proto) {
             let first = known.first(numbering, i)?;
-            if first < i {
-                self.add_list_again(before + first)?;
-            } else {
-                self.add_list(numbering.proto(i).parameters())?;
-            }
+            self.add_list_at(before + first, numbering.proto(i).parameters())?;
         }
         Ok(())
     }
 
-    // Adds the uses of the interfaces of classes.
+    // Adds the uses of the interfaces of classes. Where classes share a long list, only the first of them is looked up by it.
     fn add_interfaces(&mut self, classes: &'p [Class<'_>]) -> Result<(), AllocError>
         ensures { AddsUses SharesLists result self.old self.new AreKnownClasses interfaces_uses
             classes.now }
     {
+        let mut known = KnownLists::none(*self.numbers.allocator());
+        let before = self.len();
         for i in 0..classes.len() {
-            self.add_list(classes[i].interfaces())?;
+            let first = first_known(&mut known, classes, i)?;
+            self.add_list_at(before + first, classes[i].interfaces())?;
         }
         Ok(())
     }
+}
+
+// A class with the interfaces of class `i`: the first that was asked for, before `i`, whose list is at the same place; and
+// `i` itself where there was none, or where the list is short.
+fn first_known(known: &mut KnownLists, classes: &[Class<'_>], i: usize) -> Result<usize, AllocError>
+    requires { i < length classes.now }
+    ensures before { IfOk result (λ first. first ≤ i) }
+    ensures equal { IfOk result (λ first. (d : NumberedClass)
+        → (slice_index_or classes.now first d).interfaces
+        ≡ (slice_index_or classes.now i d).interfaces) }
+{
+    let first = known.first(0, &classes[i], i)?;
+    if first < i && classes[i].has_interfaces_of(&classes[first]) {
+        return Ok(first);
+    }
+    Ok(i)
 }
 
 // The type lists that protos and classes share.

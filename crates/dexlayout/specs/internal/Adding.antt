@@ -1,5 +1,5 @@
 -- What a call adds to the uses that were found before.
-use Rattle.std.specs.Prelude.{◌≡◌, ℕ, Bool, List, [], ◌∷◌, ◌++◌, Option, None, Result, MatchOption, OnOk, All, map, slice_index_or}
+use Rattle.std.specs.Prelude.{◌≡◌, ℕ, ◌<◌, Bool, List, [], ◌∷◌, ◌++◌, Option, None, Result, MatchOption, OnOk, All, length, map, slice_index_or}
 use Rattle.std.specs.Borrow.{Bor}
 use Rattle.dexspec.specs.Texts.{Text}
 use Rattle.dexspec.specs.Annotations.{AnnotationSet}
@@ -15,7 +15,7 @@ use Rattle.dexlayout.specs.declared.sharing.Sharing.{Sharing}
 use Rattle.dexlayout.specs.declared.sharing.Shared.{Shared}
 use Rattle.dexlayout.specs.declared.list_sharing.ListSharing.{ListSharing}
 use Rattle.dexlayout.specs.internal.Sharing.{HaveItems}
-use Rattle.dexlayout.specs.internal.SharedUses.{SharesLists, SharesSets, interfaces_use, set_use}
+use Rattle.dexlayout.specs.internal.SharedUses.{AreTypes, SharesLists, SharesSets, interfaces_use, set_use}
 
 -- ---- uses of any kind
 
@@ -45,11 +45,13 @@ AddsUses {Y = Y} Shares result old new IsKnown uses_of x =
 abbrev pub list_uses : Mentions → List ℕ → List (Option (List Text))
 list_uses m list = unless_empty (map (type_at m) list) ∷ []
 
--- a use more, of the list that the use at a place has
-abbrev pub AddsListAgain : {A E : Type 0} → ℕ → Result A E → Sharing (List ℕ) → Sharing (List ℕ) → Type 0
-AddsListAgain place result old new =
-    (m : Mentions) (uses : List (Option (List Text))) → SharesLists m uses old.items.keys old.numbers.items
-    → OnOk result (SharesLists m (uses ++ slice_index_or uses place None ∷ []) new.items.keys new.numbers.items)
+-- a use of a list more, which the use at a place has, if there is one
+abbrev pub AddsListAt : {A E : Type 0} → ℕ → Result A E → Sharing (List ℕ) → Sharing (List ℕ) → List ℕ → Type 0
+AddsListAt place result old new list =
+    (m : Mentions) (uses : List (Option (List Text))) → AreTypes m list
+    → (place < length uses → slice_index_or uses place None ≡ unless_empty (map (type_at m) list))
+    → SharesLists m uses old.items.keys old.numbers.items
+    → OnOk result (SharesLists m (uses ++ list_uses m list) new.items.keys new.numbers.items)
 
 -- the uses of all protos more
 abbrev pub AddsParameters : {A E : Type 0} → Mentions → Result A E → Sharing (List ℕ) → Sharing (List ℕ) → Type 0

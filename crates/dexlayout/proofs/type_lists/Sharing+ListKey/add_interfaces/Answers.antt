@@ -1,16 +1,28 @@
-use Rattle.dexlayout.proofs.Common.{◌≡◌, [], ◌∷◌, ◌++◌, map, take, subst, sym, ap, ◌∙◌, ◌<◌, option_to_list, length, All-tail, all_back, unless_empty, IsKnownClass, AreTypes, SharesLists, interfaces_use}
+use Rattle.dexlayout.proofs.Common.{◌≡◌, ℕ, List, [], ◌∷◌, ◌++◌, map, take, subst, sym, ap, ◌∙◌, ◌<◌, arith, option_to_list, length, All-tail, all_back, unless_empty, IsKnownClass, AreTypes, SharesLists, interfaces_use}
 use Rattle.dexclass.specs.Numbered.{type_at}
 use Rattle.dexlayout.proofs.SharedUses.{uses_next}
+use Rattle.dexlayout.proofs.EarlierLists.{earlier_list, lists_before}
 use Rattle.dexlayout.proofs.type_lists.Sharing+ListKey.add_interfaces.Goals as goal
 
 pub loop-i-preserved : goal.loop-i-preserved
-loop-i-preserved c = λ m uses known h.
+loop-i-preserved c =
     let cs = c.args.classes.now in
     let i = c.loop-i.i in
     let x = c.index-classes-i.result in
-    let here : IsKnownClass m x = subst (IsKnownClass m) (sym c.index-classes-i.is) (known i x c.loop-i-test.true) in
-    let interfaces = all_back (λ n. n < length m.types) (option_to_list x.superclass) x.interfaces (All-tail (λ n. n < length m.types) x.name (option_to_list x.superclass ++ x.interfaces) here.types_in) in
-    let means : c.interfaces.result ≡ x.interfaces = c.interfaces.ensures in
-    subst (λ us. SharesLists m us c.add_list.new.self.items.keys c.add_list.new.self.numbers.items)
-    (ap (λ ns. (uses ++ map (interfaces_use m) (take i cs)) ++ unless_empty (map (type_at m) ns) ∷ []) means ∙ uses_next (interfaces_use m) uses cs i x c.loop-i-test.true (sym c.index-classes-i.is))
-    (c.in_ok-add_list.ensures.added m (uses ++ map (interfaces_use m) (take i cs)) (subst (AreTypes m) (sym means) interfaces) (c.loop-i.invariant m uses known h))
+    record {
+      before = c.loop-i.invariant.before;
+      more = omega (arith, c.in_ok-add_list_at.ensures.more, c.loop-i.invariant.more);
+      uses = λ m us known h.
+          let here : IsKnownClass m x = subst (IsKnownClass m) (sym c.index-classes-i.is) (known i x c.loop-i-test.true) in
+          let types = all_back (λ n. n < length m.types) (option_to_list x.superclass) x.interfaces (All-tail (λ n. n < length m.types) x.name (option_to_list x.superclass ++ x.interfaces) here.types_in) in
+          let means : c.interfaces.result ≡ x.interfaces = c.interfaces.ensures in
+          let use_of : List ℕ → _ = λ (ns : List ℕ). unless_empty (map (type_at m) ns) in
+          let so_far = us ++ map (interfaces_use m) (take i cs) in
+          let start = c.loop-i.invariant.before ∙ lists_before m h in
+          let taken = earlier_list (interfaces_use m) cs x us i c.loop-i-test.true c.len-before.result start c.in_ok-first.first (ap use_of (c.in_ok-first.ensures.equal x)) in
+          subst (λ vs. SharesLists m vs c.add_list_at.new.self.items.keys c.add_list_at.new.self.numbers.items)
+          (ap (λ ns. so_far ++ use_of ns ∷ []) means ∙ uses_next (interfaces_use m) us cs i x c.loop-i-test.true (sym c.index-classes-i.is))
+          (c.in_ok-add_list_at.ensures.added m so_far (subst (AreTypes m) (sym means) types)
+          (λ within. taken within ∙ ap (interfaces_use m) (sym c.index-classes-i.is) ∙ ap use_of (sym means))
+          (c.loop-i.invariant.uses m us known h));
+    }

@@ -1,10 +1,9 @@
-use Rattle.dexlayout.proofs.Common.{◌≡◌, ◌+◌, ◌<◌, [], ◌∷◌, ◌++◌, get_or, map, length, take, take_all, subst, sym, ap, ◌∙◌, arith, get_or_default, unless_empty, type_at, AreTypes, SharesLists}
+use Rattle.dexlayout.proofs.Common.{◌≡◌, ◌<◌, [], ◌∷◌, ◌++◌, get_or, map, length, take, List, Text, subst, sym, ap, ◌∙◌, arith, get_or_default, unless_empty, type_at, AreTypes, SharesLists}
 use Rattle.dexspec.specs.Symbols.{Proto}
 use Rattle.dexpool.proofs.Ranking.{listed_at, listed_within}
 use Rattle.dexlayout.proofs.SharedUses.{uses_next}
-use Rattle.dexlayout.proofs.SharedParameters.{no_proto, earlier_list, lists_before}
+use Rattle.dexlayout.proofs.EarlierLists.{no_proto, earlier_list, lists_before}
 use Rattle.dexlayout.proofs.type_lists.Sharing+ListKey.add_parameters.Goals as goal
-use Rattle.dexlayout.proofs.type_lists.Sharing+ListKey.add_parameters.Goals.{then-first-i+in_ok-add_list_again, else-first-i+in_ok-add_list}
 
 pub loop-i-preserved : goal.loop-i-preserved
 loop-i-preserved c =
@@ -13,28 +12,18 @@ loop-i-preserved c =
     let lt : i < length m.protos = omega (arith, c.loop-i-test.true, c.count-i-end.ensures) in
     let p = get_or m.protos i no_proto in
     let use_of : Proto → _ = λ (q : Proto). unless_empty q.parameters in
-    elim c.if-first-i.branch [
-      | then-first-i+in_ok-add_list_again w ↦
-          let more = ap (λ s. length s.numbers.items) w.self-is in
-          record {
-            before = c.loop-i.invariant.before;
-            more = omega (arith, more, w.in_ok-add_list_again.ensures.more, c.loop-i.invariant.more);
-            uses = λ us h.
-                let taken = earlier_list m.protos us i lt c.len-before.result (c.loop-i.invariant.before ∙ lists_before m h) c.in_ok-first.first w.if-first-i.true (c.in_ok-first.ensures.equal no_proto) in
-                subst (λ s. SharesLists m (us ++ map use_of (take (i + 1) m.protos)) s.items.keys s.numbers.items) (sym w.self-is)
-                (subst (λ vs. SharesLists m vs w.add_list_again.new.self.items.keys w.add_list_again.new.self.numbers.items) (ap (λ u. (us ++ map use_of (take i m.protos)) ++ u ∷ []) taken ∙ uses_next use_of us m.protos i p lt (get_or_default m.protos i p no_proto lt))
-                (w.in_ok-add_list_again.ensures.added m (us ++ map use_of (take i m.protos)) (c.loop-i.invariant.uses us h)));
-          }
-      | else-first-i+in_ok-add_list w ↦
-          let more = ap (λ s. length s.numbers.items) w.self-is in
-          record {
-            before = c.loop-i.invariant.before;
-            more = omega (arith, more, w.in_ok-add_list.ensures.more, c.loop-i.invariant.more);
-            uses = λ us h.
-                let means = ap (map (type_at m)) w.parameters.ensures ∙ listed_at m.types [] w.proto.result.parameters p.parameters (w.proto.ensures no_proto).parameters_are in
-                subst (λ s. SharesLists m (us ++ map use_of (take (i + 1) m.protos)) s.items.keys s.numbers.items) (sym w.self-is)
-                (subst (λ vs. SharesLists m vs w.add_list.new.self.items.keys w.add_list.new.self.numbers.items)
-                (ap (λ ts. (us ++ map use_of (take i m.protos)) ++ unless_empty ts ∷ []) means ∙ uses_next use_of us m.protos i p lt (get_or_default m.protos i p no_proto lt))
-                (w.in_ok-add_list.ensures.added m (us ++ map use_of (take i m.protos)) (subst (AreTypes m) (sym w.parameters.ensures) (listed_within m.types w.proto.result.parameters p.parameters (w.proto.ensures no_proto).parameters_are)) (c.loop-i.invariant.uses us h)));
-          }
-    ]
+    let listed = (c.proto.ensures no_proto).parameters_are in
+    let means : map (type_at m) c.parameters.result ≡ p.parameters = ap (map (type_at m)) c.parameters.ensures ∙ listed_at m.types [] c.proto.result.parameters p.parameters listed in
+    let known : AreTypes m c.parameters.result = subst (AreTypes m) (sym c.parameters.ensures) (listed_within m.types c.proto.result.parameters p.parameters listed) in
+    record {
+      before = c.loop-i.invariant.before;
+      more = omega (arith, c.in_ok-add_list_at.ensures.more, c.loop-i.invariant.more);
+      uses = λ us h.
+          let so_far = us ++ map use_of (take i m.protos) in
+          let start = c.loop-i.invariant.before ∙ lists_before m h in
+          subst (λ vs. SharesLists m vs c.add_list_at.new.self.items.keys c.add_list_at.new.self.numbers.items)
+          (ap (λ ts. so_far ++ unless_empty ts ∷ []) means ∙ uses_next use_of us m.protos i p lt (get_or_default m.protos i p no_proto lt))
+          (c.in_ok-add_list_at.ensures.added m so_far known
+          (λ within. earlier_list use_of m.protos no_proto us i lt c.len-before.result start c.in_ok-first.first (ap (λ (l : List Text). unless_empty l) (c.in_ok-first.ensures.equal no_proto)) within ∙ ap (λ (l : List Text). unless_empty l) (sym means))
+          (c.loop-i.invariant.uses us h));
+    }

@@ -1,6 +1,6 @@
 //! The code of methods: its offsets, and its bytes where these are few.
 
-ghost use Rattle.std.specs.Prelude.{◌≡◌, ◌^◌, ◌≤◌, ◌++◌, All, IfOk, MatchOption, None, OnOk, Some, length};
+ghost use Rattle.std.specs.Prelude.{◌≡◌, ◌+◌, ◌^◌, ◌≤◌, ◌++◌, All, IfOk, IfSome, MatchOption, None, OnOk, Some, length};
 ghost use Rattle.dexspec.specs.Bytes.{padding};
 ghost use Rattle.dexcode.specs.CodePut.{HasShortTypes, numbered_code_bytes};
 ghost use Rattle.dexcode.specs.Numbered.{handlers_of};
@@ -18,9 +18,10 @@ use dexmembers::Method;
 use std::alloc::{AllocError, Global};
 use std::marker::Model;
 
-// The most bytes of code that a layout keeps: more than most files have. Methods may share the bytes of their code in
-// the file that was read, and each has code of its own in the canonical one: of 60,000 methods that share 12 KB it would
-// be 720 MB. More code than this is measured by the layout, and encoded where it is written.
+// The most bytes of code that a layout keeps, with the zeros that align it: more than most files have. Methods may
+// share the bytes of their code in the file that was read, and each has code of its own in the canonical one: of 60,000
+// methods that share 12 KB it would be 720 MB. More code than this is measured by the layout, and encoded where it is
+// written.
 const MOST_KEPT: usize = 0x80_0000;
 
 /// The code of methods: its offsets, and its bytes, with the zeros that align it, unless these are too many to be kept.
@@ -31,20 +32,24 @@ pub struct Codes {
 }
 
 impl Model for Codes {
+    ghost use Rattle.std.specs.Prelude.{◌≤◌, ◌^◌, IfSome, length};
     ghost use Rattle.std.specs.Option.{option_map};
     ghost use Rattle.dexlayout.specs.Places.{KeptItems};
 
     ghost Value = { KeptItems };
 
     ghost view = { λ c. record { bytes = option_map (λ b. b.items) c.bytes; places = c.places } };
+
+    ghost invariant = { λ c. IfSome c.bytes (λ b. length b.items ≤ 2 ^ 23) };
 }
 
 impl Codes {
     /// The code of all methods, one item after the other, with zeros before those that are aligned; or `None` where it
-    /// is not kept.
+    /// is not kept. At most 8 MB are.
     pub fn bytes(&self) -> Option<&[u8]>
-        ensures { MatchOption result (self.now.bytes ≡ None) (λ bytes.
+        ensures kept { MatchOption result (self.now.bytes ≡ None) (λ bytes.
             self.now.bytes ≡ Some bytes.now) }
+        ensures few { IfSome result (λ bytes. length bytes.now ≤ 2 ^ 23) }
     {
         self.bytes.as_deref()
     }
@@ -77,9 +82,10 @@ impl Codes {
     fn limit(&mut self, more: usize)
         ensures places { self.new.places ≡ self.old.places }
         ensures bytes { IsKeptOrNot self.old.bytes self.new.bytes }
+        ensures few { IfSome self.new.bytes (λ bytes. length bytes + more ≤ 2 ^ 23) }
     {
         if let Some(bytes) = &self.bytes {
-            if MOST_KEPT.saturating_sub(bytes.len()) < more {
+            if MOST_KEPT - bytes.len() < more {
                 self.bytes = None;
             }
         }
@@ -95,8 +101,8 @@ impl Codes {
     {
         code_bytes_law();
         let most = item.code.weight() as usize;
-        self.limit(most);
         let at = self.places.end();
+        self.limit(most.saturating_add(padding(at).len()));
         self.places.align();
         let len = match &mut self.bytes {
             Some(bytes) => append(item, most, at, bytes)?,
@@ -119,6 +125,7 @@ fn append(
         len ≡ length (numbered_code_bytes item.now.debug_off item.now.code)) }
     ensures bytes { OnOk result (bytes.new.items ≡ bytes.old.items ++ (padding 4 at
         ++ numbered_code_bytes item.now.debug_off item.now.code)) }
+    ensures few { length bytes.new.items ≤ length bytes.old.items + (most + length (padding 4 at)) }
 {
     bytes.extend_from_slice(padding(at))?;
     let before = bytes.len();

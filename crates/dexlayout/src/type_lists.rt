@@ -61,7 +61,8 @@ impl<'p> Sharing<ListKey<'p>> {
         Ok(())
     }
 
-    // Adds the uses of the interfaces of classes. Where classes share a long list, only the first of them is looked up by it.
+    // Adds the uses of the interfaces of classes. Where classes share a long list, only the first of them is looked up
+    // by it.
     fn add_interfaces(&mut self, classes: &'p [Class<'_>]) -> Result<(), AllocError>
         ensures { AddsUses SharesLists result self.old self.new AreKnownClasses interfaces_uses
             classes.now }
@@ -76,8 +77,8 @@ impl<'p> Sharing<ListKey<'p>> {
     }
 }
 
-// A class with the interfaces of class `i`: the first that was asked for, before `i`, whose list is at the same place; and
-// `i` itself where there was none, or where the list is short.
+// A class with the interfaces of class `i`: the first that was asked for, before `i`, whose list is at the same place;
+// and `i` itself where there was none, or where the list is short.
 fn first_known(known: &mut KnownLists, classes: &[Class<'_>], i: usize) -> Result<usize, AllocError>
     requires { i < length classes.now }
     ensures before { IfOk result (λ first. first ≤ i) }

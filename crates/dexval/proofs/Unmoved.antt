@@ -23,10 +23,6 @@ mutual
   elements_stay NoElement = refl
   elements_stay (ThenNamed name x es) = ap (λ (y : NumberedValue). ThenNamed name y (renumbered_elements no_images es)) (value_stays x) ∙ ap (ThenNamed name x) (elements_stay es)
 
--- values that are the same without images are the same
-pub same_unmoved : (x y : NumberedValue) (r : Bool) → (IsTrue r ↔ (renumbered no_images x ≡ renumbered no_images y)) → IsTrue r ↔ (x ≡ y)
-same_unmoved x y r h = ((λ yes. sym (value_stays x) ∙ h.0 yes ∙ value_stays y), (λ e. h.1 (ap (renumbered no_images) e)))
-
 -- two results that decide the same statement are equal
 pub equal_results : {P : Type 0} (r b : Bool) → (IsTrue r ↔ P) → Decides b P → r ≡ b
 equal_results true false h k = sym (k.1 (h.0 refl))

@@ -4,35 +4,33 @@ ghost use Rattle.std.specs.Cmp.{partial_equiv_from_equiv};
 ghost use Rattle.dexval.specs.Equality.{equal_sets, equal_sets_equiv, set_input, equal_sets_agree, IsSetEquality, DependsOnSet, value_input, elements_input, annotation_input};
 ghost use Rattle.std.specs.Prelude.{◌≡◌, ◌↔◌, IsTrue, fold, map};
 ghost use Rattle.std.specs.Hash as fed;
-ghost use Rattle.dexval.specs.Code.{value_of, values_of, element_of, elements_of, annotation_of, set_from};
+ghost use Rattle.dexval.specs.Code.{value_of, values_of, element_of, elements_of, encoded_of, annotation_of, set_from};
 ghost use Rattle.dexval.specs.Numbered.{elements_of_list};
 ghost use Rattle.dexval.specs.internal.Heads.{no_images};
 
-use crate::{Annotation, AnnotationSet, Element, Value};
+use crate::{Annotation, AnnotationSet, Element, EncodedAnnotation, Value};
 use dexpool::Remap;
 use std::hash::{Hash, Hasher};
 
 // Returns whether values are the same, one for one.
 #[cycle(comparing)]
-fn are_same(values: &[Value], others: &[Value], nowhere: &Remap) -> bool
-    requires { nowhere.now ≡ no_images }
+fn are_same(values: &[Value], others: &[Value]) -> bool
     ensures { IsTrue result ↔ (map value_of values.now ≡ map value_of others.now) }
 {
     if values.len() != others.len() {
         return false;
     }
     for i in 0..values.len() {
-        if !is_same_value(&values[i], &others[i], nowhere) {
+        if !is_same_value(&values[i], &others[i]) {
             return false;
         }
     }
     true
 }
 
-// Returns whether two values are the same. Numbers are compared as they are, but for those in annotations.
+// Returns whether two values are the same.
 #[cycle(comparing)]
-fn is_same_value(value: &Value, other: &Value, nowhere: &Remap) -> bool
-    requires { nowhere.now ≡ no_images }
+fn is_same_value(value: &Value, other: &Value) -> bool
     ensures { IsTrue result ↔ (value_of value.now ≡ value_of other.now) }
 {
     match (value, other) {
@@ -48,65 +46,70 @@ fn is_same_value(value: &Value, other: &Value, nowhere: &Remap) -> bool
         (Value::Field(number), Value::Field(same)) => number == same,
         (Value::Method(number), Value::Method(same)) => number == same,
         (Value::Enum(number), Value::Enum(same)) => number == same,
-        (Value::Boolean(is), Value::Boolean(same)) => is == same,
+        (Value::Array(values), Value::Array(others)) => are_same(values, others),
+        (Value::Annotation(held), Value::Annotation(other)) => is_same_encoded(held, other),
         (Value::Null, Value::Null) => true,
-        (Value::Array(values), Value::Array(others)) => are_same(values, others, nowhere),
-        _ => value.same_mapped(nowhere, other, nowhere),
+        (Value::Boolean(is), Value::Boolean(same)) => is == same,
+        _ => false,
     }
 }
 
-/// Returns whether values are the same, one for one.
-pub(crate) fn are_same_values(values: &Vec<Value>, others: &Vec<Value>) -> bool
-    ensures { IsTrue result → values_of values.now.items ≡ values_of others.now.items }
+// Returns whether two annotations have the same type and elements.
+#[cycle(comparing)]
+fn is_same_encoded(annotation: &EncodedAnnotation, other: &EncodedAnnotation) -> bool
+    ensures { IsTrue result ↔ (encoded_of annotation.now ≡ encoded_of other.now) }
 {
-    are_same(values, others, &Remap::none(*values.allocator()))
+    annotation.typ == other.typ && are_same_elements(&annotation.elements, &other.elements)
 }
 
-// Returns whether two elements have the same name and value.
-fn is_same_element(element: &Element, other: &Element, nowhere: &Remap) -> bool
-    requires { nowhere.now ≡ no_images }
-    ensures { IsTrue result ↔ (element_of element.now ≡ element_of other.now) }
-{
-    element.name == other.name && is_same_value(&element.value, &other.value, nowhere)
-}
-
-// Returns whether elements are the same, one for one.
-fn are_same_elements(elements: &[Element], others: &[Element], nowhere: &Remap) -> bool
-    requires { nowhere.now ≡ no_images }
+// Returns whether elements have the same names and values, one for one.
+#[cycle(comparing)]
+fn are_same_elements(elements: &[Element], others: &[Element]) -> bool
     ensures { IsTrue result ↔ (elements_of elements.now ≡ elements_of others.now) }
 {
     if elements.len() != others.len() {
         return false;
     }
     for i in 0..elements.len() {
-        if !is_same_element(&elements[i], &others[i], nowhere) {
+        if !is_same_element(&elements[i], &others[i]) {
             return false;
         }
     }
     true
 }
 
+// Returns whether two elements have the same name and value.
+#[cycle(comparing)]
+fn is_same_element(element: &Element, other: &Element) -> bool
+    ensures { IsTrue result ↔ (element_of element.now ≡ element_of other.now) }
+{
+    element.name == other.name && is_same_value(&element.value, &other.value)
+}
+
+/// Returns whether values are the same, one for one.
+pub(crate) fn are_same_values(values: &Vec<Value>, others: &Vec<Value>) -> bool
+    ensures { IsTrue result → values_of values.now.items ≡ values_of others.now.items }
+{
+    are_same(values, others)
+}
+
 // Returns whether two annotations have the same visibility, type and elements.
-fn is_same_annotation(annotation: &Annotation, other: &Annotation, nowhere: &Remap) -> bool
-    requires { nowhere.now ≡ no_images }
+fn is_same_annotation(annotation: &Annotation, other: &Annotation) -> bool
     ensures { IsTrue result ↔ (annotation_of annotation.now ≡ annotation_of other.now) }
 {
-    let (held, others) = (&annotation.annotation, &other.annotation);
     annotation.visibility == other.visibility
-        && held.typ == others.typ
-        && are_same_elements(&held.elements, &others.elements, nowhere)
+        && is_same_encoded(&annotation.annotation, &other.annotation)
 }
 
 // Returns whether annotations are the same, one for one.
-fn are_same_annotations(annotations: &[Annotation], others: &[Annotation], nowhere: &Remap) -> bool
-    requires { nowhere.now ≡ no_images }
+fn are_same_annotations(annotations: &[Annotation], others: &[Annotation]) -> bool
     ensures { IsTrue result ↔ (set_from annotations.now ≡ set_from others.now) }
 {
     if annotations.len() != others.len() {
         return false;
     }
     for i in 0..annotations.len() {
-        if !is_same_annotation(&annotations[i], &others[i], nowhere) {
+        if !is_same_annotation(&annotations[i], &others[i]) {
             return false;
         }
     }
@@ -119,8 +122,7 @@ impl PartialEq for AnnotationSet {
     ghost laws = { partial_equiv_from_equiv equal_sets_equiv };
 
     fn eq(&self, other: &AnnotationSet) -> bool {
-        let nowhere = Remap::none(*self.annotations.allocator());
-        are_same_annotations(&self.annotations, &other.annotations, &nowhere)
+        are_same_annotations(&self.annotations, &other.annotations)
     }
 }
 

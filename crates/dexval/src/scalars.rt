@@ -79,7 +79,9 @@ fn spelled(code: u8, number: &[u8], pools: &Pools<'_>) -> Option<Value>
     }
 }
 
-// The value after a first byte whose argument counts the bytes of a number, and its size.
+// The value after a first byte whose argument counts the bytes of a number, and its size. It is kept out of `scalar_at`,
+// which is then small enough to be inlined.
+#[inline(never)]
 fn sized_at(bytes: &[u8], pools: &Pools<'_>, at: usize) -> Option<(Value, usize)>
     requires within { at < length bytes.now }
     requires array { slice_index bytes.now at ≢ 0x1c }
@@ -104,6 +106,7 @@ fn sized_at(bytes: &[u8], pools: &Pools<'_>, at: usize) -> Option<(Value, usize)
 /// Condition: the byte at the offset exists, and begins no array and no annotation.
 ///
 /// Source: "encoded_value encoding", "Value formats".
+#[inline]
 pub(crate) fn scalar_at(bytes: &[u8], pools: &Pools<'_>, at: usize) -> Option<(Value, usize)>
     requires within { at < length bytes.now }
     requires array { slice_index bytes.now at ≢ 0x1c }

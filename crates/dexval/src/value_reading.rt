@@ -1,6 +1,6 @@
 //! Reads values from a file.
 
-ghost use Rattle.std.specs.Prelude.{IfOk, IfErr, ◌≡◌, ◌+◌, ◌-◌, ◌^◌, ◌<◌, ◌≤◌, length, vec_capacity};
+ghost use Rattle.std.specs.Prelude.{IfOk, IfErr, ◌≡◌, ◌≢◌, ◌+◌, ◌-◌, ◌^◌, ◌<◌, ◌≤◌, length, slice_index, vec_capacity};
 ghost use Rattle.dexpool.specs.Pools.{ArePools};
 ghost use Rattle.dexval.specs.Reading.{IsValueFault, IsStaticsFault};
 ghost use Rattle.dexval.specs.Results.{IsReadValue, AreReadStatics};
@@ -66,7 +66,9 @@ impl<'r, 'p> ValueReader<'r, 'p> {
     }
 
     /// The value at an offset, and its size. Error: there is none that nests at most `depth` deep.
+    // Inlined, so that a value that holds no other is read without a recursive call.
     #[cycle(reading)]
+    #[inline(always)]
     pub(crate) fn value_at(&self, at: usize, depth: u32) -> Found<Value>
         ensures read { HasPools self.now.bytes.now self.now.pools.now
             → IfOk result (IsValueRead self.now.bytes.now at self.now.pools.now depth) }
@@ -78,18 +80,34 @@ impl<'r, 'p> ValueReader<'r, 'p> {
             return Err(self.refusal());
         }
         match self.bytes[at] {
-            ARRAY | ANNOTATION if depth == 0 => Err(self.refusal()),
-            ARRAY => {
-                let (values, size) = self.array_at(at + 1, depth - 1)?;
-                Ok((Value::Array(Box::new(self.alloc, values)?), 1 + size))
-            }
-            ANNOTATION => {
-                let (annotation, size) = self.annotation_at(at + 1, depth - 1)?;
-                let annotation = Box::new(self.alloc, annotation)?;
-                Ok((Value::Annotation(annotation), 1 + size))
-            }
+            ARRAY | ANNOTATION => self.nested_at(at, depth),
             _ => scalar_at(self.bytes, self.pools, at).ok_or(self.refusal()),
         }
+    }
+
+    // The value at an offset that begins an array or an annotation, and its size. Error: there is none that nests at most
+    // `depth` deep.
+    #[cycle(reading)]
+    fn nested_at(&self, at: usize, depth: u32) -> Found<Value>
+        requires within { at < length self.now.bytes.now }
+        requires annotation { slice_index self.now.bytes.now at ≢ 0x1c
+            → slice_index self.now.bytes.now at ≡ 0x1d }
+        ensures read { HasPools self.now.bytes.now self.now.pools.now
+            → IfOk result (IsValueRead self.now.bytes.now at self.now.pools.now depth) }
+        ensures refused { HasPools self.now.bytes.now self.now.pools.now → IfErr result
+            (Refuses self.now.number (NoValueAt self.now.bytes.now at depth)) }
+        ensures within { IfOk result (λ read. at + read.1 ≤ length self.now.bytes.now) }
+    {
+        if depth == 0 {
+            return Err(self.refusal());
+        }
+        if self.bytes[at] == ARRAY {
+            let (values, size) = self.array_at(at + 1, depth - 1)?;
+            return Ok((Value::Array(Box::new(self.alloc, values)?), 1 + size));
+        }
+        let (annotation, size) = self.annotation_at(at + 1, depth - 1)?;
+        let annotation = Box::new(self.alloc, annotation)?;
+        Ok((Value::Annotation(annotation), 1 + size))
     }
 
     /// The values of the encoded_array at an offset, and its size. Error: there is no array whose values nest at most

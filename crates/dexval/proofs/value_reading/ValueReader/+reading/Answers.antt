@@ -1,4 +1,4 @@
-use Rattle.dexval.proofs.Common.{◌≡◌, ◌∙◌, ◌+◌, ◌∷◌, ◌++◌, ℕ, List, [], map, refl, sym, ap, subst, arith, map-append, Value, EncodedAnnotation-F, out-roll-EncodedAnnotation, Element, EncodedAnnotation, value_of, element_of, elements_of, encoded_of, encoded_type, encoded_elements, NumberedValue, values_of_list, elements_of_list, IsReadAt, IsElementReadAt, IsAnnotationReadAt}
+use Rattle.dexval.proofs.Common.{rules, ◌≡◌, ◌∙◌, ◌+◌, ◌∷◌, ◌++◌, ℕ, List, [], map, refl, sym, ap, subst, arith, map-append, Value, EncodedAnnotation-F, out-roll-EncodedAnnotation, Element, EncodedAnnotation, value_of, element_of, elements_of, encoded_of, encoded_type, encoded_elements, NumberedValue, values_of_list, elements_of_list, IsReadAt, IsElementReadAt, IsAnnotationReadAt}
 use Rattle.dexval.specs.Numbered as numbered
 use Rattle.dexval.proofs.Members.{array_is, annotation_is, element_is}
 use Rattle.dexval.proofs.Refusals.{err_is, refuses_so, found_or, refused_or}
@@ -101,22 +101,22 @@ elements_at-returns-clause-read t c = λ p.
 pub value_at-returns-then-at-self-clause-refused : goal.value_at-returns-then-at-self-clause-refused
 value_at-returns-then-at-self-clause-refused t c = λ p. rw c.refusal.ensures (refl, nothing_after c.args.self.now.bytes.now c.args.at c.args.depth c.args.self.now.pools.now p.pools (omega arith))
 
-pub value_at-returns-in_ok-new-in-28-2-clause-read : goal.value_at-returns-in_ok-new-in-28-2-clause-read
-value_at-returns-in_ok-new-in-28-2-clause-read t c = λ p.
-    subst (λ (x : NumberedValue). IsReadAt c.args.self.now.bytes.now c.args.at c.args.self.now.pools.now c.args.depth x (1 + c.in_ok-values-in-28-2.size)) (sym (array_is c.in_ok-new-in-28-2.field-0 ∙ ap (λ vs. numbered.Array (values_of_list (map value_of vs.items))) c.in_ok-new-in-28-2.ensures.ok))
-    (array_encoded c.args.self.now.bytes.now c.args.at c.args.depth c.args.self.now.pools.now p.pools (values_of_list (map value_of c.in_ok-values-in-28-2.values.items)) c.in_ok-values-in-28-2.size (omega arith) c.in-28-2.is c.if-depth-eq0.false (c.in_ok-values-in-28-2.ensures.read p))
+pub nested_at-returns-then-self-at-eq-ARRAY-clause-read : goal.nested_at-returns-then-self-at-eq-ARRAY-clause-read
+nested_at-returns-then-self-at-eq-ARRAY-clause-read t c = λ p.
+    subst (λ (x : NumberedValue). IsReadAt c.args.self.now.bytes.now c.args.at c.args.self.now.pools.now c.args.depth x (1 + c.in_ok-values.size)) (sym (array_is c.in_ok-new.field-0 ∙ ap (λ vs. numbered.Array (values_of_list (map value_of vs.items))) c.in_ok-new.ensures.ok))
+    (array_encoded c.args.self.now.bytes.now c.args.at c.args.depth c.args.self.now.pools.now p.pools (values_of_list (map value_of c.in_ok-values.values.items)) c.in_ok-values.size (omega arith) (search rules) c.if-depth-eq0.false (c.in_ok-values.ensures.read p))
 
-pub value_at-returns-in_err-values-in-28-2-clause-refused : goal.value_at-returns-in_err-values-in-28-2-clause-refused
-value_at-returns-in_err-values-in-28-2-clause-refused t c = λ p. rw (err_is c.from_residual.result c.from_residual.ensures.1) (refuses_so c.args.self.now.number (λ none. no_array c.args.self.now.bytes.now c.args.at c.args.depth c.args.self.now.pools.now p.pools c.in-28-2.is none) c.in_err-values-in-28-2.field-0.0 (c.in_err-values-in-28-2.ensures.refused p))
+pub nested_at-returns-in_err-values-clause-refused : goal.nested_at-returns-in_err-values-clause-refused
+nested_at-returns-in_err-values-clause-refused t c = λ p. rw (err_is c.from_residual.result c.from_residual.ensures.1) (refuses_so c.args.self.now.number (λ none. no_array c.args.self.now.bytes.now c.args.at c.args.depth c.args.self.now.pools.now p.pools (search rules) none) c.in_err-values.field-0.0 (c.in_err-values.ensures.refused p))
 
-pub value_at-returns-in_ok-annotation-in-29-2-clause-read : goal.value_at-returns-in_ok-annotation-in-29-2-clause-read
-value_at-returns-in_ok-annotation-in-29-2-clause-read t c = λ p.
-    let a = c.in_ok-annotation-in-29.annotation in
-    subst (λ (x : NumberedValue). IsReadAt c.args.self.now.bytes.now c.args.at c.args.self.now.pools.now c.args.depth x (1 + c.in_ok-annotation-in-29.size)) (sym (annotation_is c.in_ok-annotation-in-29-2.annotation ∙ ap encoded_of c.in_ok-annotation-in-29-2.ensures.ok))
-    (annotation_encoded c.args.self.now.bytes.now c.args.at c.args.depth c.args.self.now.pools.now p.pools (encoded_type a) (encoded_elements a) c.in_ok-annotation-in-29.size (omega arith) c.in-29.is c.if-depth-eq0.false (c.in_ok-annotation-in-29.ensures.read p))
+pub nested_at-returns-clause-read : goal.nested_at-returns-clause-read
+nested_at-returns-clause-read t c = λ p.
+    let a = c.in_ok-annotation.annotation in
+    subst (λ (x : NumberedValue). IsReadAt c.args.self.now.bytes.now c.args.at c.args.self.now.pools.now c.args.depth x (1 + c.in_ok-annotation.size)) (sym (annotation_is c.in_ok-annotation-2.annotation ∙ ap encoded_of c.in_ok-annotation-2.ensures.ok))
+    (annotation_encoded c.args.self.now.bytes.now c.args.at c.args.depth c.args.self.now.pools.now p.pools (encoded_type a) (encoded_elements a) c.in_ok-annotation.size (omega arith) (c.requires.annotation (search rules)) c.if-depth-eq0.false (c.in_ok-annotation.ensures.read p))
 
-pub value_at-returns-in_err-annotation-in-29-clause-refused : goal.value_at-returns-in_err-annotation-in-29-clause-refused
-value_at-returns-in_err-annotation-in-29-clause-refused t c = λ p. rw (err_is c.from_residual-in_err-annotation-in-29.result c.from_residual-in_err-annotation-in-29.ensures.1) (refuses_so c.args.self.now.number (λ none. no_annotation c.args.self.now.bytes.now c.args.at c.args.depth c.args.self.now.pools.now p.pools c.in-29.is none) c.in_err-annotation-in-29.field-0.0 (c.in_err-annotation-in-29.ensures.refused p))
+pub nested_at-returns-in_err-annotation-clause-refused : goal.nested_at-returns-in_err-annotation-clause-refused
+nested_at-returns-in_err-annotation-clause-refused t c = λ p. rw (err_is c.from_residual-in_err-annotation.result c.from_residual-in_err-annotation.ensures.1) (refuses_so c.args.self.now.number (λ none. no_annotation c.args.self.now.bytes.now c.args.at c.args.depth c.args.self.now.pools.now p.pools (c.requires.annotation (search rules)) none) c.in_err-annotation.field-0.0 (c.in_err-annotation.ensures.refused p))
 
 pub value_at-returns-in_default-clause-read : goal.value_at-returns-in_default-clause-read
 value_at-returns-in_default-clause-read t c = λ p. rw c.ok_or.ensures.value (found_or _ _ c.scalar_at.result _ (deeper c.args.self.now.bytes.now c.args.at c.args.depth c.args.self.now.pools.now p.pools _ _ c.scalar_at.result (c.scalar_at.ensures.read p.pools)))

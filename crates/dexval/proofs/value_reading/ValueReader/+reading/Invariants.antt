@@ -3,23 +3,26 @@ use Rattle.dexval.proofs.ValuesRead.{HaveRead}
 use Rattle.dexval.proofs.ElementsRead.{HaveReadOf}
 use Rattle.dexval.proofs.value_reading.ValueReader.+reading.Given as goal
 
-abbrev pub decreases-value_at : goal.decreases-value_at
-decreases-value_at l = 5 * l.depth
+abbrev pub decreases-nested_at : goal.decreases-nested_at
+decreases-nested_at l = 6 * l.depth
 
-abbrev pub decreases-array_at : goal.decreases-array_at
-decreases-array_at l = 5 * l.depth + 4
+abbrev pub decreases-value_at : goal.decreases-value_at
+decreases-value_at l = 6 * l.depth + 1
 
 abbrev pub decreases-values_at : goal.decreases-values_at
-decreases-values_at l = 5 * l.depth + 1
+decreases-values_at l = 6 * l.depth + 2
 
 abbrev pub decreases-element_at : goal.decreases-element_at
-decreases-element_at l = 5 * l.depth + 1
+decreases-element_at l = 6 * l.depth + 2
 
 abbrev pub decreases-elements_at : goal.decreases-elements_at
-decreases-elements_at l = 5 * l.depth + 2
+decreases-elements_at l = 6 * l.depth + 3
 
 abbrev pub decreases-annotation_at : goal.decreases-annotation_at
-decreases-annotation_at l = 5 * l.depth + 3
+decreases-annotation_at l = 6 * l.depth + 4
+
+abbrev pub decreases-array_at : goal.decreases-array_at
+decreases-array_at l = 6 * l.depth + 5
 
 abbrev pub invariant-values_at-loop-i : goal.invariant-values_at-loop-i
 invariant-values_at-loop-i l = record {

@@ -35,8 +35,10 @@ pub mod SetsRead
 pub mod Shapes
 pub mod Spelled
 pub mod Spelling
+pub mod Symbolless
 pub mod TableGrowth
 pub mod TablesRemapped
 pub mod ValuesRead
 pub mod Weights
+pub mod WeightsKept
 pub mod PlacedItems

@@ -8,10 +8,9 @@ ghost use Rattle.dexval.specs.Renumbering.{renumbered_values, HavePlaces};
 ghost use Rattle.dexval.specs.Tables.{IsRemappedSet};
 
 use crate::equality::are_same_values;
-use crate::kept_set::renumber_fitting;
 use crate::weighed_set::WeighedSet;
 use crate::weighed_values::WeighedValues;
-use crate::{AnnotationSet, Value, copied_values, renumber_values};
+use crate::{AnnotationSet, Value};
 use dexpool::Remap;
 use std::alloc::{AllocError, Global};
 use std::collections::HashMap;
@@ -93,29 +92,28 @@ impl<'r> Model for RemappedItems<'r> {
 // A set, remapped in memory that tables can share.
 fn remapped_set(
     alloc: Global,
-    set: &AnnotationSet,
+    set: &WeighedSet,
     remap: &Remap,
 ) -> Result<Rc<WeighedSet>, AllocError>
-    ensures { IfOk result (λ image. IsRemappedSet remap.now (set_of set.now) image.value) }
+    ensures { IfOk result (λ image. IsRemappedSet remap.now set.now image.value) }
 {
     let mut image = set.copy()?;
-    renumber_fitting(&mut image, remap);
-    Ok(Rc::new(alloc, WeighedSet::of(image))?)
+    image.renumber_fitting(remap);
+    Ok(Rc::new(alloc, image)?)
 }
 
 // Values, remapped in memory that classes can share.
 fn remapped_values(
     alloc: Global,
-    values: &Vec<Value>,
+    values: &WeighedValues,
     remap: &Remap,
 ) -> Result<Rc<WeighedValues>, AllocError>
-    requires { HavePlaces remap.now (values_of values.now.items) }
-    ensures { IfOk result (λ image.
-        image.value ≡ renumbered_values remap.now (values_of values.now.items)) }
+    requires { HavePlaces remap.now values.now }
+    ensures { IfOk result (λ image. image.value ≡ renumbered_values remap.now values.now) }
 {
-    let mut image = copied_values(values)?;
-    renumber_values(&mut image, remap);
-    Ok(Rc::new(alloc, WeighedValues::of(image))?)
+    let mut image = values.copy()?;
+    image.renumber(remap);
+    Ok(Rc::new(alloc, image)?)
 }
 
 impl<'r> RemappedItems<'r> {
@@ -187,12 +185,13 @@ impl<'r> RemappedItems<'r> {
         if let Some(known) = self.known_set(key, set.set())? {
             return Ok(known);
         }
-        let image = remapped_set(self.alloc, set.set(), self.remap)?;
+        let image = remapped_set(self.alloc, set, self.remap)?;
         self.sets.add(key, set, &image)?;
         Ok(image)
     }
 
-    /// Values with each number replaced by the one that it maps to. Equal values of the same key are remapped once.
+    /// Values with each number replaced by the one that it maps to. Equal values of the same key are remapped once;
+    /// values that name no symbol are their own image.
     ///
     /// Condition: each number maps to a number below 2^32. Error: an allocation failed.
     pub fn values_image(
@@ -205,10 +204,13 @@ impl<'r> RemappedItems<'r> {
         ensures image { IfOk result
             (λ image. image.value ≡ renumbered_values self.old values.now.value) }
     {
+        if !values.names_symbols() {
+            return Ok(values.clone()?);
+        }
         if let Some(known) = self.known_values(key, values.values())? {
             return Ok(known);
         }
-        let image = remapped_values(self.alloc, values.values(), self.remap)?;
+        let image = remapped_values(self.alloc, values, self.remap)?;
         self.values.add(key, values, &image)?;
         Ok(image)
     }

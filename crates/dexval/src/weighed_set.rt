@@ -1,11 +1,15 @@
 //! Sets of annotations with their weights.
 
-ghost use Rattle.std.specs.Prelude.{◌≡◌, ◌-◌, ◌^◌, min};
+ghost use Rattle.std.specs.Prelude.{◌≡◌, ◌-◌, ◌^◌, min, IfOk};
 ghost use Rattle.dexspec.specs.Mentions.{Mentions};
 ghost use Rattle.dexval.specs.Code.{set_of};
 ghost use Rattle.dexval.specs.Directories.{set_weight_in};
+ghost use Rattle.dexval.specs.Tables.{IsRemappedSet};
 
 use crate::AnnotationSet;
+use crate::kept_set::renumber_fitting;
+use dexpool::Remap;
+use std::alloc::AllocError;
 use std::marker::Model;
 
 /// A set that several tables have, with its weight, so that it is weighed once. Contracts see the set.
@@ -53,5 +57,21 @@ impl WeighedSet {
         ensures { (m : Mentions) → result ≡ min (2 ^ 64 - 1) (set_weight_in m self.now) }
     {
         self.weight
+    }
+    /// The same set, with copies of all contents. Error: an allocation failed.
+    pub(crate) fn copy(&self) -> Result<WeighedSet, AllocError>
+        ensures { IfOk result (λ copy. copy ≡ self.now) }
+    {
+        Ok(WeighedSet {
+            set: self.set.copy()?,
+            weight: self.weight,
+        })
+    }
+
+    /// Replaces each number of a symbol in the set by the one that it maps to, if each has an image below 2^32.
+    pub(crate) fn renumber_fitting(&mut self, remap: &Remap)
+        ensures { IsRemappedSet remap.now self.old self.new }
+    {
+        renumber_fitting(&mut self.set, remap);
     }
 }

@@ -1,29 +1,51 @@
 //! Static values with their weights.
 
-ghost use Rattle.std.specs.Prelude.{◌≡◌, ◌-◌, ◌^◌, min};
+ghost use Rattle.std.specs.Prelude.{◌≡◌, ◌-◌, ◌^◌, [], false, min, IfOk, IsTrue};
 ghost use Rattle.dexspec.specs.Mentions.{Mentions};
 ghost use Rattle.dexspec.specs.Weight.{static_values_weight};
 ghost use Rattle.dexval.specs.Code.{values_of};
 ghost use Rattle.dexval.specs.Numbered.{values_in};
+ghost use Rattle.dexval.specs.Renumbering.{renumbered_values, HavePlaces};
+ghost use Rattle.dexval.specs.Uses.{values_uses};
 
-use crate::{Value, statics_weight};
+use crate::{Value, copied_values, renumber_values, statics_weight, visit_values};
+use dexpool::{Remap, SymbolKind, Symbols, Visitor};
+use std::alloc::AllocError;
 use std::marker::Model;
 
-/// The initial values of static fields that several classes have, with their weight, so that they are weighed once.
-/// Contracts see the values.
+// Whether a symbol was visited.
+#[derive(Drop)]
+struct Sighting {
+    seen: bool,
+}
+
+impl Visitor for Sighting {
+    ghost step = { λ a u b. IsTrue b.seen };
+
+    fn symbol(&mut self, _kind: SymbolKind, _number: u32) {
+        self.seen = true;
+    }
+}
+
+/// The initial values of static fields with their weight, so that they are weighed once, and with whether they name a
+/// symbol, so that what concerns symbols passes over values that name none. Contracts see the values.
+///
+/// Source: "encoded_array format".
 #[derive(Drop)]
 pub struct WeighedValues {
     values: Vec<Value>,
     weight: u64,
+    names_symbols: bool,
 }
 
 impl Model for WeighedValues {
-    ghost use Rattle.std.specs.Prelude.{◌≡◌, ◌-◌, ◌^◌, min};
+    ghost use Rattle.std.specs.Prelude.{◌≡◌, ◌-◌, ◌^◌, [], false, min};
     ghost use Rattle.std.specs.Coded.{codes};
     ghost use Rattle.dexval.specs.Code.{values_of};
     ghost use Rattle.dexval.specs.Numbered.{NumberedValues};
     ghost use Rattle.dexval.specs.Spelled.{numbered_statics_weight};
     ghost use Rattle.dexval.specs.Stored.{values_code};
+    ghost use Rattle.dexval.specs.Uses.{values_uses};
 
     ghost Value = { NumberedValues };
 
@@ -31,16 +53,23 @@ impl Model for WeighedValues {
 
     ghost view = { λ w. values_of w.values.items };
 
-    ghost invariant = { λ w. w.weight ≡ min (2 ^ 64 - 1) (numbered_statics_weight (values_of w.values.items)) };
+    ghost invariant = { λ w. (w.weight ≡ min (2 ^ 64 - 1) (numbered_statics_weight (values_of w.values.items)))
+        × (w.names_symbols ≡ false → values_uses (values_of w.values.items) ≡ []) };
 }
 
 impl WeighedValues {
     /// Values with their weight.
-    pub(crate) fn of(values: Vec<Value>) -> WeighedValues
+    pub fn of(values: Vec<Value>) -> WeighedValues
         ensures { result ≡ values_of values.items }
     {
         let weight = statics_weight(&values);
-        WeighedValues { values, weight }
+        let mut symbol = Sighting { seen: false };
+        visit_values(&values, &mut symbol);
+        WeighedValues {
+            values,
+            weight,
+            names_symbols: symbol.seen,
+        }
     }
 
     /// The values.
@@ -56,5 +85,47 @@ impl WeighedValues {
             → result ≡ min (2 ^ 64 - 1) (static_values_weight (values_in m self.now)) }
     {
         self.weight
+    }
+    /// Returns `false` only if no symbol occurs in the values.
+    pub(crate) fn names_symbols(&self) -> bool
+        ensures { result ≡ false → values_uses self.now ≡ [] }
+    {
+        self.names_symbols
+    }
+
+    /// The same values, with copies of all contents, as [`copied_values`] makes them.
+    ///
+    /// Error: an allocation failed.
+    pub fn copy(&self) -> Result<WeighedValues, AllocError>
+        ensures { IfOk result (λ copy. copy ≡ self.now) }
+    {
+        Ok(WeighedValues {
+            values: copied_values(&self.values)?,
+            weight: self.weight,
+            names_symbols: self.names_symbols,
+        })
+    }
+
+    /// Replaces each number of a symbol in the values by the one that it maps to, as [`renumber_values`] does.
+    ///
+    /// Condition: each number maps to a number below 2^32.
+    pub fn renumber(&mut self, remap: &Remap)
+        requires { HavePlaces remap.now self.old }
+        ensures { self.new ≡ renumbered_values remap.now self.old }
+    {
+        if self.names_symbols {
+            renumber_values(&mut self.values, remap);
+        }
+    }
+}
+
+/// The symbols that occur in the values. Values that name none are passed over.
+impl Symbols for WeighedValues {
+    ghost uses = { values_uses };
+
+    fn visit<V: Visitor>(&self, visitor: &mut V) {
+        if self.names_symbols {
+            visit_values(&self.values, visitor);
+        }
     }
 }

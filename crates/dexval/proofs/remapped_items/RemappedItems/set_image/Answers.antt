@@ -13,14 +13,14 @@ pub invariant_of-self : goal.invariant_of-self
 invariant_of-self c =
     let r = c.self.inside.remap.now in
     let at : c.deref-2.result.now ≡ c.args.set.now.value = search rules in
-    let is : IsRemappedSet r c.args.set.now.value c.in_ok-image.image.value = same_image r (set_of c.set-2.result.now) c.in_ok-image.image.value c.args.set.now.value c.in_ok-image.image.value (sym (c.set-2.ensures ∙ at)) refl c.in_ok-image.ensures in
+    let is : IsRemappedSet r c.args.set.now.value c.in_ok-image.image.value = same_image r c.deref-2.result.now c.in_ok-image.image.value c.args.set.now.value c.in_ok-image.image.value (sym at) refl c.in_ok-image.ensures in
     (all_added (IsImageOfSet r) c.args.set.now.value c.in_ok-image.image.value c.self.inside.sets.all.items c.add.new.self.all.items c.self.invariant.0 (λ image first second. same_image r c.args.set.now.value c.in_ok-image.image.value image.before.value image.after.value first second is) c.add.ensures, c.self.invariant.1)
 
 pub invariant_of-self-2 : goal.invariant_of-self-2
 invariant_of-self-2 c =
     let r = c.self.inside.remap.now in
     let at : c.deref-2.result.now ≡ c.args.set.now.value = search rules in
-    let is : IsRemappedSet r c.args.set.now.value c.in_ok-image.image.value = same_image r (set_of c.set-2.result.now) c.in_ok-image.image.value c.args.set.now.value c.in_ok-image.image.value (sym (c.set-2.ensures ∙ at)) refl c.in_ok-image.ensures in
+    let is : IsRemappedSet r c.args.set.now.value c.in_ok-image.image.value = same_image r c.deref-2.result.now c.in_ok-image.image.value c.args.set.now.value c.in_ok-image.image.value (sym at) refl c.in_ok-image.ensures in
     (all_added (IsImageOfSet r) c.args.set.now.value c.in_ok-image.image.value c.self.inside.sets.all.items c.add.new.self.all.items c.self.invariant.0 (λ image first second. same_image r c.args.set.now.value c.in_ok-image.image.value image.before.value image.after.value first second is) c.add.ensures, c.self.invariant.1)
 
 pub returns-clause-image : goal.returns-clause-image
@@ -28,4 +28,4 @@ returns-clause-image c =
     let r = c.self.inside.remap.now in
     let at : c.deref-2.result.now ≡ c.args.set.now.value = search rules in
     subst (λ (r : Maps). IsRemappedSet r c.args.set.now.value c.in_ok-image.image.value) c.self.view_is
-    (same_image r (set_of c.set-2.result.now) c.in_ok-image.image.value c.args.set.now.value c.in_ok-image.image.value (sym (c.set-2.ensures ∙ at)) refl c.in_ok-image.ensures)
+    (same_image r c.deref-2.result.now c.in_ok-image.image.value c.args.set.now.value c.in_ok-image.image.value (sym at) refl c.in_ok-image.ensures)

@@ -1,7 +1,6 @@
 -- The values that static fields begin with, in whoever's memory they are.
 use Rattle.std.specs.Prelude.{◌≡◌}
 use Rattle.dexpool.specs.Numberings.{Maps}
-use Rattle.dexval.specs.Code.{values_of}
 use Rattle.dexval.specs.Numbered.{NumberedValues}
 use Rattle.dexval.specs.Renumbering.{renumbered_values}
 use Rattle.dexmembers.specs.declared.static_values.Holder.{Holder}
@@ -10,7 +9,7 @@ use Rattle.dexmembers.specs.declared.static_values.StaticValues.{StaticValues}
 
 -- the values that a holder has
 abbrev pub held_values : Holder → NumberedValues
-held_values (Own values) = values_of values.items
+held_values (Own values) = values
 held_values (Shared values) = values.value
 held_values (Remapped values image) = values.value
 

@@ -11,7 +11,7 @@ ghost use Rattle.dexmembers.specs.internal.Parts.{optional_code_uses};
 use crate::{Field, Fields, Members, Method, Methods, ParameterSets};
 use dexcode::BorrowedCode;
 use dexpool::{Marks, SymbolKind, Symbols, Visitor, mark};
-use dexval::{AnnotationSet, visit_values};
+use dexval::AnnotationSet;
 
 // Passes the symbols of a set, if there is one, to the visitor.
 fn visit_set<V: Visitor>(set: Option<&AnnotationSet>, visitor: &mut V)
@@ -92,7 +92,7 @@ impl Symbols for Members<'_> {
         self.instance_fields().visit(visitor);
         self.direct_methods().visit(visitor);
         self.virtual_methods().visit(visitor);
-        visit_values(self.static_values(), visitor);
+        self.weighed_values().visit(visitor);
     }
 }
 

@@ -13,7 +13,7 @@ use crate::static_values::StaticValues;
 use crate::{Fields, Methods, RemappedMembers};
 use dexflags::FieldFlags;
 use dexpool::{Remap, Renumber, SymbolKind, renumber_all};
-use dexval::{AnnotationSet, SetTable, Value, remapped};
+use dexval::{AnnotationSet, SetTable, Value, WeighedValues, remapped};
 use std::alloc::AllocError;
 use std::marker::Model;
 
@@ -175,7 +175,14 @@ impl<'a> Members<'a> {
     pub fn static_values(&self) -> &[Value]
         ensures { values_of_list (map value_of result.now) ≡ self.now.static_values }
     {
-        self.contents.static_values.values()
+        self.weighed_values().values()
+    }
+
+    /// The initial values of the static fields with their weight.
+    pub(crate) fn weighed_values(&self) -> &WeighedValues
+        ensures { result.now ≡ self.now.static_values }
+    {
+        self.contents.static_values.weighed()
     }
 
     /// Returns a copy of the members, with lists of their own. The units of code are borrowed as before.

@@ -10,7 +10,7 @@ ghost use Rattle.dexval.specs.Renumbering.{renumbered_values, HavePlaces};
 ghost use Rattle.dexmembers.specs.StaticValues.{values_in, AreReady};
 
 use dexpool::Remap;
-use dexval::{RemappedItems, Value, WeighedValues, copied_values, renumber_values, statics_weight};
+use dexval::{RemappedItems, Value, WeighedValues};
 use std::alloc::AllocError;
 use std::mem;
 use std::rc::Rc;
@@ -19,7 +19,7 @@ use std::rc::Rc;
 #[derive(Drop)]
 pub(crate) enum Holder {
     /// One class.
-    Own(Vec<Value>),
+    Own(WeighedValues),
     /// Several classes.
     Shared(Rc<WeighedValues>),
     /// Several classes, and the values remapped are there too.
@@ -43,7 +43,7 @@ impl StaticValues {
     {
         StaticValues {
             key,
-            holder: Holder::Own(values),
+            holder: Holder::Own(WeighedValues::of(values)),
         }
     }
 
@@ -57,13 +57,13 @@ impl StaticValues {
         }
     }
 
-    /// The values.
-    pub(crate) fn values(&self) -> &Vec<Value>
-        ensures { values_of result.now.items ≡ values_in self.now }
+    /// The values with their weight.
+    pub(crate) fn weighed(&self) -> &WeighedValues
+        ensures { result.now ≡ values_in self.now }
     {
         match &self.holder {
             Holder::Own(values) => values,
-            Holder::Shared(values) | Holder::Remapped(values, _) => values.as_ref().values(),
+            Holder::Shared(values) | Holder::Remapped(values, _) => values.as_ref(),
         }
     }
 
@@ -72,10 +72,7 @@ impl StaticValues {
         ensures { (m : Mentions) → result
             ≡ min (2 ^ 64 - 1) (static_values_weight (numbered.values_in m (values_in self.now))) }
     {
-        match &self.holder {
-            Holder::Own(values) => statics_weight(values),
-            Holder::Shared(values) | Holder::Remapped(values, _) => values.as_ref().weight(),
-        }
+        self.weighed().weight()
     }
 
     // The values where other classes have them too, or `None` where they are in memory of their own.
@@ -94,7 +91,10 @@ impl StaticValues {
         ensures { IfOk result (λ copy. values_in copy ≡ values_in self.now) }
     {
         match &self.holder {
-            Holder::Own(values) => Ok(StaticValues::own(self.key, copied_values(values)?)),
+            Holder::Own(values) => Ok(StaticValues {
+                key: self.key,
+                holder: Holder::Own(values.copy()?),
+            }),
             Holder::Shared(values) | Holder::Remapped(values, _) => Ok(StaticValues {
                 key: self.key,
                 holder: Holder::Shared(values.clone()?),
@@ -127,7 +127,7 @@ impl StaticValues {
         ensures { values_in self.new ≡ renumbered_values remap.now (values_in self.old) }
     {
         match &mut self.holder {
-            Holder::Own(values) => renumber_values(values, remap),
+            Holder::Own(values) => values.renumber(remap),
             Holder::Shared(_) => {}
             Holder::Remapped(values, image) => mem::swap(values, image),
         }

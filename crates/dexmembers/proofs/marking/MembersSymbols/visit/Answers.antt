@@ -21,8 +21,8 @@ returns g c =
     let second = c.visit-2.new.visitor in
     let third = c.visit-3.new.visitor in
     let fourth = c.visit-4.new.visitor in
-    let end = c.visit_values.new.visitor in
-    let values = subst (λ (l : NumberedValues). FoldsTo step fourth (values_uses l) end) c.static_values.ensures c.visit_values.ensures in
+    let end = c.visit-5.new.visitor in
+    let values = subst (λ (l : NumberedValues). FoldsTo step fourth (values_uses l) end) c.weighed_values.ensures c.visit-5.ensures in
     let fields = subst (λ us. FoldsTo step owned us second) (uses_of_both field_uses x.static_fields x.instance_fields c.static_fields.result c.instance_fields.result c.static_fields.ensures c.instance_fields.ensures)
     (visited_both step owned statics first instances second c.visit.ensures c.visit-2.ensures) in
     let methods = subst (λ us. FoldsTo step second us fourth) (uses_of_both method_uses x.direct_methods x.virtual_methods c.direct_methods.result c.virtual_methods.result c.direct_methods.ensures c.virtual_methods.ensures)

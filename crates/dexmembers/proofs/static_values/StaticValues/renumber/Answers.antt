@@ -3,8 +3,8 @@ use Rattle.dexval.specs.Renumbering.{HavePlaces, renumbered_values}
 use Rattle.dexmembers.specs.StaticValues.{held_values, IsReadyHolder}
 use Rattle.dexmembers.proofs.static_values.StaticValues.renumber.Goals as goal
 
-pub renumber_values-requires : goal.renumber_values-requires
-renumber_values-requires c = subst (HavePlaces c.args.remap.now) (ap held_values c.in-Own.is) c.requires.places
+pub renumber-requires : goal.renumber-requires
+renumber-requires c = subst (HavePlaces c.args.remap.now) (ap held_values c.in-Own.is) c.requires.places
 
 pub returns-in-Remapped : goal.returns-in-Remapped
 returns-in-Remapped c =

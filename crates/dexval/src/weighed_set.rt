@@ -58,6 +58,7 @@ impl WeighedSet {
     {
         self.weight
     }
+
     /// The same set, with copies of all contents. Error: an allocation failed.
     pub(crate) fn copy(&self) -> Result<WeighedSet, AllocError>
         ensures { IfOk result (λ copy. copy ≡ self.now) }

@@ -86,6 +86,7 @@ impl WeighedValues {
     {
         self.weight
     }
+
     /// Returns `false` only if no symbol occurs in the values.
     pub(crate) fn names_symbols(&self) -> bool
         ensures { result ≡ false → values_uses self.now ≡ [] }

@@ -67,7 +67,7 @@ fn part_size(part: &Part<'_>) -> usize
     ensures fewer { result < length part.now }
 {
     let count = part.len();
-    let ways = WAYS.max(part.density().saturating_mul(4) as usize);
+    let ways = WAYS.max(part.density() as usize);
     ((count - 1) / ways + 1).min(count - 1)
 }
 

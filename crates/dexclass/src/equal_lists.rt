@@ -90,9 +90,13 @@ fn first_or_same(classes: &[Class<'_>], i: usize, found: usize) -> usize
     i
 }
 
-/// For each class one with the same interfaces: itself, or one before it. Classes that share a long list have one that
-/// is before the others.
-pub(crate) fn first_equal(alloc: Global, classes: &[Class<'_>]) -> Result<Vec<usize>, AllocError>
+/// For each class the number of one with the same interfaces: itself, or one before it. Classes that have a long list at
+/// the same place of the same file have one that is before the others.
+///
+/// Error: an allocation failed.
+///
+/// Source: "class_def_item", the field `interfaces_off`, and "type_list".
+pub fn first_equal(alloc: Global, classes: &[Class<'_>]) -> Result<Vec<usize>, AllocError>
     ensures { IfOk result (λ firsts.
         AreFirstEqual (λ c. c.interfaces) classes.now firsts.items) }
 {

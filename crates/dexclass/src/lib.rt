@@ -31,7 +31,7 @@ mod trimming;
 pub use checking::{check, check_frame};
 pub use classes::Class;
 pub use dexflags::{ClassFlags, FieldFlags, MethodFlags};
-pub use equal_lists::KnownLists;
+pub use equal_lists::{KnownLists, first_equal};
 pub use laws::{renumbering_law, same_law, uses_law};
 pub use parts::{Part, Parts};
 pub use programs::Program;

@@ -1,10 +1,9 @@
 //! Type lists: those of the parameters of protos, and of the interfaces of classes.
 
-ghost use Rattle.std.specs.Prelude.{◌≡◌, ◌^◌, ◌<◌, ◌≤◌, ◌+◌, ◌++◌, All, IfOk, OnOk, Some, [], length, slice_index_or};
+ghost use Rattle.std.specs.Prelude.{◌≡◌, ◌^◌, ◌<◌, ◌≤◌, ◌+◌, ◌++◌, All, IfOk, OnOk, Some, [], length};
 ghost use Rattle.dexspec.specs.Bytes as bytes;
 ghost use Rattle.dexspec.specs.Canonical.{data_start, type_list_section};
 ghost use Rattle.dexspec.specs.Placing.{section_bytes, uses_offsets};
-ghost use Rattle.dexclass.specs.Numbered.{NumberedClass};
 ghost use Rattle.dexlayout.specs.Laid.{AreTypeLists, AreWritable, ordered_of};
 ghost use Rattle.dexlayout.specs.internal.SharedUses.{AreTypes, SharesLists};
 ghost use Rattle.dexlayout.specs.internal.Adding.{AddsUses, AddsListAt, AddsParameters, list_uses, AreKnownClasses, interfaces_uses};
@@ -16,7 +15,7 @@ use crate::items::SharedOffsets;
 use crate::keys::ListKey;
 use crate::offsets::{Offsets, padding, round_up};
 use crate::sharing::{Shared, Sharing};
-use dexclass::{Class, KnownLists};
+use dexclass::{Class, first_equal};
 use dexhead::{Encode, Output};
 use dexpool::{KnownParameters, Numbering, SymbolKind};
 use dexrows::TypeNumbers;
@@ -67,30 +66,13 @@ impl<'p> Sharing<ListKey<'p>> {
         ensures { AddsUses SharesLists result self.old self.new AreKnownClasses interfaces_uses
             classes.now }
     {
-        let mut known = KnownLists::none(*self.numbers.allocator());
+        let firsts = first_equal(*self.numbers.allocator(), classes)?;
         let before = self.len();
         for i in 0..classes.len() {
-            let first = first_known(&mut known, classes, i)?;
-            self.add_list_at(before + first, classes[i].interfaces())?;
+            self.add_list_at(before + firsts[i], classes[i].interfaces())?;
         }
         Ok(())
     }
-}
-
-// A class with the interfaces of class `i`: the first that was asked for, before `i`, whose list is at the same place;
-// and `i` itself where there was none, or where the list is short.
-fn first_known(known: &mut KnownLists, classes: &[Class<'_>], i: usize) -> Result<usize, AllocError>
-    requires { i < length classes.now }
-    ensures before { IfOk result (λ first. first ≤ i) }
-    ensures equal { IfOk result (λ first. (d : NumberedClass)
-        → (slice_index_or classes.now first d).interfaces
-        ≡ (slice_index_or classes.now i d).interfaces) }
-{
-    let first = known.first(0, &classes[i], i)?;
-    if first < i && classes[i].has_interfaces_of(&classes[first]) {
-        return Ok(first);
-    }
-    Ok(i)
 }
 
 // The type lists that protos and classes share.

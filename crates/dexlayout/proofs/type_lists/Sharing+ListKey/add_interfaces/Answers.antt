@@ -1,4 +1,4 @@
-use Rattle.dexlayout.proofs.Common.{◌≡◌, ℕ, List, [], ◌∷◌, ◌++◌, map, take, subst, sym, ap, ◌∙◌, ◌<◌, arith, option_to_list, length, All-tail, all_back, unless_empty, IsKnownClass, AreTypes, SharesLists, interfaces_use}
+use Rattle.dexlayout.proofs.Common.{◌≡◌, ℕ, List, [], ◌∷◌, ◌++◌, map, take, subst, sym, ap, ◌∙◌, ◌<◌, arith, option_to_list, length, All-tail, all_back, get_or, get_or_default, unless_empty, IsKnownClass, AreTypes, SharesLists, interfaces_use}
 use Rattle.dexclass.specs.Numbered.{type_at}
 use Rattle.dexlayout.proofs.SharedUses.{uses_next}
 use Rattle.dexlayout.proofs.EarlierLists.{earlier_list, lists_before}
@@ -19,7 +19,11 @@ loop-i-preserved c =
           let use_of : List ℕ → _ = λ (ns : List ℕ). unless_empty (map (type_at m) ns) in
           let so_far = us ++ map (interfaces_use m) (take i cs) in
           let start = c.loop-i.invariant.before ∙ lists_before m h in
-          let taken = earlier_list (interfaces_use m) cs x us i c.loop-i-test.true c.len-before.result start c.in_ok-first.first (ap use_of (c.in_ok-first.ensures.equal x)) in
+          let firsts = c.in_ok-firsts.ensures in
+          let first = c.index.result.now in
+          let first_is = c.index.ensures ∙ get_or_default c.in_ok-firsts.firsts.items i first 0 (omega (arith, c.loop-i-test.true, firsts.count)) in
+          let equal = subst (λ (n : ℕ). (get_or cs n x).interfaces ≡ (get_or cs i x).interfaces) (sym first_is) (firsts.equal i x c.loop-i-test.true) in
+          let taken = earlier_list (interfaces_use m) cs x us i c.loop-i-test.true c.len-before.result start first (ap use_of equal) in
           subst (λ vs. SharesLists m vs c.add_list_at.new.self.items.keys c.add_list_at.new.self.numbers.items)
           (ap (λ ns. so_far ++ use_of ns ∷ []) means ∙ uses_next (interfaces_use m) us cs i x c.loop-i-test.true (sym c.index-classes-i.is))
           (c.in_ok-add_list_at.ensures.added m so_far (subst (AreTypes m) (sym means) types)

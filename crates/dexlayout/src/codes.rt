@@ -45,7 +45,7 @@ impl Model for Codes {
 
 impl Codes {
     /// The code of all methods, one item after the other, with zeros before those that are aligned; or `None` where it
-    /// is not kept. At most 8 MB are.
+    /// is not kept. At most 2^23 bytes are.
     pub fn bytes(&self) -> Option<&[u8]>
         ensures kept { MatchOption result (self.now.bytes ≡ None) (λ bytes.
             self.now.bytes ≡ Some bytes.now) }

@@ -11,4 +11,5 @@ pub mod DebugUses
 pub mod Encoded
 pub mod DebugRanked
 pub mod DebugsChecked
+pub mod SameBytes
 pub mod StoredOperations

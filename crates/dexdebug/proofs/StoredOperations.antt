@@ -93,7 +93,7 @@ module _ (x y : Operation) (same : unindexed_of x ≡ unindexed_of y) where
   same_places : length (indices_of x) ≡ length (indices_of y)
   same_places = sym (plain_parts x).1 ∙ ap (λ op. length (indices_of op)) same ∙ (plain_parts y).1
 
-  same_operands : operands (unindexed_operation x) ≡ operands (unindexed_operation y)
+  pub same_operands : operands (unindexed_operation x) ≡ operands (unindexed_operation y)
   same_operands = ap operands (sym (plain_parts x).0 ∙ ap unindexed_operation same ∙ (plain_parts y).0)
 
   -- with the numbers of the other it is the other

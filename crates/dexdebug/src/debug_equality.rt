@@ -15,7 +15,7 @@ use crate::operations::{NameIter, OperationIter};
 use std::hash::{Hash, Hasher};
 
 // Returns whether names are equal, one for one.
-fn equal_names(mine: NameIter<'_>, others: NameIter<'_>) -> bool
+pub(crate) fn equal_names(mine: NameIter<'_>, others: NameIter<'_>) -> bool
     ensures { result ≡ pointwise (option_eq ◌==◌) mine.entry others.entry }
 {
     mine.eq(others)

@@ -9,6 +9,7 @@ use crate::classes::Class;
 use crate::programs::Program;
 use crate::trimming::{into_trimmed, trim};
 use dexpool::Numbering;
+use dexval::KnownImages;
 use std::alloc::{AllocError, Global};
 use std::marker::Model;
 
@@ -112,7 +113,12 @@ impl<'a> Part<'a> {
     {
         let Part { numbering, classes } = self;
         numbering.is_numbering();
-        Parts { numbering, classes }
+        let known = KnownImages::none(*classes.allocator());
+        Parts {
+            numbering,
+            classes,
+            known,
+        }
     }
 
     /// The classes whose flags are set, and the others, each in their order. The time grows with the tables of this
@@ -136,7 +142,8 @@ impl<'a> Part<'a> {
             mut chosen,
             mut others,
         } = divide(alloc, classes, flags)?;
-        let chosen_numbering = trim(alloc, &numbering, &mut chosen)?;
+        let mut known = KnownImages::none(alloc);
+        let chosen_numbering = trim(alloc, &numbering, &mut chosen, &mut known)?;
         let other_numbering = into_trimmed(alloc, numbering, &mut others)?;
         let chosen_part = Part {
             numbering: chosen_numbering,
@@ -163,6 +170,8 @@ pub struct Parts<'a> {
     // It may have more symbols than the classes mention.
     numbering: Numbering<'a>,
     classes: Vec<Class<'a>>,
+    // Of what classes share, for those that were split off and those that are.
+    known: KnownImages,
 }
 
 impl Drop for Parts<'_> {
@@ -170,6 +179,7 @@ impl Drop for Parts<'_> {
         let Parts {
             numbering: _,
             classes: _,
+            known: _,
         } = self;
     }
 }
@@ -211,7 +221,7 @@ impl<'a> Parts<'a> {
         ensures part { IfOk result (λ part. part ≡ drop at self.old) }
     {
         let mut classes = self.classes.split_off(at)?;
-        let numbering = trim(alloc, &self.numbering, &mut classes)?;
+        let numbering = trim(alloc, &self.numbering, &mut classes, &mut self.known)?;
         Ok(Part { numbering, classes })
     }
 }

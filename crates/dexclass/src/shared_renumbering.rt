@@ -10,6 +10,7 @@ use crate::interface_lists::{Interfaces, remapped_types};
 use crate::list_parts::{ListPlace, SharedPart};
 use dexmembers::RemappedMembers;
 use dexpool::Remap;
+use dexval::KnownImages;
 use std::alloc::{AllocError, Global};
 use std::collections::HashMap;
 use std::marker::Model;
@@ -195,13 +196,32 @@ impl<'r, 'a> Renumbering<'r, 'a> {
     ) -> Result<Renumbering<'r, 'a>, AllocError>
         ensures { IfOk result (λ renumbering. renumbering ≡ remap.now) }
     {
+        Renumbering::with_known(alloc, remap, classes, KnownImages::none(alloc))
+    }
+
+    /// As [`Renumbering::of`], where images that other maps made are tried first, as
+    /// [`dexval::RemappedItems::with_known`] does.
+    pub(crate) fn with_known(
+        alloc: Global,
+        remap: &'r Remap,
+        classes: &[Class<'a>],
+        known: KnownImages,
+    ) -> Result<Renumbering<'r, 'a>, AllocError>
+        ensures { IfOk result (λ renumbering. renumbering ≡ remap.now) }
+    {
         let Coverings { numbers, all } = Coverings::of(alloc, classes)?;
         let wholes = wholes_of(alloc, remap, classes, &all)?;
         Ok(Renumbering {
-            items: RemappedMembers::of(alloc, remap),
+            items: RemappedMembers::with_known(alloc, remap, known),
             numbers,
             wholes,
         })
+    }
+
+    /// The images that were made or tried, for [`Renumbering::with_known`].
+    pub(crate) fn into_known(self) -> KnownImages {
+        let Renumbering { items, .. } = self;
+        items.into_known()
     }
 
     // What a list of a file may be a part of.

@@ -13,7 +13,9 @@ use crate::laws::{renumbering_law, uses_law};
 use crate::shared_renumbering::Renumbering;
 use dexmembers::members_cut_law;
 use dexpool::{Marks, Numbering, Remap};
+use dexval::KnownImages;
 use std::alloc::{AllocError, Global};
+use std::mem;
 
 // Marks what the classes name. A long list that several of them share is gone over once.
 fn marked(
@@ -34,28 +36,38 @@ fn marked(
     Ok(marks)
 }
 
-// Remaps the numbers of the classes to those of a part of their numbering.
-fn cut_all<'a>(alloc: Global, remap: &Remap, classes: &mut Vec<Class<'a>>) -> Result<(), AllocError>
+// Remaps the numbers of the classes to those of a part of their numbering. Known images are tried, and those that are made
+// are known then.
+fn cut_all<'a>(
+    alloc: Global,
+    remap: &Remap,
+    classes: &mut Vec<Class<'a>>,
+    known: &mut KnownImages,
+) -> Result<(), AllocError>
     requires down { MapsDown remap.now }
     requires remapped { All (IsMappedClass remap.now) classes.old.items }
     ensures { OnOk result (classes.new.items ≡ map (renumbered remap.now) classes.old.items) }
 {
     members_cut_law();
-    let mut renumbering = Renumbering::of(alloc, remap, classes)?;
+    let images = mem::replace(known, KnownImages::none(alloc));
+    let mut renumbering = Renumbering::with_known(alloc, remap, classes, images)?;
     for i in 0..classes.len() {
         classes[i].members().numbers_fit();
         renumbering.renumber(&mut classes[i])?;
     }
+    *known = renumbering.into_known();
     Ok(())
 }
 
-/// The numbering of just what the classes mention, to which their numbers are remapped.
+/// The numbering of just what the classes mention, to which their numbers are remapped. Known images of what classes
+/// share are tried, and those that are made are known then.
 ///
 /// Condition: the classes' numbers are those of the numbering.
 pub(crate) fn trim<'a>(
     alloc: Global,
     numbering: &Numbering<'a>,
     classes: &mut Vec<Class<'a>>,
+    known: &mut KnownImages,
 ) -> Result<Numbering<'a>, AllocError>
     requires { All (IsKnownClass numbering.now) classes.old.items }
     ensures { IfOk result (λ trimmed. AreTrimmed
@@ -66,7 +78,7 @@ pub(crate) fn trim<'a>(
     numbering.is_numbering();
     let marks = marked(alloc, numbering, classes)?;
     let (trimmed, remap) = numbering.keep(alloc, &marks)?;
-    cut_all(alloc, &remap, classes)?;
+    cut_all(alloc, &remap, classes, known)?;
     Ok(trimmed)
 }
 
@@ -89,7 +101,7 @@ pub(crate) fn into_trimmed<'a>(
     let marks = marked(alloc, &numbering, classes)?;
     let (trimmed, remap) = numbering.into_kept(alloc, &marks)?;
     if let Some(remap) = remap {
-        cut_all(alloc, &remap, classes)?;
+        cut_all(alloc, &remap, classes, &mut KnownImages::none(alloc))?;
     }
     Ok(trimmed)
 }

@@ -11,7 +11,7 @@ ghost use Rattle.dexmembers.specs.internal.SharedCodes.{code_in, debug_in};
 use crate::static_values::StaticValues;
 use dexcode::{Code, Debug};
 use dexpool::{Remap, SharedItem};
-use dexval::SetTable;
+use dexval::{KnownImages, SetTable};
 use std::alloc::{AllocError, Global};
 use std::marker::Model;
 
@@ -40,11 +40,29 @@ impl<'r, 'a> RemappedMembers<'r, 'a> {
     pub fn of(alloc: Global, remap: &'r Remap) -> RemappedMembers<'r, 'a>
         ensures { result ≡ remap.now }
     {
+        RemappedMembers::with_known(alloc, remap, KnownImages::none(alloc))
+    }
+
+    /// A map for which images of sets and values that other maps made are tried first, as
+    /// [`dexval::RemappedItems::with_known`] does.
+    pub fn with_known(
+        alloc: Global,
+        remap: &'r Remap,
+        known: KnownImages,
+    ) -> RemappedMembers<'r, 'a>
+        ensures { result ≡ remap.now }
+    {
         RemappedMembers {
-            items: dexval::RemappedItems::of(alloc, remap),
+            items: dexval::RemappedItems::with_known(alloc, remap, known),
             codes: dexpool::RemappedItems::of(alloc, remap),
             debugs: dexpool::RemappedItems::of(alloc, remap),
         }
+    }
+
+    /// The images of sets and values that were made or tried, for [`RemappedMembers::with_known`].
+    pub fn into_known(self) -> KnownImages {
+        let RemappedMembers { items, .. } = self;
+        items.into_known()
     }
 
     /// The map.

@@ -29,7 +29,7 @@ use dexinsn::Scratch;
 use dexpool::{ItemFault, Pools};
 use dexval::{
     CheckedSets, CheckedStatics, SetTable, SharedDirectory, SharedItems, StaticsShape,
-    check_directory, checked_statics_at, item_key, read_shared_directory_with, read_statics,
+    WeighedValues, check_directory, checked_statics_at, item_key, read_shared_directory_with,
     shared_statics_at,
 };
 use std::alloc::Global;
@@ -204,7 +204,7 @@ impl<'f> RowReader<'_, 'f, '_> {
                 Ok(StaticValues::shared_by_classes(key, values))
             }
             None => {
-                let values = read_statics(self.alloc, self.frame, self.pools, off)?;
+                let values = WeighedValues::read(self.alloc, self.frame, self.pools, off)?;
                 Ok(StaticValues::own(key, values))
             }
         }
@@ -241,7 +241,7 @@ impl<'f> RowReader<'_, 'f, '_> {
     {
         let off = self.row.static_values_off;
         if off == 0 {
-            return Ok(StaticValues::own(0, Vec::new(self.alloc)));
+            return Ok(StaticValues::own(0, WeighedValues::none(self.alloc)));
         }
         let shape = checked_statics_at(self.frame, self.pools, off, checked)?;
         let weight = self.weight_of_values(shape)?;

@@ -4,13 +4,12 @@ ghost use Rattle.std.specs.Prelude.{◌≡◌, ◌-◌, ◌^◌, min, IfOk, Matc
 ghost use Rattle.dexspec.specs.Mentions.{Mentions};
 ghost use Rattle.dexspec.specs.Weight.{static_values_weight};
 ghost use Rattle.dexpool.specs.Numberings.{Maps};
-ghost use Rattle.dexval.specs.Code.{values_of};
 ghost use Rattle.dexval.specs.Numbered as numbered;
 ghost use Rattle.dexval.specs.Renumbering.{renumbered_values, HavePlaces};
 ghost use Rattle.dexmembers.specs.StaticValues.{values_in, AreReady};
 
 use dexpool::Remap;
-use dexval::{RemappedItems, Value, WeighedValues};
+use dexval::{RemappedItems, WeighedValues};
 use std::alloc::AllocError;
 use std::mem;
 use std::rc::Rc;
@@ -38,12 +37,12 @@ pub(crate) struct StaticValues {
 
 impl StaticValues {
     /// Values in memory of their own, with the key of their item.
-    pub(crate) fn own(key: u128, values: Vec<Value>) -> StaticValues
-        ensures { values_in result ≡ values_of values.items }
+    pub(crate) fn own(key: u128, values: WeighedValues) -> StaticValues
+        ensures { values_in result ≡ values }
     {
         StaticValues {
             key,
-            holder: Holder::Own(WeighedValues::of(values)),
+            holder: Holder::Own(values),
         }
     }
 

@@ -1,6 +1,6 @@
 -- Elements that are read one after the other: the numbers of their names rise as the names do, the elements that were
 -- read are in the file, and the other elements come after them.
-use Rattle.dexval.proofs.Common.{◌≡◌, ℕ, suc, ◌+◌, ◌-◌, ◌<◌, ◌≤◌, max, true, List, [], ◌∷◌, ◌++◌, length, refl, ap, sym, subst, ◌∙◌, arith, is_lt, length-append, rises, Uleb128At, Text, text_cmp, StringRow, TypeRow, Elements, NoElements, ThenElement, ValueAt, ElementsAt, value_depth, elements_depth, names_of, Mentions, and_first, and_second, one_uleb128, one_string, one_value, NumberedValue, NumberedElements, HaveKnown, IsKnown, elements_in, value_in, elements_of_list, text_at, type_at, HasPools, NoElementAt, IsElementReadAt, NoElementsAt, AreElementsReadAt, NoAnnotationAt, IsAnnotationReadAt, ◌≢◌, Option, Some, None, slice_index, MatchOption, ArePools, NumberedValues, Array, Annotated, NoValueAt, IsReadAt, NoArrayAt, AreReadAt}
+use Rattle.dexval.proofs.Common.{◌≡◌, ℕ, suc, ◌+◌, ◌-◌, ◌<◌, ◌≤◌, max, true, List, [], ◌∷◌, ◌++◌, length, refl, ap, sym, subst, ◌∙◌, arith, is_lt, length-append, rises, Uleb128At, Text, text_cmp, StringRow, TypeRow, Elements, NoElements, ThenElement, ValueAt, ElementsAt, value_depth, elements_depth, names_of, Mentions, and_first, and_second, one_uleb128, one_string, one_value, NumberedValue, NumberedElements, HaveKnown, IsKnown, elements_in, value_in, elements_of_list, text_at, type_at, HasPools, NoElementAt, IsElementReadAt, NoElementsAt, AreElementsReadAt, NoAnnotationAt, IsAnnotationReadAt, ◌≢◌, slice_index, ArePools, NumberedValues, Array, Annotated, NoValueAt, IsReadAt, NoArrayAt, AreReadAt}
 use Rattle.dexspec.specs.Values.{Value}
 use Rattle.dexval.proofs.Rising.{is_less, is_greater, rises_more}
 use Rattle.dexval.proofs.Shapes.{is_at_byte, value_within, array_only, annotation_only}
@@ -237,8 +237,3 @@ module _ (b : List ℕ) (o depth : ℕ) (m : Mentions) (p : ArePools b m) where
   pub no_annotation : slice_index b o ≡ 29 → NoAnnotationAt b (o + 1) (depth - 1) → NoValueAt b o depth
   no_annotation is none v n h d =
       let a = annotation_only b o m v n p is h in let w = subst (λ (x : Value). ValueAt b o x n) a.2 h in none a.0 a.1 w.1 w.2 (omega (arith, subst (λ (x : Value). value_depth x ≤ depth) a.2 d))
-
-  -- a value that holds no other value nests at most as deep as any bound
-  pub deeper : {X : Type 0} (x_of : X → NumberedValue) (n_of : X → ℕ) (r : Option X) → MatchOption r ((d : ℕ) → NoValueAt b o d) (λ x. IsReadAt b o m 0 (x_of x) (n_of x)) → MatchOption r (NoValueAt b o depth) (λ x. IsReadAt b o m depth (x_of x) (n_of x))
-  deeper x_of n_of None h = h depth
-  deeper x_of n_of (Some x) h = record { known = h.known; encodes = h.encodes; shallow = omega (arith, h.shallow) }

@@ -27,6 +27,7 @@ pub mod Offsets
 pub mod Ranked
 pub mod Refusals
 pub mod Renumbered
+pub mod RenumberedCopies
 pub mod Rising
 pub mod Unmoved
 pub mod ScalarsRead

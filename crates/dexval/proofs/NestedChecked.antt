@@ -24,7 +24,7 @@ module _ (b : List ℕ) (o : ℕ) (m : Mentions) (depth : ℕ) (pools : ArePools
 -- ---- values
 
 -- the weight of one more value
-values_weight_then : (xs : List NumberedValue) (x : NumberedValue) → numbered_values_weight (values_of_list (xs ++ x ∷ [])) ≡ numbered_values_weight (values_of_list xs) + numbered_weight x
+pub values_weight_then : (xs : List NumberedValue) (x : NumberedValue) → numbered_values_weight (values_of_list (xs ++ x ∷ [])) ≡ numbered_values_weight (values_of_list xs) + numbered_weight x
 values_weight_then [] x = omega arith
 values_weight_then (y ∷ ys) x = omega (arith, values_weight_then ys x)
 
@@ -61,7 +61,7 @@ values_checked b m o depth count head i k weight number all h = record {
 -- ---- elements
 
 -- the weight of one more element
-elements_weight_then : (es : List (ℕ × NumberedValue)) (e : ℕ × NumberedValue) → numbered_elements_weight (elements_of_list (es ++ e ∷ [])) ≡ numbered_elements_weight (elements_of_list es) + (5 + numbered_weight e.1)
+pub elements_weight_then : (es : List (ℕ × NumberedValue)) (e : ℕ × NumberedValue) → numbered_elements_weight (elements_of_list (es ++ e ∷ [])) ≡ numbered_elements_weight (elements_of_list es) + (5 + numbered_weight e.1)
 elements_weight_then [] (n, x) = omega arith
 elements_weight_then ((m, y) ∷ es) e = omega (arith, elements_weight_then es e)
 

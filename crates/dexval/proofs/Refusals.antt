@@ -1,5 +1,5 @@
 -- Refusals of annotations, sets and directories.
-use Rattle.dexval.proofs.Common.{◌≡◌, ◌∙◌, ℕ, ◌+◌, ◌-◌, ◌^◌, ◌≤◌, min, List, Option, None, Some, MatchOption, Result, Err, IfSome, refl, ap, arith, inl, inr, IsErrAnd, DirectoryAt, ItemFault, Budget, Refuses, IsRefusal, directory_weight, IsDirectoryFaultWithin, Counts, IsFaultWithin, IsTooHeavy}
+use Rattle.dexval.proofs.Common.{◌≡◌, ◌≢◌, ◌∙◌, ℕ, ◌+◌, ◌-◌, ◌^◌, ◌≤◌, min, List, Option, None, Some, MatchOption, Result, Err, IfSome, refl, ap, arith, inl, inr, IsErrAnd, DirectoryAt, ItemFault, Budget, Refuses, IsRefusal, directory_weight, IsDirectoryFaultWithin, Counts, IsFaultWithin, IsTooHeavy}
 use Rattle.std.specs.Prelude.{IfOk, IfErr, ok_or}
 use Rattle.std.proofs.lemmas.Result.{err_from_is_err_and}
 use Rattle.dexpool.specs.declared.faults.ItemFault.TheVariants.{Refused, Memory}
@@ -25,6 +25,11 @@ held_or P (Some x) fault h = h
 pub refused_or : {X : Type 0} (Absent : Type 0) (Found : X → Type 0) (r : Option X) (number : ℕ) → MatchOption r Absent Found → IfErr (ok_or r (Refused number)) (Refuses number Absent)
 refused_or Absent Found None number h = (refl, h)
 refused_or Absent Found (Some x) number h = tt
+
+-- nothing is there, if nothing was found
+pub none_found : {X : Type 0} (Absent : Type 0) (Found : X → Type 0) (r : Option X) → ((x : X) → r ≢ Some x) → MatchOption r Absent Found → Absent
+none_found Absent Found None none h = h
+none_found Absent Found (Some x) none h = absurd (none x refl)
 
 -- ---- items that are counted
 

@@ -1,6 +1,6 @@
 -- Values that name no symbol.
-use Rattle.dexval.proofs.Common.{◌≡◌, ◌∙◌, List, [], ◌∷◌, ◌++◌, false, IsTrue, length, refl, ap, subst, arith, FoldsTo, Maps, Use, NumberedValue, NumberedValues, Plain, Named, Array, Annotated, NoValue, ThenNext, renumbered, renumbered_values, value_uses, values_uses}
-use Rattle.dexval.specs.declared.weighed_values.Sighting.{Sighting}
+use Rattle.dexval.proofs.Common.{◌≡◌, ◌≢◌, ◌∙◌, ℕ, List, [], ◌∷◌, ◌++◌, length, refl, ap, arith, Maps, Mentions, Use, NumberedValue, NumberedValues, Reference, Plain, Named, Array, Annotated, NoValue, ThenNext, values_of_list, renumbered, renumbered_values, numbered_weight, value_uses, values_uses, Spells}
+use Rattle.dexval.specs.internal.Scalars.{IsScalar, code_of_reference}
 
 -- ---- a map leaves them as they are
 
@@ -28,12 +28,31 @@ mutual
 
 -- ---- how they are found
 
--- what was seen stays seen
-still_seen : (us : List Use) (a b : Sighting) → IsTrue a.seen → FoldsTo (λ p u q. IsTrue q.seen) a us b → IsTrue b.seen
-still_seen [] a b seen visits = subst (λ (s : Sighting). IsTrue s.seen) visits seen
-still_seen (u ∷ us) a b seen visits = still_seen us visits.0 b visits.1 visits.2
+-- a value that names no symbol after values that name none
+pub no_uses_then : (xs : List NumberedValue) (x : NumberedValue) → values_uses (values_of_list xs) ≡ [] → value_uses x ≡ [] → values_uses (values_of_list (xs ++ x ∷ [])) ≡ []
+no_uses_then [] x none last = ap (λ (us : List Use). us ++ []) last
+no_uses_then (y ∷ ys) x none last =
+    let us = value_uses y in
+    let vs = values_uses (values_of_list ys) in
+    ap (λ (ws : List Use). ws ++ values_uses (values_of_list (ys ++ x ∷ []))) (first_none us vs none) ∙ no_uses_then ys x (second_none us vs none) last
 
--- where no symbol was seen none is
-pub none_seen : (us : List Use) (a b : Sighting) → FoldsTo (λ p u q. IsTrue q.seen) a us b → b.seen ≡ false → us ≡ []
-none_seen [] a b visits none = refl
-none_seen (u ∷ us) a b visits none = let seen = still_seen us visits.0 b visits.1 visits.2 in absurd cc
+-- a scalar whose type code is that of no reference
+pub scalar_nameless : (code : ℕ) (x : NumberedValue) → IsScalar code x → ((r : Reference) → code ≢ code_of_reference r) → value_uses x ≡ []
+scalar_nameless code (Plain l) h none = refl
+scalar_nameless code (Named r i) h none = absurd (none r h)
+scalar_nameless code (Array xs) h none = absurd h
+scalar_nameless code (Annotated t es) h none = absurd h
+
+-- the weight of a scalar
+pub scalar_weight : (code : ℕ) (x : NumberedValue) → IsScalar code x → numbered_weight x ≡ 9
+scalar_weight code (Plain l) h = refl
+scalar_weight code (Named r i) h = refl
+scalar_weight code (Array xs) h = absurd h
+scalar_weight code (Annotated t es) h = absurd h
+
+-- what the bytes after a first byte encode is a scalar
+pub spelled_scalar : (m : Mentions) (code : ℕ) (bytes : List ℕ) (x : NumberedValue) → Spells m code bytes x → IsScalar code x
+spelled_scalar m code bytes (Plain l) h = tt
+spelled_scalar m code bytes (Named r i) h = h.0
+spelled_scalar m code bytes (Array xs) h = h
+spelled_scalar m code bytes (Annotated t es) h = h

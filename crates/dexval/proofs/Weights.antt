@@ -66,10 +66,11 @@ pub statics_weigh : (m : Mentions) (xs : NumberedValues) → numbered_statics_we
 statics_weigh m NoValue = refl
 statics_weigh m (ThenNext x xs) = ap (λ (n : ℕ). 6 + n) (values_weight_is m (ThenNext x xs))
 
--- their weight, whatever the numbers denote
-pub statics_weigh_numbers : (xs : NumberedValues) (weight : ℕ) → ((m : Mentions) → weight ≡ min (2 ^ 64 - 1) (static_values_weight (values_in m xs))) → weight ≡ min (2 ^ 64 - 1) (numbered_statics_weight xs)
-statics_weigh_numbers xs weight weighs =
-    let m : Mentions = record { texts = []; types = []; protos = []; fields = []; methods = [] } in weighs m ∙ ap (λ (n : ℕ). min (2 ^ 64 - 1) n) (sym (statics_weigh m xs))
+-- static values, perhaps none, by the weight of the values together
+pub statics_of_values : (xs : List Value) (together weight : ℕ) → together ≡ min (2 ^ 64 - 1) (numbered_values_weight (values_of_list (map value_of xs))) → (length xs ≡ 0 → weight ≡ 0) → (0 < length xs → weight ≡ min (2 ^ 64 - 1) (together + 6))
+    → weight ≡ min (2 ^ 64 - 1) (numbered_statics_weight (values_of_list (map value_of xs)))
+statics_of_values [] together weight is none some = omega (arith, none refl)
+statics_of_values (x ∷ xs) together weight is none some = omega (arith, is, some (omega arith))
 
 -- the annotations of the code, at least one
 annotations_sum : (xs : List CodeAnnotation) → sum_by (λ a. 4 + numbered_annotation_weight (annotation_of a)) xs ≡ sum_by (λ (a : NumberedAnnotation). 4 + numbered_annotation_weight a) (map annotation_of xs)

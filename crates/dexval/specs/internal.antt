@@ -4,3 +4,4 @@ pub mod Found
 pub mod Heads
 pub mod Room
 pub mod Scalars
+pub mod Tallies

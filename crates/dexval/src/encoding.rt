@@ -60,7 +60,9 @@ fn encode_count<O: Output>(count: usize, out: &mut O)
 }
 
 /// Writes an encoded_value.
+// Inlined, so that a value that holds no other is written without a recursive call.
 #[cycle(encoding)]
+#[inline(always)]
 pub(crate) fn encode_value<O: Output>(value: &Value, out: &mut O)
     ensures { O.gives (numbered_bytes (value_of value.now)) out.old out.new }
 {

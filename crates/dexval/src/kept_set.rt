@@ -34,8 +34,8 @@ pub(crate) struct KeptSet {
     holder: Holder,
 }
 
-/// Replaces each number of a symbol in a set by the one that it maps to, if each has an image below 2^32.
-pub(crate) fn renumber_fitting(set: &mut AnnotationSet, remap: &Remap)
+// Replaces each number of a symbol in a set by the one that it maps to, if each has an image below 2^32.
+fn renumber_fitting(set: &mut AnnotationSet, remap: &Remap)
     ensures { IsRemappedSet remap.now (set_of set.old) (set_of set.new) }
 {
     if set.fits(remap) {

@@ -22,7 +22,7 @@ pub use laws::{
     counts_law, images_law, marks_law, narrow_law, places_law, renumber_law, same_law, uses_law,
 };
 pub use put::{annotation_size, put_annotation, put_set, put_statics, put_value, ref_list_size};
-pub use remapped_items::RemappedItems;
+pub use remapped_items::{KnownImages, RemappedItems};
 pub use renumbering::{remapped, renumber, renumber_set, renumber_values};
 pub use same::{eq_ends, same_values_mapped};
 pub use set::AnnotationSet;
@@ -51,6 +51,7 @@ mod kept_set;
 mod laws;
 mod put;
 mod remapped_items;
+mod renumbered_copies;
 mod renumbering;
 mod same;
 mod scalars;

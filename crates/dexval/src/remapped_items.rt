@@ -1,119 +1,102 @@
 //! Items of files that several classes have in common memory, each remapped once.
 
-ghost use Rattle.std.specs.Prelude.{◌≡◌, [], IfOk, IfSome};
-ghost use Rattle.std.specs.List.{Contains};
-ghost use Rattle.dexval.specs.KeptSets.{AddsImage};
-ghost use Rattle.dexval.specs.Code.{set_of, values_of};
+ghost use Rattle.std.specs.Prelude.{◌≡◌, IfOk, IfSome};
 ghost use Rattle.dexval.specs.Renumbering.{renumbered_values, HavePlaces};
 ghost use Rattle.dexval.specs.Tables.{IsRemappedSet};
 
-use crate::equality::are_same_values;
+use crate::same::{are_images, is_image_set};
 use crate::weighed_set::WeighedSet;
 use crate::weighed_values::WeighedValues;
-use crate::{AnnotationSet, Value};
 use dexpool::Remap;
 use std::alloc::{AllocError, Global};
 use std::collections::HashMap;
 use std::marker::Model;
 use std::rc::Rc;
 
-/// An item before it is remapped, and after.
-#[derive(Drop)]
-pub(crate) struct Image<T> {
-    before: Rc<T>,
-    after: Rc<T>,
-}
-
-// Items of one kind with their images, and the place of each by its key.
+// Images of items of one kind, by the keys of the items.
 #[derive(Drop)]
 struct Images<T> {
-    places: HashMap<u128, usize>,
-    all: Vec<Image<T>>,
+    by_key: HashMap<u128, Rc<T>>,
 }
 
 impl<T: Drop> Images<T> {
-    // No items.
-    fn none(alloc: Global) -> Images<T>
-        ensures { result.all.items ≡ [] }
-    {
+    // No images.
+    fn none(alloc: Global) -> Images<T> {
         Images {
-            places: HashMap::new(alloc),
-            all: Vec::new(alloc),
+            by_key: HashMap::new(alloc),
         }
     }
 
-    // The item of a key with its image, if there is one.
-    fn of_key(&self, key: u128) -> Option<&Image<T>>
-        ensures { IfSome result (λ image. Contains self.now.all.items image.now) }
-    {
-        let place = *self.places.get(&key)?;
-        self.all.get(place)
-    }
-
-    // Adds an item with its image, if its key has none.
-    fn add(&mut self, key: u128, before: &Rc<T>, after: &Rc<T>) -> Result<(), AllocError>
-        ensures { AddsImage before.now.value after.now.value self.old.all.items self.new.all.items }
-    {
-        if self.places.contains_key(&key) {
-            return Ok(());
-        }
-        let image = Image {
-            before: before.clone()?,
-            after: after.clone()?,
-        };
-        self.places.insert(key, self.all.len())?;
-        self.all.push(image)?;
+    // Keeps the image of the item of a key instead of the one before it.
+    fn keep(&mut self, key: u128, image: &Rc<T>) -> Result<(), AllocError> {
+        self.by_key.insert(key, image.clone()?)?;
         Ok(())
     }
 }
 
-/// A map of numbers, and the items of classes that it was applied to, where other classes have them too. Contracts see
-/// the map.
+/// Images of items that classes share, of whatever map. No clause speaks of them: one is taken for the image of an item
+/// only where it was compared with the item.
 #[derive(Drop)]
-pub struct RemappedItems<'r> {
-    alloc: Global,
-    remap: &'r Remap,
+pub struct KnownImages {
     sets: Images<WeighedSet>,
     values: Images<WeighedValues>,
 }
 
+impl KnownImages {
+    /// No images.
+    pub fn none(alloc: Global) -> KnownImages {
+        KnownImages {
+            sets: Images::none(alloc),
+            values: Images::none(alloc),
+        }
+    }
+}
+
+/// A map of numbers, and images of the items of classes that other classes have too. Contracts see the map.
+#[derive(Drop)]
+pub struct RemappedItems<'r> {
+    alloc: Global,
+    remap: &'r Remap,
+    known: KnownImages,
+}
+
 impl<'r> Model for RemappedItems<'r> {
-    ghost use Rattle.std.specs.Prelude.{All};
     ghost use Rattle.dexpool.specs.Numberings.{Maps};
-    ghost use Rattle.dexval.specs.KeptSets.{IsImageOfSet, IsImageOfValues};
 
     ghost Value = { Maps };
 
     ghost view = { λ r. r.remap.now };
-
-    ghost invariant = { λ r. All (IsImageOfSet r.remap.now) r.sets.all.items × All (IsImageOfValues r.remap.now) r.values.all.items };
 }
 
-// A set, remapped in memory that tables can share.
+// A set, remapped in memory that tables can share: the memory of the set itself where the map leaves it as it is.
 fn remapped_set(
     alloc: Global,
-    set: &WeighedSet,
+    set: &Rc<WeighedSet>,
     remap: &Remap,
 ) -> Result<Rc<WeighedSet>, AllocError>
-    ensures { IfOk result (λ image. IsRemappedSet remap.now set.now image.value) }
+    ensures { IfOk result (λ image. IsRemappedSet remap.now set.now.value image.value) }
 {
-    let mut image = set.copy()?;
-    image.renumber_fitting(remap);
-    Ok(Rc::new(alloc, image)?)
+    if is_image_set(set.set(), remap, set.set()) {
+        return Ok(set.clone()?);
+    }
+    Ok(Rc::new(alloc, set.remapped_copy(remap)?)?)
 }
 
-// Values, remapped in memory that classes can share.
+// Values, remapped in memory that classes can share: the memory of the values themselves where the map leaves them as
+// they are.
 fn remapped_values(
     alloc: Global,
-    values: &WeighedValues,
+    values: &Rc<WeighedValues>,
     remap: &Remap,
 ) -> Result<Rc<WeighedValues>, AllocError>
-    requires { HavePlaces remap.now values.now }
-    ensures { IfOk result (λ image. image.value ≡ renumbered_values remap.now values.now) }
+    requires { HavePlaces remap.now values.now.value }
+    ensures { IfOk result
+        (λ image. image.value ≡ renumbered_values remap.now values.now.value) }
 {
-    let mut image = values.copy()?;
-    image.renumber(remap);
-    Ok(Rc::new(alloc, image)?)
+    if are_images(values.values(), remap, values.values()) {
+        return Ok(values.clone()?);
+    }
+    Ok(Rc::new(alloc, values.renumbered_copy(remap)?)?)
 }
 
 impl<'r> RemappedItems<'r> {
@@ -121,12 +104,25 @@ impl<'r> RemappedItems<'r> {
     pub fn of(alloc: Global, remap: &'r Remap) -> RemappedItems<'r>
         ensures { result ≡ remap.now }
     {
+        RemappedItems::with_known(alloc, remap, KnownImages::none(alloc))
+    }
+
+    /// A map for which images that other maps made are tried first. Maps to the numberings of single classes often have
+    /// the same image of an item that the classes share.
+    pub fn with_known(alloc: Global, remap: &'r Remap, known: KnownImages) -> RemappedItems<'r>
+        ensures { result ≡ remap.now }
+    {
         RemappedItems {
             alloc,
             remap,
-            sets: Images::none(alloc),
-            values: Images::none(alloc),
+            known,
         }
+    }
+
+    /// The images that were made or tried, for [`RemappedItems::with_known`].
+    pub fn into_known(self) -> KnownImages {
+        let RemappedItems { known, .. } = self;
+        known
     }
 
     /// The map.
@@ -136,44 +132,40 @@ impl<'r> RemappedItems<'r> {
         self.remap
     }
 
-    // The image of the set of a key, if it is known and the set is equal to this one.
-    fn known_set(
-        &self,
-        key: u128,
-        set: &AnnotationSet,
-    ) -> Result<Option<Rc<WeighedSet>>, AllocError>
+    // The known image of the item of a key, if it is that of this set by the map.
+    fn known_set(&self, key: u128, set: &WeighedSet) -> Result<Option<Rc<WeighedSet>>, AllocError>
         ensures { IfOk result (λ known. IfSome known
-            (λ image. IsRemappedSet self.now (set_of set.now) image.value)) }
+            (λ image. IsRemappedSet self.now set.now image.value)) }
     {
-        let Some(image) = self.sets.of_key(key) else {
+        let Some(image) = self.known.sets.by_key.get(&key) else {
             return Ok(None);
         };
-        if *image.before.set() != *set {
+        if !is_image_set(set.set(), self.remap, image.set()) || !set.set().fits(self.remap) {
             return Ok(None);
         }
-        Ok(Some(image.after.clone()?))
+        Ok(Some(image.clone()?))
     }
 
-    // The image of the values of a key, if it is known and the values are equal to these.
+    // The known image of the item of a key, if it is that of these values by the map.
     fn known_values(
         &self,
         key: u128,
-        values: &Vec<Value>,
+        values: &WeighedValues,
     ) -> Result<Option<Rc<WeighedValues>>, AllocError>
         ensures { IfOk result (λ known. IfSome known
-            (λ image. image.value ≡ renumbered_values self.now (values_of values.now.items))) }
+            (λ image. image.value ≡ renumbered_values self.now values.now)) }
     {
-        let Some(image) = self.values.of_key(key) else {
+        let Some(image) = self.known.values.by_key.get(&key) else {
             return Ok(None);
         };
-        if !are_same_values(image.before.values(), values) {
+        if !are_images(values.values(), self.remap, image.values()) {
             return Ok(None);
         }
-        Ok(Some(image.after.clone()?))
+        Ok(Some(image.clone()?))
     }
 
     /// A set with each number replaced by the one that it maps to, if each has an image below 2^32. An equal set of the
-    /// same key is remapped once.
+    /// same key is remapped once; a set that the map leaves as it is is its own image.
     pub(crate) fn set_image(
         &mut self,
         key: u128,
@@ -182,16 +174,16 @@ impl<'r> RemappedItems<'r> {
         ensures kept { self.new ≡ self.old }
         ensures image { IfOk result (λ image. IsRemappedSet self.old set.now.value image.value) }
     {
-        if let Some(known) = self.known_set(key, set.set())? {
+        if let Some(known) = self.known_set(key, set)? {
             return Ok(known);
         }
         let image = remapped_set(self.alloc, set, self.remap)?;
-        self.sets.add(key, set, &image)?;
+        self.known.sets.keep(key, &image)?;
         Ok(image)
     }
 
     /// Values with each number replaced by the one that it maps to. Equal values of the same key are remapped once;
-    /// values that name no symbol are their own image.
+    /// values that the map leaves as they are, as those that name no symbol, are their own image.
     ///
     /// Condition: each number maps to a number below 2^32. Error: an allocation failed.
     pub fn values_image(
@@ -207,11 +199,11 @@ impl<'r> RemappedItems<'r> {
         if !values.names_symbols() {
             return Ok(values.clone()?);
         }
-        if let Some(known) = self.known_values(key, values.values())? {
+        if let Some(known) = self.known_values(key, values)? {
             return Ok(known);
         }
         let image = remapped_values(self.alloc, values, self.remap)?;
-        self.values.add(key, values, &image)?;
+        self.known.values.keep(key, &image)?;
         Ok(image)
     }
 }

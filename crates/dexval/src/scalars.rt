@@ -1,9 +1,10 @@
 //! Values that hold no other value.
 
-ghost use Rattle.std.specs.Prelude.{◌≡◌, ◌≢◌, ◌+◌, ◌<◌, ◌≤◌, MatchOption, IfSome, length, slice_index};
+ghost use Rattle.std.specs.Prelude.{◌≡◌, ◌≢◌, ◌+◌, ◌%◌, ◌<◌, ◌≤◌, false, MatchOption, IfSome, length, slice_index};
 ghost use Rattle.dexpool.specs.Pools.{ArePools};
-ghost use Rattle.dexval.specs.internal.Scalars.{width_of, HasNumber, IsUnknown, HasNoSymbol};
-ghost use Rattle.dexval.specs.internal.Found.{FindsNumber, SpellsValue, FindsScalar};
+ghost use Rattle.dexval.specs.Numbered.{Reference};
+ghost use Rattle.dexval.specs.internal.Scalars.{width_of, code_of_reference, HasNumber, IsUnknown, HasNoSymbol};
+ghost use Rattle.dexval.specs.internal.Found.{FindsNumber, SpellsValue, FindsScalar, IsScalarOf};
 
 use crate::sized_numbers::{bits, signed, unsigned};
 use crate::type_codes::{
@@ -28,6 +29,14 @@ fn width_of(code: u8) -> Option<usize>
         LONG | DOUBLE => Some(8),
         _ => None,
     }
+}
+
+/// Returns `false` only if values of the type code name no symbol.
+#[inline(always)]
+pub(crate) fn is_reference(code: u8) -> bool
+    ensures { result ≡ false → (reference : Reference) → code ≢ code_of_reference reference }
+{
+    matches!(code, STRING | TYPE | FIELD | METHOD | ENUM)
 }
 
 // The bytes of a number, which are after the first byte of a value.
@@ -90,6 +99,8 @@ fn sized_at(bytes: &[u8], pools: &Pools<'_>, at: usize) -> Option<(Value, usize)
     requires no { slice_index bytes.now at ≢ 0x1f }
     requires yes { slice_index bytes.now at ≢ 0x3f }
     ensures read { ArePools bytes.now pools.now → FindsScalar bytes.now at pools.now result }
+    ensures scalar { IfSome result
+        (λ read. IsScalarOf (slice_index bytes.now at % 32) read.0) }
     ensures within { IfSome result (λ read. at + read.1 ≤ length bytes.now) }
     ensures some { IfSome result (λ read. 1 ≤ read.1) }
 {
@@ -112,6 +123,8 @@ pub(crate) fn scalar_at(bytes: &[u8], pools: &Pools<'_>, at: usize) -> Option<(V
     requires array { slice_index bytes.now at ≢ 0x1c }
     requires annotation { slice_index bytes.now at ≢ 0x1d }
     ensures read { ArePools bytes.now pools.now → FindsScalar bytes.now at pools.now result }
+    ensures scalar { IfSome result
+        (λ read. IsScalarOf (slice_index bytes.now at % 32) read.0) }
     ensures within { IfSome result (λ read. at + read.1 ≤ length bytes.now) }
     ensures some { IfSome result (λ read. 1 ≤ read.1) }
 {

@@ -7,9 +7,9 @@ ghost use Rattle.dexval.specs.Nesting.{HasPools};
 ghost use Rattle.dexval.specs.Reading.{AreStaticsAt, IsSetAt, IsSetFault, IsStaticsFault};
 ghost use Rattle.dexval.specs.SharedItems.{AreShared};
 
+use crate::read_set;
 use crate::weighed_set::WeighedSet;
 use crate::weighed_values::WeighedValues;
-use crate::{read_set, read_statics};
 use dexhead::{Frame, u32_at};
 use dexpool::{ItemFault, Pools};
 use std::alloc::Global;
@@ -83,11 +83,12 @@ pub(crate) fn shared_set_at(
     Ok(set)
 }
 
-/// The values of the encoded_array_item at an offset, which are read, as [`read_statics`] does, if they were not before.
+/// The values of the encoded_array_item at an offset, which are read, as [`WeighedValues::read`] does, if they were not
+/// before.
 ///
 /// Condition: the items are of this file.
 ///
-/// Errors: as of [`read_statics`]. The contents of `items` are then unspecified.
+/// Errors: as of [`WeighedValues::read`]. The contents of `items` are then unspecified.
 ///
 /// Source: "encoded_array_item".
 pub fn shared_statics_at(
@@ -106,7 +107,7 @@ pub fn shared_statics_at(
     if let Some(values) = items.values.get(&off) {
         return Ok(values.clone()?);
     }
-    let values = WeighedValues::of(read_statics(items.alloc, frame, pools, off)?);
+    let values = WeighedValues::read(items.alloc, frame, pools, off)?;
     let values = Rc::new(items.alloc, values)?;
     items.values.insert(off, values.clone()?)?;
     Ok(values)

@@ -12,8 +12,9 @@ ghost use Rattle.dexval.specs.Nesting.{HasPools, NoArrayAt, NoValuesAt, NoElemen
 ghost use Rattle.dexval.specs.internal.Scalars.{NoValueAt};
 ghost use Rattle.dexval.specs.internal.Room.{IsEmptyWithin};
 ghost use Rattle.dexval.specs.internal.Found.{NoNumberAt, IsValueRead, IsArrayRead, AreValuesRead, IsElementRead, AreElementsRead, IsAnnotationRead};
+ghost use Rattle.dexval.specs.internal.Tallies.{TalliesValue, TalliesValues, TalliesElement, TalliesElements, TalliesAnnotation};
 
-use crate::scalars::scalar_at;
+use crate::scalars::{is_reference, scalar_at};
 use crate::type_codes::{ANNOTATION, ARRAY};
 use crate::value::{Element, EncodedAnnotation, Value};
 use crate::value_checking::number_at;
@@ -33,8 +34,19 @@ pub(crate) fn with_room<T>(alloc: Global, count: u32, left: usize) -> Result<Vec
     Vec::with_capacity(alloc, (count as usize).min(left).min(MOST_AT_ONCE))
 }
 
-/// An item and its size in bytes.
-type Found<T> = Result<(T, usize), ItemFault>;
+/// What a reader adds up of the values that it reads.
+#[derive(Clone, Copy)]
+pub(crate) struct Tally {
+    /// The number of bytes in the file.
+    pub(crate) size: usize,
+    /// The weight of the values, or 2^64 - 1 if they weigh more.
+    pub(crate) weight: u64,
+    /// `false` only if the values name no symbol.
+    pub(crate) names_symbols: bool,
+}
+
+/// An item and its tally.
+type Found<T> = Result<(T, Tally), ItemFault>;
 
 /// Reads nested values from the bytes of a file, whose indices refer to its pools. Where an item is not there, the fault
 /// is the refusal of the condition with this number.
@@ -55,7 +67,7 @@ impl<'r, 'p> ValueReader<'r, 'p> {
     }
 
     // The unsigned number at an offset, and its size. Error: there is none.
-    fn number_at(&self, at: usize) -> Found<u32>
+    fn number_at(&self, at: usize) -> Result<(u32, usize), ItemFault>
         requires { at ≤ length self.now.bytes.now }
         ensures found { IfOk result (λ read. Uleb128At self.now.bytes.now at read.0 read.1) }
         ensures within { IfOk result (λ read. at + read.1 ≤ length self.now.bytes.now) }
@@ -65,7 +77,7 @@ impl<'r, 'p> ValueReader<'r, 'p> {
         number_at(self.bytes, at).ok_or(self.refusal())
     }
 
-    /// The value at an offset, and its size. Error: there is none that nests at most `depth` deep.
+    /// The value at an offset, and its tally. Error: there is none that nests at most `depth` deep.
     // Inlined, so that a value that holds no other is read without a recursive call.
     #[cycle(reading)]
     #[inline(always)]
@@ -74,19 +86,33 @@ impl<'r, 'p> ValueReader<'r, 'p> {
             → IfOk result (IsValueRead self.now.bytes.now at self.now.pools.now depth) }
         ensures refused { HasPools self.now.bytes.now self.now.pools.now → IfErr result
             (Refuses self.now.number (NoValueAt self.now.bytes.now at depth)) }
-        ensures within { IfOk result (λ read. at + read.1 ≤ length self.now.bytes.now) }
+        ensures tallied { IfOk result TalliesValue }
+        ensures within { IfOk result (λ read. at + read.1.size ≤ length self.now.bytes.now) }
     {
         if at >= self.bytes.len() {
             return Err(self.refusal());
         }
         match self.bytes[at] {
             ARRAY | ANNOTATION => self.nested_at(at, depth),
-            _ => scalar_at(self.bytes, self.pools, at).ok_or(self.refusal()),
+            first => {
+                let Some((value, size)) = scalar_at(self.bytes, self.pools, at) else {
+                    return Err(self.refusal());
+                };
+                let names_symbols = is_reference(first % 32);
+                Ok((
+                    value,
+                    Tally {
+                        size,
+                        weight: 9,
+                        names_symbols,
+                    },
+                ))
+            }
         }
     }
 
-    // The value at an offset that begins an array or an annotation, and its size. Error: there is none that nests at most
-    // `depth` deep.
+    // The value at an offset that begins an array or an annotation, and its tally. Error: there is none that nests at
+    // most `depth` deep.
     #[cycle(reading)]
     fn nested_at(&self, at: usize, depth: u32) -> Found<Value>
         requires within { at < length self.now.bytes.now }
@@ -96,21 +122,31 @@ impl<'r, 'p> ValueReader<'r, 'p> {
             → IfOk result (IsValueRead self.now.bytes.now at self.now.pools.now depth) }
         ensures refused { HasPools self.now.bytes.now self.now.pools.now → IfErr result
             (Refuses self.now.number (NoValueAt self.now.bytes.now at depth)) }
-        ensures within { IfOk result (λ read. at + read.1 ≤ length self.now.bytes.now) }
+        ensures tallied { IfOk result TalliesValue }
+        ensures within { IfOk result (λ read. at + read.1.size ≤ length self.now.bytes.now) }
     {
         if depth == 0 {
             return Err(self.refusal());
         }
         if self.bytes[at] == ARRAY {
-            let (values, size) = self.array_at(at + 1, depth - 1)?;
-            return Ok((Value::Array(Box::new(self.alloc, values)?), 1 + size));
+            let (values, tally) = self.array_at(at + 1, depth - 1)?;
+            let tally = Tally {
+                size: 1 + tally.size,
+                weight: tally.weight.saturating_add(6),
+                ..tally
+            };
+            return Ok((Value::Array(Box::new(self.alloc, values)?), tally));
         }
-        let (annotation, size) = self.annotation_at(at + 1, depth - 1)?;
+        let (annotation, tally) = self.annotation_at(at + 1, depth - 1)?;
         let annotation = Box::new(self.alloc, annotation)?;
-        Ok((Value::Annotation(annotation), 1 + size))
+        let tally = Tally {
+            size: 1 + tally.size,
+            ..tally
+        };
+        Ok((Value::Annotation(annotation), tally))
     }
 
-    /// The values of the encoded_array at an offset, and its size. Error: there is no array whose values nest at most
+    /// The values of the encoded_array at an offset, and its tally. Error: there is no array whose values nest at most
     /// `depth` deep.
     #[cycle(reading)]
     pub(crate) fn array_at(&self, at: usize, depth: u32) -> Found<Vec<Value>>
@@ -119,16 +155,21 @@ impl<'r, 'p> ValueReader<'r, 'p> {
             → IfOk result (IsArrayRead self.now.bytes.now at self.now.pools.now depth) }
         ensures refused { HasPools self.now.bytes.now self.now.pools.now → IfErr result
             (Refuses self.now.number (NoArrayAt self.now.bytes.now at depth)) }
-        ensures within { IfOk result (λ read. at + read.1 ≤ length self.now.bytes.now) }
+        ensures tallied { IfOk result TalliesValues }
+        ensures within { IfOk result (λ read. at + read.1.size ≤ length self.now.bytes.now) }
     {
         let (count, head) = self.number_at(at)?;
         let empty = with_room(self.alloc, count, self.bytes.len() - (at + head))?;
-        let (values, size) = self.values_at(at + head, depth, count, empty)?;
-        Ok((values, head + size))
+        let (values, tally) = self.values_at(at + head, depth, count, empty)?;
+        let tally = Tally {
+            size: head + tally.size,
+            ..tally
+        };
+        Ok((values, tally))
     }
 
-    // Reads `count` values from an offset on into an empty vector. Returns them and their size. Error: there are no such
-    // values that nest at most `depth` deep.
+    // Reads `count` values from an offset on into an empty vector. Returns them and their tally. Error: there are no
+    // such values that nest at most `depth` deep.
     #[cycle(reading)]
     fn values_at(
         &self,
@@ -143,19 +184,31 @@ impl<'r, 'p> ValueReader<'r, 'p> {
             → IfOk result (AreValuesRead self.now.bytes.now at self.now.pools.now depth count) }
         ensures refused { HasPools self.now.bytes.now self.now.pools.now → IfErr result
             (Refuses self.now.number (NoValuesAt self.now.bytes.now at depth count)) }
-        ensures within { IfOk result (λ read. at + read.1 ≤ length self.now.bytes.now) }
+        ensures tallied { IfOk result TalliesValues }
+        ensures within { IfOk result (λ read. at + read.1.size ≤ length self.now.bytes.now) }
     {
         let mut size = 0;
+        let mut weight: u64 = 0;
+        let mut names_symbols = false;
         for _i in 0..count {
-            let (value, used) = self.value_at(at + size, depth)?;
+            let (value, tally) = self.value_at(at + size, depth)?;
             values.push(value)?;
-            size += used;
+            size += tally.size;
+            weight = weight.saturating_add(tally.weight);
+            names_symbols |= tally.names_symbols;
         }
-        Ok((values, size))
+        Ok((
+            values,
+            Tally {
+                size,
+                weight,
+                names_symbols,
+            },
+        ))
     }
 
-    // The element at an offset, and its size. Error: there is no element whose name has at least the number `least` and
-    // whose value nests at most `depth` deep.
+    // The element at an offset, and its tally. Error: there is no element whose name has at least the number `least`
+    // and whose value nests at most `depth` deep.
     #[cycle(reading)]
     fn element_at(&self, at: usize, depth: u32, least: u64) -> Found<Element>
         requires { at ≤ length self.now.bytes.now }
@@ -164,18 +217,24 @@ impl<'r, 'p> ValueReader<'r, 'p> {
         ensures refused { HasPools self.now.bytes.now self.now.pools.now → IfErr result
             (Refuses self.now.number (NoElementAt self.now.bytes.now at depth least)) }
         ensures name { IfOk result (λ read. (element_of read.0).0 < 2 ^ 32) }
-        ensures within { IfOk result (λ read. at + read.1 ≤ length self.now.bytes.now) }
+        ensures tallied { IfOk result TalliesElement }
+        ensures within { IfOk result (λ read. at + read.1.size ≤ length self.now.bytes.now) }
     {
         let (name, head) = self.number_at(at)?;
         if u64::from(name) < least || name as usize >= self.pools.len(SymbolKind::Text) {
             return Err(self.refusal());
         }
-        let (value, size) = self.value_at(at + head, depth)?;
-        Ok((Element { name, value }, head + size))
+        let (value, tally) = self.value_at(at + head, depth)?;
+        let tally = Tally {
+            size: head + tally.size,
+            weight: tally.weight.saturating_add(5),
+            names_symbols: true,
+        };
+        Ok((Element { name, value }, tally))
     }
 
-    // Reads `count` elements from an offset on into an empty vector. Returns them and their size. Error: there are no such
-    // elements whose names rise strictly and whose values nest at most `depth` deep.
+    // Reads `count` elements from an offset on into an empty vector. Returns them and their tally. Error: there are no
+    // such elements whose names rise strictly and whose values nest at most `depth` deep.
     #[cycle(reading)]
     fn elements_at(
         &self,
@@ -190,20 +249,31 @@ impl<'r, 'p> ValueReader<'r, 'p> {
             → IfOk result (AreElementsRead self.now.bytes.now at self.now.pools.now depth count) }
         ensures refused { HasPools self.now.bytes.now self.now.pools.now → IfErr result
             (Refuses self.now.number (NoElementsAt self.now.bytes.now at depth count)) }
-        ensures within { IfOk result (λ read. at + read.1 ≤ length self.now.bytes.now) }
+        ensures tallied { IfOk result TalliesElements }
+        ensures within { IfOk result (λ read. at + read.1.size ≤ length self.now.bytes.now) }
     {
         let mut size = 0;
+        let mut weight: u64 = 0;
         let mut least = 0;
         for _i in 0..count {
-            let (element, used) = self.element_at(at + size, depth, least)?;
+            let (element, tally) = self.element_at(at + size, depth, least)?;
             least = u64::from(element.name) + 1;
             elements.push(element)?;
-            size += used;
+            size += tally.size;
+            weight = weight.saturating_add(tally.weight);
         }
-        Ok((elements, size))
+        let names_symbols = true;
+        Ok((
+            elements,
+            Tally {
+                size,
+                weight,
+                names_symbols,
+            },
+        ))
     }
 
-    /// The encoded_annotation at an offset, and its size. Error: there is none whose values nest at most `depth` deep.
+    /// The encoded_annotation at an offset, and its tally. Error: there is none whose values nest at most `depth` deep.
     #[cycle(reading)]
     pub(crate) fn annotation_at(&self, at: usize, depth: u32) -> Found<EncodedAnnotation>
         requires { at ≤ length self.now.bytes.now }
@@ -211,7 +281,8 @@ impl<'r, 'p> ValueReader<'r, 'p> {
             → IfOk result (IsAnnotationRead self.now.bytes.now at self.now.pools.now depth) }
         ensures refused { HasPools self.now.bytes.now self.now.pools.now → IfErr result
             (Refuses self.now.number (NoAnnotationAt self.now.bytes.now at depth)) }
-        ensures within { IfOk result (λ read. at + read.1 ≤ length self.now.bytes.now) }
+        ensures tallied { IfOk result TalliesAnnotation }
+        ensures within { IfOk result (λ read. at + read.1.size ≤ length self.now.bytes.now) }
     {
         let (typ, first) = self.number_at(at)?;
         if typ as usize >= self.pools.len(SymbolKind::Typ) {
@@ -220,8 +291,13 @@ impl<'r, 'p> ValueReader<'r, 'p> {
         let (count, second) = self.number_at(at + first)?;
         let start = at + first + second;
         let empty = with_room(self.alloc, count, self.bytes.len() - start)?;
-        let (elements, size) = self.elements_at(start, depth, count, empty)?;
-        Ok((EncodedAnnotation { typ, elements }, first + second + size))
+        let (elements, tally) = self.elements_at(start, depth, count, empty)?;
+        let tally = Tally {
+            size: first + second + tally.size,
+            weight: tally.weight.saturating_add(12),
+            names_symbols: true,
+        };
+        Ok((EncodedAnnotation { typ, elements }, tally))
     }
 }
 
@@ -257,8 +333,35 @@ pub fn read_value(
         pools,
         number: Condition::Values as u8,
     };
-    let (value, size) = reader.value_at(off as usize, MOST_DEPTH)?;
-    Ok((value, size as u32))
+    let (value, tally) = reader.value_at(off as usize, MOST_DEPTH)?;
+    Ok((value, tally.size as u32))
+}
+
+/// Reads the encoded_array_item at an offset, as [`read_statics`] does. Returns the values and their tally.
+pub(crate) fn tallied_statics(
+    alloc: Global,
+    frame: &Frame<'_>,
+    pools: &Pools<'_>,
+    off: u32,
+) -> Result<(Vec<Value>, Tally), ItemFault>
+    ensures values { ArePools frame.now pools.now
+        → IfOk result (λ read. AreReadStatics frame.now off pools.now read.0) }
+    ensures tallied { IfOk result TalliesValues }
+    ensures refused { ArePools frame.now pools.now → IfErr result (IsStaticsFault frame.now off) }
+{
+    let bytes = frame.bytes();
+    let at = off as usize;
+    if off < frame.data_off() || at > bytes.len() {
+        return Err(ItemFault::Refused(Condition::Values as u8));
+    }
+    pools.numbering().is_numbering();
+    let reader = ValueReader {
+        alloc,
+        bytes,
+        pools,
+        number: Condition::Values as u8,
+    };
+    reader.array_at(at, MOST_DEPTH)
 }
 
 /// Reads the encoded_array_item at an offset: the initial values of the static fields of a class.
@@ -276,18 +379,6 @@ pub fn read_statics(
         → IfOk result (AreReadStatics frame.now off pools.now) }
     ensures refused { ArePools frame.now pools.now → IfErr result (IsStaticsFault frame.now off) }
 {
-    let bytes = frame.bytes();
-    let at = off as usize;
-    if off < frame.data_off() || at > bytes.len() {
-        return Err(ItemFault::Refused(Condition::Values as u8));
-    }
-    pools.numbering().is_numbering();
-    let reader = ValueReader {
-        alloc,
-        bytes,
-        pools,
-        number: Condition::Values as u8,
-    };
-    let (values, _) = reader.array_at(at, MOST_DEPTH)?;
+    let (values, _) = tallied_statics(alloc, frame, pools, off)?;
     Ok(values)
 }

@@ -47,7 +47,9 @@ pub fn values_fit(values: &[Value], remap: &Remap) -> bool
 
 impl Value {
     /// Passes each symbol that occurs in the value to the visitor, in order.
+    // Inlined, so that a value that holds no other is visited without a call.
     #[cycle(visiting)]
+    #[inline(always)]
     pub fn visit<V: Visitor>(&self, visitor: &mut V)
         ensures { FoldsTo V.step visitor.old (value_uses (value_of self.now)) visitor.new }
     {
@@ -106,6 +108,14 @@ impl EncodedAnnotation {
         for element in &self.elements {
             element.visit(visitor);
         }
+    }
+}
+
+impl Symbols for Value {
+    ghost uses = { λ v. value_uses (value_of v) };
+
+    fn visit<V: Visitor>(&self, visitor: &mut V) {
+        Value::visit(self, visitor);
     }
 }
 

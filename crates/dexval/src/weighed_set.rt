@@ -7,7 +7,6 @@ ghost use Rattle.dexval.specs.Directories.{set_weight_in};
 ghost use Rattle.dexval.specs.Tables.{IsRemappedSet};
 
 use crate::AnnotationSet;
-use crate::kept_set::renumber_fitting;
 use dexpool::Remap;
 use std::alloc::AllocError;
 use std::marker::Model;
@@ -59,20 +58,14 @@ impl WeighedSet {
         self.weight
     }
 
-    /// The same set, with copies of all contents. Error: an allocation failed.
-    pub(crate) fn copy(&self) -> Result<WeighedSet, AllocError>
-        ensures { IfOk result (λ copy. copy ≡ self.now) }
+    /// A copy of the set with each number of a symbol replaced by the one that it maps to, if each has an image below
+    /// 2^32. Error: an allocation failed.
+    pub(crate) fn remapped_copy(&self, remap: &Remap) -> Result<WeighedSet, AllocError>
+        ensures { IfOk result (λ copy. IsRemappedSet remap.now self.now copy) }
     {
         Ok(WeighedSet {
-            set: self.set.copy()?,
+            set: self.set.remapped_copy(remap)?,
             weight: self.weight,
         })
-    }
-
-    /// Replaces each number of a symbol in the set by the one that it maps to, if each has an image below 2^32.
-    pub(crate) fn renumber_fitting(&mut self, remap: &Remap)
-        ensures { IsRemappedSet remap.now self.old self.new }
-    {
-        renumber_fitting(&mut self.set, remap);
     }
 }

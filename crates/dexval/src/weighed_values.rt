@@ -1,31 +1,22 @@
 //! Static values with their weights.
 
-ghost use Rattle.std.specs.Prelude.{◌≡◌, ◌-◌, ◌^◌, [], false, min, IfOk, IsTrue};
+ghost use Rattle.std.specs.Prelude.{◌≡◌, ◌-◌, ◌^◌, [], false, min, IfErr, IfOk};
 ghost use Rattle.dexspec.specs.Mentions.{Mentions};
 ghost use Rattle.dexspec.specs.Weight.{static_values_weight};
+ghost use Rattle.dexpool.specs.Pools.{ArePools};
 ghost use Rattle.dexval.specs.Code.{values_of};
-ghost use Rattle.dexval.specs.Numbered.{values_in};
+ghost use Rattle.dexval.specs.Numbered.{NoValue, values_in};
+ghost use Rattle.dexval.specs.Reading.{AreStaticsAt, IsStaticsFault};
 ghost use Rattle.dexval.specs.Renumbering.{renumbered_values, HavePlaces};
 ghost use Rattle.dexval.specs.Uses.{values_uses};
 
-use crate::{Value, copied_values, renumber_values, statics_weight, visit_values};
-use dexpool::{Remap, SymbolKind, Symbols, Visitor};
-use std::alloc::AllocError;
+use crate::renumbered_copies::renumbered_copies;
+use crate::value_reading::tallied_statics;
+use crate::{Value, copied_values, renumber_values, visit_values};
+use dexhead::Frame;
+use dexpool::{ItemFault, Pools, Remap, Symbols, Visitor};
+use std::alloc::{AllocError, Global};
 use std::marker::Model;
-
-// Whether a symbol was visited.
-#[derive(Drop)]
-struct Sighting {
-    seen: bool,
-}
-
-impl Visitor for Sighting {
-    ghost step = { λ a u b. IsTrue b.seen };
-
-    fn symbol(&mut self, _kind: SymbolKind, _number: u32) {
-        self.seen = true;
-    }
-}
 
 /// The initial values of static fields with their weight, so that they are weighed once, and with whether they name a
 /// symbol, so that what concerns symbols passes over values that name none. Contracts see the values.
@@ -58,18 +49,45 @@ impl Model for WeighedValues {
 }
 
 impl WeighedValues {
-    /// Values with their weight.
-    pub fn of(values: Vec<Value>) -> WeighedValues
-        ensures { result ≡ values_of values.items }
+    /// No values.
+    pub fn none(alloc: Global) -> WeighedValues
+        ensures { result ≡ NoValue }
     {
-        let weight = statics_weight(&values);
-        let mut symbol = Sighting { seen: false };
-        visit_values(&values, &mut symbol);
         WeighedValues {
+            values: Vec::new(alloc),
+            weight: 0,
+            names_symbols: false,
+        }
+    }
+
+    /// The values of the encoded_array_item at an offset, read as by [`read_statics`](crate::read_statics), which are
+    /// weighed as they are read.
+    ///
+    /// Errors: as of [`read_statics`](crate::read_statics).
+    ///
+    /// Source: "encoded_array_item".
+    pub fn read(
+        alloc: Global,
+        frame: &Frame<'_>,
+        pools: &Pools<'_>,
+        off: u32,
+    ) -> Result<WeighedValues, ItemFault>
+        ensures values { ArePools frame.now pools.now
+            → IfOk result (AreStaticsAt frame.now off pools.now) }
+        ensures refused { ArePools frame.now pools.now
+            → IfErr result (IsStaticsFault frame.now off) }
+    {
+        let (values, tally) = tallied_statics(alloc, frame, pools, off)?;
+        let weight = if values.is_empty() {
+            0
+        } else {
+            tally.weight.saturating_add(6)
+        };
+        Ok(WeighedValues {
             values,
             weight,
-            names_symbols: symbol.seen,
-        }
+            names_symbols: tally.names_symbols,
+        })
     }
 
     /// The values.
@@ -79,7 +97,7 @@ impl WeighedValues {
         &self.values
     }
 
-    /// The weight of the values, or 2^64 - 1 if they weigh more: their [`statics_weight`].
+    /// The weight of the values, or 2^64 - 1 if they weigh more: their [`statics_weight`](crate::statics_weight).
     pub fn weight(&self) -> u64
         ensures { (m : Mentions)
             → result ≡ min (2 ^ 64 - 1) (static_values_weight (values_in m self.now)) }
@@ -102,6 +120,20 @@ impl WeighedValues {
     {
         Ok(WeighedValues {
             values: copied_values(&self.values)?,
+            weight: self.weight,
+            names_symbols: self.names_symbols,
+        })
+    }
+
+    /// A copy of the values with each number of a symbol replaced by the one that it maps to.
+    ///
+    /// Condition: each number maps to a number below 2^32. Error: an allocation failed.
+    pub(crate) fn renumbered_copy(&self, remap: &Remap) -> Result<WeighedValues, AllocError>
+        requires { HavePlaces remap.now self.now }
+        ensures { IfOk result (λ copy. copy ≡ renumbered_values remap.now self.now) }
+    {
+        Ok(WeighedValues {
+            values: renumbered_copies(&self.values, remap)?,
             weight: self.weight,
             names_symbols: self.names_symbols,
         })

@@ -15,6 +15,7 @@ use Rattle.dexval.specs.declared.value.EncodedAnnotation.{EncodedAnnotation}
 use Rattle.dexval.specs.declared.value.Value.{Value}
 use Rattle.dexval.specs.declared.value_checking.StaticsShape.{StaticsShape}
 use Rattle.dexval.specs.declared.value_checking.ValueShape.{ValueShape}
+use Rattle.dexval.specs.declared.value_reading.Tally.{Tally}
 use Rattle.dexval.specs.Checking.{HasValue, HasArray, HasElement, HasElements, HasAnnotation}
 use Rattle.dexval.specs.Code.{value_of, values_of, element_of, elements_of, encoded_type, encoded_elements}
 use Rattle.dexval.specs.Code.{annotation_of}
@@ -22,7 +23,7 @@ use Rattle.dexval.specs.Items.{IsItemAt, NoSetAt, HasOffsets}
 use Rattle.dexval.specs.Nesting.{NoArrayAt, AreReadAt, AreValuesReadAt, NoElementAt, IsElementReadAt, NoElementsAt}
 use Rattle.dexval.specs.Nesting.{AreElementsReadAt, NoAnnotationAt, IsAnnotationReadAt}
 use Rattle.dexval.specs.Results.{HasValueShape, HasStaticsShape, HasSetShape}
-use Rattle.dexval.specs.internal.Scalars.{Spells, NoValueAt, IsReadAt}
+use Rattle.dexval.specs.internal.Scalars.{Spells, IsScalar, NoValueAt, IsReadAt}
 
 -- ---- numbers
 
@@ -51,30 +52,34 @@ abbrev pub FindsScalar : List ℕ → ℕ → Mentions → Option (Value × ℕ)
 FindsScalar b o m found =
     MatchOption found ((depth : ℕ) → NoValueAt b o depth) (λ read. IsReadAt b o m 0 (value_of read.0) read.1)
 
+-- a value that holds no other, and whose type code this is if it names a symbol
+abbrev pub IsScalarOf : ℕ → Value → Type 0
+IsScalarOf code value = IsScalar code (value_of value)
+
 -- a value that nests at most `depth` deep, and its size
-abbrev pub IsValueRead : List ℕ → ℕ → Mentions → ℕ → Value × ℕ → Type 0
-IsValueRead b o m depth read = IsReadAt b o m depth (value_of read.0) read.1
+abbrev pub IsValueRead : List ℕ → ℕ → Mentions → ℕ → Value × Tally → Type 0
+IsValueRead b o m depth read = IsReadAt b o m depth (value_of read.0) read.1.size
 
 -- the values of an encoded_array, and its size
-abbrev pub IsArrayRead : List ℕ → ℕ → Mentions → ℕ → Vec Value × ℕ → Type 0
-IsArrayRead b o m depth read = AreReadAt b o m depth (values_of read.0.items) read.1
+abbrev pub IsArrayRead : List ℕ → ℕ → Mentions → ℕ → Vec Value × Tally → Type 0
+IsArrayRead b o m depth read = AreReadAt b o m depth (values_of read.0.items) read.1.size
 
 -- `count` values, and their size
-abbrev pub AreValuesRead : List ℕ → ℕ → Mentions → ℕ → ℕ → Vec Value × ℕ → Type 0
-AreValuesRead b o m depth count read = AreValuesReadAt b o m depth count (values_of read.0.items) read.1
+abbrev pub AreValuesRead : List ℕ → ℕ → Mentions → ℕ → ℕ → Vec Value × Tally → Type 0
+AreValuesRead b o m depth count read = AreValuesReadAt b o m depth count (values_of read.0.items) read.1.size
 
 -- an element whose name has at least the number `least`, and its size
-abbrev pub IsElementRead : List ℕ → ℕ → Mentions → ℕ → ℕ → Element × ℕ → Type 0
-IsElementRead b o m depth least read = IsElementReadAt b o m depth least (element_of read.0) read.1
+abbrev pub IsElementRead : List ℕ → ℕ → Mentions → ℕ → ℕ → Element × Tally → Type 0
+IsElementRead b o m depth least read = IsElementReadAt b o m depth least (element_of read.0) read.1.size
 
 -- `count` elements whose names rise strictly, and their size
-abbrev pub AreElementsRead : List ℕ → ℕ → Mentions → ℕ → ℕ → Vec Element × ℕ → Type 0
-AreElementsRead b o m depth count read = AreElementsReadAt b o m depth count (elements_of read.0.items) read.1
+abbrev pub AreElementsRead : List ℕ → ℕ → Mentions → ℕ → ℕ → Vec Element × Tally → Type 0
+AreElementsRead b o m depth count read = AreElementsReadAt b o m depth count (elements_of read.0.items) read.1.size
 
 -- an encoded_annotation, and its size
-abbrev pub IsAnnotationRead : List ℕ → ℕ → Mentions → ℕ → EncodedAnnotation × ℕ → Type 0
+abbrev pub IsAnnotationRead : List ℕ → ℕ → Mentions → ℕ → EncodedAnnotation × Tally → Type 0
 IsAnnotationRead b o m depth read =
-    IsAnnotationReadAt b o m depth (encoded_type read.0) (encoded_elements read.0) read.1
+    IsAnnotationReadAt b o m depth (encoded_type read.0) (encoded_elements read.0) read.1.size
 
 -- ---- values that are checked
 

@@ -73,6 +73,13 @@ code_of_reference FieldReference = 0x19
 code_of_reference MethodReference = 0x1a
 code_of_reference EnumReference = 0x1b
 
+-- a value that holds no other, and whose type code this is if it names a symbol
+abbrev pub IsScalar : ℕ → NumberedValue → Type 0
+IsScalar code (Plain literal) = Unit {0}
+IsScalar code (Named reference i) = code ≡ code_of_reference reference
+IsScalar code (Array xs) = ⊥
+IsScalar code (Annotated t es) = ⊥
+
 -- the bytes after a first byte of a type code encode the value
 abbrev pub Spells : Mentions → ℕ → List ℕ → NumberedValue → Type 0
 Spells m code bytes (Plain literal) = SpellsLiteral code bytes literal

@@ -1,5 +1,6 @@
-use Rattle.dexval.proofs.Common.{sym}
+use Rattle.dexval.proofs.Common.{sym, value_of}
 use Rattle.dexval.proofs.ScalarsRead.{spelled_encoded, no_width, no_number, no_symbol}
+use Rattle.dexval.proofs.Symbolless.{spelled_scalar}
 use Rattle.dexval.proofs.scalars.sized_at.Goals as goal
 
 pub returns-in_err-width-clause-read : goal.returns-in_err-width-clause-read
@@ -16,3 +17,6 @@ returns-in_err-value-clause-read c = λ p.
 
 pub returns-clause-read : goal.returns-clause-read
 returns-clause-read c = λ p. spelled_encoded c.args.bytes.now c.args.at c.args.pools.now p _ c.in_ok-width.width c.in_ok-number.number.now _ _ (sym c.in_ok-width.ensures) c.in_ok-number.ensures c.in_ok-value.ensures
+
+pub returns-clause-scalar : goal.returns-clause-scalar
+returns-clause-scalar c = spelled_scalar c.args.pools.now _ c.in_ok-number.number.now (value_of c.in_ok-value.value) c.in_ok-value.ensures

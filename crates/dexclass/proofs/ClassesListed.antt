@@ -4,9 +4,10 @@ use Rattle.std.specs.Borrow.{Bor}
 use Rattle.std.specs.Global.{Vec}
 use Rattle.std.specs.Option.{is_some}
 use Rattle.std.proofs.lemmas.List.{get_or_append_left, get_or_push, length_push}
-use Rattle.dexclass.proofs.Common.{zip_push, ◌≡◌, ◌⊎◌, ℕ, ◌+◌, ◌<◌, Bool, true, false, List, [], ◌∷◌, ◌++◌, length, get_or, slice_set, take, map, filter, option_to_list, refl, sym, ap, ◌∙◌, subst, arith, inl, inr, Option, Some, None, IfSome, IsSome, All, AllZip, All-cons, All-head, All-tail, cases_eq, get_or-set_same, get_or-set_other, take_more}
+use Rattle.dexclass.proofs.Common.{zip_push, ◌≡◌, ◌⊎◌, ℕ, zero, suc, ◌+◌, ◌-◌, ◌<◌, ◌≤◌, append-nil, take_all, Bool, true, false, List, [], ◌∷◌, ◌++◌, length, get_or, slice_set, take, map, filter, option_to_list, refl, sym, ap, ◌∙◌, subst, arith, inl, inr, Option, Some, None, IfSome, IsSome, All, AllZip, All-cons, All-head, All-tail, cases_eq, get_or-set_same, get_or-set_other, take_more}
 use Rattle.dexspec.specs.Lists.{present}
-use Rattle.dexorder.specs.Parents.{AreByType, AreDepthsOfClasses, classes_of_types, parent_types}
+use Rattle.dexorder.specs.Parents.{AreByType, AreDepthsOfClasses, HasNoClassFrom, IsFirstClassFrom, classes_of_types, parent_types}
+use Rattle.dexorder.specs.declared.parents.InterfaceClass.{InterfaceClass}
 use Rattle.dexclass.specs.declared.shared_depths.ClassLists.{ClassLists}
 use Rattle.dexclass.specs.declared.shared_depths.Listed.{Listed}
 use Rattle.dexclass.specs.internal.ClassLists.{has_class, listed_interfaces, AreListsOf, IsListed}
@@ -25,6 +26,22 @@ module _ (test : ℕ → Bool) where
   -- one member more
   pub filter_more : (xs : List ℕ) (k d : ℕ) → k < length xs → filter test (take (k + 1) xs) ≡ filter test (take k xs) ++ cond (test (get_or xs k d)) (get_or xs k d ∷ []) []
   filter_more xs k d lt = ap (filter test) (take_more xs k d lt) ∙ filter_push (take k xs) (get_or xs k d)
+
+  filter_after : (xs : List ℕ) (k n : ℕ) → k + n ≤ length xs → ((j : ℕ) → k ≤ j → j < k + n → test (get_or xs j 0) ≡ false) → filter test (take (k + n) xs) ≡ filter test (take k xs)
+  filter_after xs k zero few fails = let at : k + 0 ≡ k = omega arith in ap (λ (m : ℕ). filter test (take m xs)) at
+  filter_after xs k (suc n) few fails =
+      let at : k + suc n ≡ k + n + 1 = omega arith in
+      let x = get_or xs (k + n) 0 in
+      ap (λ (m : ℕ). filter test (take m xs)) at ∙ filter_more xs (k + n) 0 (omega (arith, few))
+      ∙ ap (λ (b : Bool). filter test (take (k + n) xs) ++ cond b (x ∷ []) []) (fails (k + n) (omega arith) (omega arith))
+      ∙ append-nil (filter test (take (k + n) xs))
+      ∙ filter_after xs k n (omega (arith, few)) (λ j from lt. fails j from (omega (arith, lt)))
+
+  -- members that fail are left out
+  pub filter_gap : (xs : List ℕ) (k m : ℕ) → k ≤ m → m ≤ length xs → ((j : ℕ) → k ≤ j → j < m → test (get_or xs j 0) ≡ false) → filter test (take m xs) ≡ filter test (take k xs)
+  filter_gap xs k m later few fails =
+      let at : k + (m - k) ≡ m = omega (arith, later) in
+      ap (λ (j : ℕ). filter test (take j xs)) (sym at) ∙ filter_after xs k (m - k) (omega (arith, few, later)) (λ j from lt. fails j from (omega (arith, lt, later)))
 
   -- what has no value without the test is left out
   pub filter_present : (f : ℕ → Option ℕ) (xs : List ℕ) → ((x : ℕ) → test x ≡ false → f x ≡ None) → present (map f (filter test xs)) ≡ present (map f xs)
@@ -67,6 +84,30 @@ module _ (list_of : ℕ → List ℕ) (numbers : List (Option ℕ)) (lists : Lis
         (old.0, old.1 ∙ sym like ∙ ap list_of same)
     | inr other ↦ h i n d (sym (get_or-set_other numbers class i (get_or numbers first None) None (λ x. other (sym x))) ∙ e)
   ]
+
+-- ---- the interfaces of a class that are classes
+
+module _ (by_type : List (Option ℕ)) (types : List ℕ) (from : ℕ) (within : from ≤ length types) where
+  fails_at : (t : ℕ) → get_or by_type t None ≡ None → has_class by_type t ≡ false
+  fails_at t none = ap is_some none
+
+  -- up to the next, and that one
+  pub list_next : (found : InterfaceClass) → IsFirstClassFrom by_type types from found → filter (has_class by_type) (take found.passed types) ≡ filter (has_class by_type) (take from types) ++ found.typ ∷ []
+  list_next found h =
+      let test = has_class by_type in
+      let k = found.passed - 1 in
+      let at : k + 1 ≡ found.passed = omega (arith, h.later) in
+      let has : test (get_or types k 0) ≡ true = ap test h.typ_is ∙ ap is_some h.class_is in
+      ap (λ (m : ℕ). filter test (take m types)) (sym at) ∙ filter_more test types k 0 (omega (arith, h.within, h.later))
+      ∙ ap (λ (b : Bool). filter test (take k types) ++ cond b (get_or types k 0 ∷ []) []) has
+      ∙ ap (λ (t : ℕ). filter test (take k types) ++ t ∷ []) h.typ_is
+      ∙ ap (λ (l : List ℕ). l ++ found.typ ∷ []) (filter_gap test types from k (omega (arith, h.later)) (omega (arith, h.within)) (λ j later lt. fails_at (get_or types j 0) (h.before j later (omega (arith, lt, h.later)))))
+
+  -- where there is no next
+  pub list_last : HasNoClassFrom by_type types from → filter (has_class by_type) (take from types) ≡ filter (has_class by_type) types
+  list_last none =
+      sym (filter_gap (has_class by_type) types from (length types) within (omega arith) (λ j later lt. fails_at (get_or types j 0) (none j later lt)))
+      ∙ ap (filter (has_class by_type)) (take_all (length types) types (omega arith))
 
 -- ---- classes with their lists
 

@@ -3,10 +3,11 @@
 ghost use Rattle.std.specs.Prelude.{◌≡◌};
 ghost use Rattle.dexclass.specs.Numbered.{number_of};
 
+use crate::interface_classes::first_class;
 use crate::interface_lists::Interfaces;
 use dexflags::ClassFlags;
 use dexmembers::Members;
-use dexorder::HasParents;
+use dexorder::{HasParents, InterfaceClass};
 use dexrows::TypeNumbers;
 use std::marker::Model;
 
@@ -121,12 +122,8 @@ impl<'a> HasParents for Class<'a> {
         self.superclass
     }
 
-    fn interface_count(&self) -> usize {
-        self.interfaces.numbers().len()
-    }
-
-    fn interface(&self, k: usize) -> usize {
-        self.interfaces.numbers().at(k)
+    fn next_class(&self, by_type: &[Option<usize>], passed: usize) -> Option<InterfaceClass> {
+        first_class(by_type, &self.interfaces.numbers(), None, passed)
     }
 }
 

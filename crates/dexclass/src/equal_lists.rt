@@ -34,8 +34,10 @@ impl KnownLists {
         }
     }
 
-    /// The number of the first class of a part that had its list of interfaces at the same place of the same file, or this
-    /// number if there was none, or if the list is short. No clause speaks of it: the caller compares the lists.
+    /// The number of a class that may have the same list of interfaces: that of the first class of a part that had its
+    /// list at the same place of the same file, or else the number before this one, since lists of other places may be
+    /// equal too. If the list is short, or this number is 0, it is this number. No clause speaks of it: the caller
+    /// compares the lists.
     ///
     /// Error: an allocation failed.
     pub fn first(
@@ -61,7 +63,7 @@ impl KnownLists {
             return Ok(*first);
         }
         self.numbers.insert(key, number)?;
-        Ok(number)
+        Ok(number.saturating_sub(1))
     }
 }
 
@@ -90,8 +92,9 @@ fn first_or_same(classes: &[Class<'_>], i: usize, found: usize) -> usize
     i
 }
 
-/// For each class the number of one with the same interfaces: itself, or one before it. Classes that have a long list at
-/// the same place of the same file have one that is before the others.
+/// For each class the number of one with the same interfaces: itself, or one before it. A class with a long list has one
+/// before it, if an earlier class has its list at the same place of the same file, or if the class just before it has an
+/// equal list.
 ///
 /// Error: an allocation failed.
 ///

@@ -14,6 +14,7 @@ mod class_checks;
 mod class_types;
 mod classes;
 mod equal_lists;
+mod interface_classes;
 mod interface_lists;
 mod laws;
 mod list_parts;

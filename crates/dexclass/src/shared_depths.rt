@@ -1,12 +1,14 @@
 //! The depths of classes of which many have the same list of interfaces.
 
-ghost use Rattle.std.specs.Prelude.{◌≡◌, ◌<◌, ◌≤◌, ℕ, List, Option, All, length, slice_index, slice_index_or, IfOk, IfSome, OnOk};
+ghost use Rattle.std.specs.Prelude.{◌≡◌, ◌<◌, ◌≤◌, ℕ, List, Option, All, length, slice_index_or, IfOk, IfSome, OnOk};
 ghost use Rattle.std.specs.List.{AllZip, filter};
 ghost use Rattle.dexorder.specs.Parents.{AreDepthsOfClasses};
 ghost use Rattle.dexclass.specs.EqualLists.{AreFirstEqual};
 ghost use Rattle.dexclass.specs.internal.ClassLists.{has_class, AreListsOf, kept_numbers, all_room, IsListed};
 
-use dexorder::{HasParents, class_of_type, classes_by_type, depths_of};
+use crate::interface_classes::first_class;
+use dexorder::{HasParents, InterfaceClass, classes_by_type, depths_of};
+use dexrows::TypeNumbers;
 use std::alloc::{AllocError, Global};
 
 /// A class, and those of its interfaces that are classes, if they were found.
@@ -33,27 +35,12 @@ impl<'c, C: HasParents> HasParents for Listed<'c, C> {
         self.class.superclass()
     }
 
-    fn interface_count(&self) -> usize {
+    fn next_class(&self, by_type: &[Option<usize>], passed: usize) -> Option<InterfaceClass> {
         match self.interfaces {
-            Some(interfaces) => interfaces.len(),
-            None => self.class.interface_count(),
+            Some(list) => first_class(by_type, &TypeNumbers::words(list), None, passed),
+            None => self.class.next_class(by_type, passed),
         }
     }
-
-    fn interface(&self, k: usize) -> usize {
-        match self.interfaces {
-            Some(interfaces) => number_at(interfaces, k),
-            None => self.class.interface(k),
-        }
-    }
-}
-
-// The number at a place.
-fn number_at(numbers: &[usize], place: usize) -> usize
-    requires { place < length numbers.now }
-    ensures { result ≡ slice_index numbers.now place }
-{
-    numbers[place]
 }
 
 // The interfaces of a class that are classes.
@@ -66,11 +53,10 @@ fn class_list<C: HasParents>(
         list.items ≡ filter (has_class by_type.now) (C.interfaces_of class.now)) }
 {
     let mut list = Vec::new(alloc);
-    for k in 0..class.interface_count() {
-        let interface = class.interface(k);
-        if class_of_type(by_type, interface).is_some() {
-            list.push(interface)?;
-        }
+    let mut passed = 0;
+    while let Some(interface) = class.next_class(by_type, passed) {
+        list.push(interface.typ)?;
+        passed = interface.passed;
     }
     Ok(list)
 }

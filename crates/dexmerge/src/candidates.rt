@@ -11,7 +11,7 @@ ghost use Rattle.dexmerge.specs.Parts.{referents};
 ghost use Rattle.dexmerge.specs.Counting.{Decides};
 
 use dexclass::{Class, KnownLists, Program, renumbering_law};
-use dexorder::HasParents;
+use dexorder::{HasParents, InterfaceClass};
 use dexpool::{Remap, SymbolKind};
 use std::alloc::{AllocError, Global};
 
@@ -75,13 +75,8 @@ impl<'a, 'b> HasParents for Candidate<'a, 'b> {
         Some(self.remap.or_same(SymbolKind::Typ, superclass))
     }
 
-    fn interface_count(&self) -> usize {
-        self.class.interfaces().len()
-    }
-
-    fn interface(&self, k: usize) -> usize {
-        let interface = self.class.interfaces().at(k);
-        self.remap.or_same(SymbolKind::Typ, interface)
+    fn next_class(&self, by_type: &[Option<usize>], passed: usize) -> Option<InterfaceClass> {
+        self.class.next_class_mapped(self.remap, by_type, passed)
     }
 }
 
@@ -130,8 +125,9 @@ fn first_or_same(candidates: &[Candidate<'_, '_>], i: usize, found: usize) -> us
     i
 }
 
-/// For each candidate one with the same interfaces in the union: itself, or one before it. Those of one part that share a
-/// long list have one that is before the others.
+/// For each candidate one with the same interfaces in the union: itself, or one before it. Those of one part that share
+/// a long list have one that is before the others, and so has one whose long list equals that of the candidate before
+/// it.
 pub(crate) fn first_equal(
     alloc: Global,
     candidates: &[Candidate<'_, '_>],

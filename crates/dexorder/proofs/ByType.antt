@@ -1,8 +1,9 @@
 -- For each type the class that it names, and the parents of a class, one element at a time.
-use Rattle.dexorder.proofs.Common.{◌≡◌, ℕ, ◌+◌, ◌<◌, List, [], ◌∷◌, ◌++◌, length, get_or, take, refl, sym, ap, ◌∙◌, subst, arith, inl, inr, length-take, map, Option, Some, None, IsSome, slice_set, cases_eq, cases_lt, get_or-set_same, get_or-set_other, take_more, length_push, get_or_append_left, get_or_push, map-append, length-map, present, same_Some, zero, suc, Contains, Contains-get_or, get_or-map}
+use Rattle.dexorder.proofs.Common.{◌≡◌, ℕ, ◌+◌, ◌-◌, ◌<◌, List, [], ◌∷◌, ◌++◌, length, get_or, take, refl, sym, ap, ◌∙◌, subst, arith, inl, inr, length-take, map, Option, Some, None, IsSome, slice_set, cases_eq, cases_lt, get_or-set_same, get_or-set_other, take_more, length_push, get_or_append_left, get_or_push, map-append, length-map, present, same_Some, zero, suc, Contains, Contains-get_or, get_or-map}
 use Rattle.dexspec.proofs.sharing.Sharing.{present_source}
-use Rattle.dexorder.specs.{AreByType, AreWithin, classes_of_types, parent_types}
-use Rattle.dexorder.specs.internal.Searching.{AreParentsWithin, parents_in, parents_of_all}
+use Rattle.dexorder.specs.{AreByType, AreWithin, HasNoClassFrom, IsFirstClassFrom, classes_of_types, parent_types}
+use Rattle.dexorder.specs.declared.parents.InterfaceClass.{InterfaceClass}
+use Rattle.dexorder.specs.internal.Searching.{AreParentsWithin, HasNoParentFrom, IsFirstParentFrom, parents_in, parents_of_all}
 
 -- ---- one more class
 
@@ -71,6 +72,26 @@ parent_first by_type t interfaces = refl
 pub parent_later : (by_type : List (Option ℕ)) (superclass : Option ℕ) (interfaces : List ℕ) (j k d : ℕ) → k ≡ suc j → j < length interfaces → get_or (parents_in by_type superclass interfaces) k None ≡ get_or by_type (get_or interfaces j d) None
 parent_later by_type None interfaces j k d e lt = ap (λ (n : ℕ). get_or (parents_in by_type None interfaces) n None) e ∙ get_or-map (λ t. get_or by_type t None) interfaces j d None lt
 parent_later by_type (Some s) interfaces j k d e lt = ap (λ (n : ℕ). get_or (parents_in by_type (Some s) interfaces) n None) e ∙ get_or-map (λ t. get_or by_type t None) interfaces j d None lt
+
+-- the parents from a place on are the interfaces from the place before it on
+module _ (by_type : List (Option ℕ)) (superclass : Option ℕ) (interfaces : List ℕ) (place : ℕ) where
+  at_place : (k : ℕ) → 0 < k → k < length (parents_in by_type superclass interfaces) → get_or (parents_in by_type superclass interfaces) k None ≡ get_or by_type (get_or interfaces (k - 1) 0) None
+  at_place k some lt = parent_later by_type superclass interfaces (k - 1) k 0 (omega (arith, some)) (omega (arith, lt, some, parents_length by_type superclass interfaces))
+
+  pub no_parent_from : HasNoClassFrom by_type interfaces place → HasNoParentFrom (parents_in by_type superclass interfaces) (place + 1)
+  no_parent_from none k from lt = at_place k (omega (arith, from)) lt ∙ none (k - 1) (omega (arith, from)) (omega (arith, lt, from, parents_length by_type superclass interfaces))
+
+  pub first_parent_from : (found : InterfaceClass) → IsFirstClassFrom by_type interfaces place found → IsFirstParentFrom (parents_in by_type superclass interfaces) (place + 1) (found.passed, found.class)
+  first_parent_from found h =
+      let few : found.passed < length (parents_in by_type superclass interfaces) = omega (arith, h.within, parents_length by_type superclass interfaces) in
+      record {
+        parent = record {
+          later = omega (arith, h.later);
+          within = few;
+          is = at_place found.passed (omega (arith, h.later)) few ∙ ap (λ (t : ℕ). get_or by_type t None) h.typ_is ∙ h.class_is;
+        };
+        before = λ k from lt. at_place k (omega (arith, from)) (omega (arith, lt, few)) ∙ h.before (k - 1) (omega (arith, from)) (omega (arith, from, lt));
+      }
 
 -- a class among the parents is that of a type
 mapped_type : (by_type : List (Option ℕ)) (types : List ℕ) (k p : ℕ) → get_or (map (λ t. get_or by_type t None) types) k None ≡ Some p → (t : ℕ) × (get_or by_type t None ≡ Some p)

@@ -1,14 +1,29 @@
 -- Classes that have types as their names and as their parents. Types and classes are numbers.
 -- Source: "Dalvik Executable format", "class_def_item": class_idx, superclass_idx and interfaces_off.
-use Rattle.std.specs.Prelude.{◌≡◌, ℕ, ◌<◌, List, ◌++◌, length, map, All, Option, None, Some, IsSome, option_to_list}
-use Rattle.std.specs.Prelude.{slice_index_or}
+use Rattle.std.specs.Prelude.{◌≡◌, ℕ, ◌+◌, ◌-◌, ◌<◌, ◌≤◌, List, ◌++◌, length, map, All, Option, None, Some, IsSome}
+use Rattle.std.specs.Prelude.{option_to_list, slice_index, slice_index_or}
 use Rattle.dexspec.specs.Lists.{present}
 use Rattle.dexorder.specs.Depths.{AreDepths}
+use Rattle.dexorder.specs.declared.parents.InterfaceClass.{InterfaceClass}
 
 -- for each type a class that has it as its name, or none
 pub record AreByType (names : List ℕ) (by_type : List (Option ℕ)) : Type 0 where
   pub some : (t i : ℕ) → slice_index_or by_type t None ≡ Some i → (i < length names) × (slice_index_or names i 0 ≡ t)
   pub all : (i : ℕ) → i < length names → IsSome (slice_index_or by_type (slice_index_or names i 0) None)
+
+-- no type from this place on is that of a class
+abbrev pub HasNoClassFrom : List (Option ℕ) → List ℕ → ℕ → Type 0
+HasNoClassFrom by_type types from =
+    (k : ℕ) → from ≤ k → k < length types → slice_index_or by_type (slice_index types k) None ≡ None
+
+-- the first type from this place on that is that of a class
+pub record IsFirstClassFrom (by_type : List (Option ℕ)) (types : List ℕ) (from : ℕ) (found : InterfaceClass)
+    : Type 0 where
+  pub later : from < found.passed
+  pub within : found.passed ≤ length types
+  pub typ_is : slice_index types (found.passed - 1) ≡ found.typ
+  pub class_is : slice_index_or by_type found.typ None ≡ Some found.class
+  pub before : (k : ℕ) → from ≤ k → k + 1 < found.passed → slice_index_or by_type (slice_index types k) None ≡ None
 
 -- the types of the parents: the superclass, then the interfaces
 abbrev pub parent_types : Option ℕ → List ℕ → List ℕ

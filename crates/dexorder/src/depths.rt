@@ -1,8 +1,8 @@
 //! The depths of classes: a search along the parents of each class, which visits each class once.
 
-ghost use Rattle.std.specs.Prelude.{◌≡◌, ◌≤◌, ◌<◌, ◌++◌, [], ◌∷◌, length, slice_index_or, All, IfOk, OnOk, MatchOption};
+ghost use Rattle.std.specs.Prelude.{◌≡◌, ◌≤◌, ◌<◌, ◌+◌, ◌++◌, [], ◌∷◌, length, slice_index_or, All, IfOk, OnOk, MatchOption};
 ghost use Rattle.dexorder.specs.Parents.{AllHaveDepths, AreDepthsOfClasses, IsFirstWithout};
-ghost use Rattle.dexorder.specs.internal.Searching.{AreBelow, AreStillSeen, HasReached, IsBegun, IsNearerFrom, IsSearch, AreParentsWithin, parents_in, parents_of_all};
+ghost use Rattle.dexorder.specs.internal.Searching.{AreBelow, AreStillSeen, FindsParentFrom, HasReached, IsBegun, IsNearerFrom, IsSearch, AreParentsWithin, parents_in, parents_of_all};
 
 use crate::parents::{HasParents, class_of_type, classes_by_type};
 use std::alloc::{AllocError, Global};
@@ -36,17 +36,45 @@ struct Search {
     path: Vec<Visit>,
 }
 
-// Parent `k` of a class, if it is a class: its superclass for 0, then its interfaces.
-fn parent<C: HasParents>(by_type: &[Option<usize>], class: &C, k: usize) -> Option<usize>
-    requires { k ≤ length (C.interfaces_of class.now) }
+// The superclass of a class, if it is a class.
+fn superclass<C: HasParents>(by_type: &[Option<usize>], class: &C) -> Option<usize>
     ensures { result ≡ slice_index_or
-        (parents_in by_type.now (C.superclass_of class.now) (C.interfaces_of class.now)) k None }
+        (parents_in by_type.now (C.superclass_of class.now) (C.interfaces_of class.now)) 0 None }
 {
-    let typ = match k.checked_sub(1) {
-        Some(interface) => class.interface(interface),
-        None => class.superclass()?,
-    };
-    class_of_type(by_type, typ)
+    class_of_type(by_type, class.superclass()?)
+}
+
+// The first parent after a place that is a class, with its place: the superclass has place 0.
+fn next_parent<C: HasParents>(
+    by_type: &[Option<usize>],
+    class: &C,
+    place: usize,
+) -> Option<(usize, usize)>
+    ensures { FindsParentFrom
+        (parents_in by_type.now (C.superclass_of class.now) (C.interfaces_of class.now))
+        (place + 1) result }
+{
+    let found = class.next_class(by_type, place)?;
+    Some((found.passed, found.class))
+}
+
+// The first parent from a place on that is a class, with its place.
+fn first_parent<C: HasParents>(
+    by_type: &[Option<usize>],
+    class: &C,
+    place: usize,
+) -> Option<(usize, usize)>
+    ensures { FindsParentFrom
+        (parents_in by_type.now (C.superclass_of class.now) (C.interfaces_of class.now))
+        place result }
+{
+    if let Some(before) = place.checked_sub(1) {
+        return next_parent(by_type, class, before);
+    }
+    match superclass(by_type, class) {
+        Some(parent) => Some((0, parent)),
+        None => next_parent(by_type, class, 0),
+    }
 }
 
 // What the visit of a class comes to by the depths that are known.
@@ -64,20 +92,20 @@ fn continued<C: HasParents>(
         depths.now visit result }
 {
     let mut depth = visit.depth;
-    for k in visit.passed..=class.interface_count() {
-        if let Some(parent) = parent(by_type, class, k) {
-            let Some(above) = depths[parent] else {
-                return Reached::Waiting(
-                    Visit {
-                        passed: k,
-                        depth,
-                        ..visit
-                    },
-                    parent,
-                );
-            };
-            depth = depth.max(above + 1);
-        }
+    let mut next = first_parent(by_type, class, visit.passed);
+    while let Some((passed, parent)) = next {
+        let Some(above) = depths[parent] else {
+            return Reached::Waiting(
+                Visit {
+                    passed,
+                    depth,
+                    ..visit
+                },
+                parent,
+            );
+        };
+        depth = depth.max(above + 1);
+        next = next_parent(by_type, class, passed);
     }
     Reached::Depth(depth)
 }

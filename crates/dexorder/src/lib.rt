@@ -18,4 +18,4 @@ pub use laws::{
     classes_of_definitions, depths_of_classes, depths_of_definitions, order_of_definitions,
 };
 pub use order::class_order;
-pub use parents::{HasParents, class_of_type, classes_by_type};
+pub use parents::{HasParents, InterfaceClass, class_of_type, classes_by_type};

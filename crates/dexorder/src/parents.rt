@@ -1,9 +1,20 @@
 //! Classes that name their parents by types, and the parents that are classes among them.
 
-ghost use Rattle.std.specs.Prelude.{◌≡◌, ◌<◌, ℕ, List, Option, None, All, IfOk, length, map, slice_index, slice_index_or};
-ghost use Rattle.dexorder.specs.Parents.{AreByType};
+ghost use Rattle.std.specs.Prelude.{◌≡◌, ◌<◌, ℕ, List, Option, None, All, IfOk, MatchOption, length, map, slice_index_or};
+ghost use Rattle.dexorder.specs.Parents.{AreByType, HasNoClassFrom, IsFirstClassFrom};
 
 use std::alloc::{AllocError, Global};
+
+/// An interface of a class whose type is that of a class.
+#[derive(Clone, Copy)]
+pub struct InterfaceClass {
+    /// How many interfaces there are up to it, itself among them.
+    pub passed: usize,
+    /// The number of its type.
+    pub typ: usize,
+    /// The class.
+    pub class: usize,
+}
 
 /// A class that has a type as its name, and types as its superclass and interfaces. Types are numbers.
 ///
@@ -23,16 +34,11 @@ pub trait HasParents {
     fn superclass(&self) -> Option<usize>
         ensures { result ≡ superclass_of self.now };
 
-    /// The number of interfaces.
-    fn interface_count(&self) -> usize
-        ensures { result ≡ length (interfaces_of self.now) };
-
-    /// The number of the type of interface `k`.
-    ///
-    /// Condition: `k` is below the number of interfaces.
-    fn interface(&self, k: usize) -> usize
-        requires { k < length (interfaces_of self.now) }
-        ensures { result ≡ slice_index (interfaces_of self.now) k };
+    /// The first interface after the first `passed` of them whose type is that of a class in the result of
+    /// [`classes_by_type`], or `None` if there is none.
+    fn next_class(&self, by_type: &[Option<usize>], passed: usize) -> Option<InterfaceClass>
+        ensures { MatchOption result (HasNoClassFrom by_type.now (interfaces_of self.now) passed)
+            (IsFirstClassFrom by_type.now (interfaces_of self.now) passed) };
 }
 
 /// For each type the number of a class that has it as its name, or none.

@@ -1,11 +1,23 @@
--- Lists of interfaces without those that are no classes.
+-- Interfaces that are classes, and lists of these alone.
 use Rattle.std.specs.Prelude.{◌≡◌, ◌⊎◌, ℕ, ◌+◌, ◌<◌, Bool, List, length, Option, None, Some, slice_index_or, sum_by}
 use Rattle.std.specs.Borrow.{Bor}
 use Rattle.std.specs.Global.{Vec}
 use Rattle.std.specs.List.{filter}
 use Rattle.std.specs.Option.{is_some}
+use Rattle.dexpool.specs.Numberings.{Maps}
+use Rattle.dexclass.specs.Renumbering.{remapped, remapped_types}
 use Rattle.dexclass.specs.declared.shared_depths.ClassLists.{ClassLists}
 use Rattle.dexclass.specs.declared.shared_depths.Listed.{Listed}
+
+-- the number of a type, remapped if there is a map
+abbrev pub type_of : Option (Bor Maps) → ℕ → ℕ
+type_of None number = number
+type_of (Some r) number = remapped r.now.types number
+
+-- the numbers, each remapped if there is a map
+abbrev pub types_of : Option (Bor Maps) → List ℕ → List ℕ
+types_of None numbers = numbers
+types_of (Some r) numbers = remapped_types r.now numbers
 
 -- whether a class has the type as its name
 abbrev pub has_class : List (Option ℕ) → ℕ → Bool

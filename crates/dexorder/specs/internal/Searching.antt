@@ -1,6 +1,6 @@
 -- A search for the depths of classes along their parents.
 use Rattle.std.specs.Prelude.{◌≡◌, ◌⊎◌, ℕ, zero, suc, ◌+◌, ◌-◌, ◌<◌, ◌≤◌, Bool, true, false, cond, List, [], ◌∷◌, ◌++◌}
-use Rattle.std.specs.Prelude.{length, map, take, All, Option, None, Some, slice_index_or, slice_set}
+use Rattle.std.specs.Prelude.{length, map, take, All, Option, None, Some, MatchOption, slice_index_or, slice_set}
 use Rattle.std.specs.List.{AllPairs, Contains, list_all, sum_by}
 use Rattle.dexspec.specs.Lists.{present}
 use Rattle.dexorder.specs.declared.depths.Visit.{Visit}
@@ -26,6 +26,32 @@ parents_of_all by_type superclass_of interfaces_of cs =
 -- those of class i
 abbrev pub parents_at : List (List (Option ℕ)) → ℕ → List (Option ℕ)
 parents_at parents i = slice_index_or parents i []
+
+-- no parent from this place on is a class
+abbrev pub HasNoParentFrom : List (Option ℕ) → ℕ → Type 0
+HasNoParentFrom parents from =
+    (k : ℕ) → from ≤ k → k < length parents → slice_index_or parents k None ≡ None
+
+-- a parent that is a class, with its place, which is this one or later
+pub record IsParentFrom (parents : List (Option ℕ)) (from : ℕ) (found : ℕ × ℕ) : Type 0 where
+  pub later : from ≤ found.0
+  pub within : found.0 < length parents
+  pub is : slice_index_or parents found.0 None ≡ Some found.1
+
+-- the first parent from this place on that is a class
+pub record IsFirstParentFrom (parents : List (Option ℕ)) (from : ℕ) (found : ℕ × ℕ) : Type 0 where
+  pub parent : IsParentFrom parents from found
+  pub before : (k : ℕ) → from ≤ k → k < found.0 → slice_index_or parents k None ≡ None
+
+-- it is that parent, or none if there is none
+abbrev pub FindsParentFrom : List (Option ℕ) → ℕ → Option (ℕ × ℕ) → Type 0
+FindsParentFrom parents from found =
+    MatchOption found (HasNoParentFrom parents from) (IsFirstParentFrom parents from)
+
+-- how many parents there are from the next on that is a class, if there is one
+abbrev pub parents_left : List (Option ℕ) → Option (ℕ × ℕ) → ℕ
+parents_left parents None = 0
+parents_left parents (Some next) = length parents - next.0
 
 -- the class of each type is less than n
 abbrev pub AreParentsWithin : List (Option ℕ) → ℕ → Type 0
@@ -55,6 +81,12 @@ pub record IsDepthBelow (classes : List (List ℕ)) (parents : List ℕ) (d : �
 abbrev pub HasDepthBelow : List (Option ℕ) → List (Option ℕ) → Visit → ℕ → ℕ → Type 0
 HasDepthBelow parents depths v k d = (classes : List (List ℕ)) → AreKnownDepths classes depths
     → IsDepthBelow classes (present (take v.passed parents)) v.depth → IsDepthBelow classes (present (take k parents)) d
+
+-- so it has for the parents before the next that is a class, or for all where none is left
+abbrev pub HasDepthBefore : List (Option ℕ) → List (Option ℕ) → Visit → Option (ℕ × ℕ) → ℕ → Type 0
+HasDepthBefore parents depths v None d = HasDepthBelow parents depths v (length parents) d
+HasDepthBefore parents depths v (Some next) d =
+    IsParentFrom parents v.passed next × HasDepthBelow parents depths v next.0 d
 
 -- the visit of this class waits for parent p
 pub record IsWaiting (parents depths : List (Option ℕ)) (v w : Visit) (p : ℕ) : Type 0 where

@@ -60,15 +60,19 @@ fn digests_of(alloc: Global, part: Part<'_>) -> Result<Vec<[u8; 20]>, AllocError
     Ok(digests)
 }
 
-// How many classes each part of a part has. Where the classes weigh much more than the tables, the parts are many.
+// How many classes each part of a part has. Where the classes weigh much more than the tables, the parts are many: one for
+// each class where the classes are few for what they weigh.
 fn part_size(part: &Part<'_>) -> usize
     requires { 2 ≤ length part.now }
     ensures some { 0 < result }
     ensures fewer { result < length part.now }
 {
     let count = part.len();
-    let ways = WAYS.max(part.density() as usize);
-    ((count - 1) / ways + 1).min(count - 1)
+    let density = part.density() as usize;
+    if count / 4 <= density {
+        return 1;
+    }
+    ((count - 1) / WAYS.max(density) + 1).min(count - 1)
 }
 
 // Appends the digest of each class of a part, from the last to the first.

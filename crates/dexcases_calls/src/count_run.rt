@@ -7,7 +7,7 @@ use crate::files::files_of;
 use crate::run_answer::RunAnswer;
 use dexcases::{CaseFault, Folder, Outcome, Printed};
 use dexhead::Device;
-use dexruns::{NameForm, count_file_run, count_run};
+use dexruns::{Leftover, NameForm, count_file_run, count_run};
 use std::alloc::{AllocError, Global};
 use std::rt::Files;
 
@@ -66,7 +66,7 @@ fn run_together(alloc: Global, files: &[Vec<u8>], right: &str) -> Result<Outcome
     let right = answer_in(alloc, right)?;
     let mut inputs = devices(alloc, files)?;
     let mut out = Device::new(Vec::new(alloc));
-    let returned = count_run(alloc, inputs.as_mut_slice(), &mut out);
+    let returned = count_run(alloc, inputs.as_mut_slice(), &mut out, Leftover::Dropped);
     right.outcome(alloc, &returned, out.into_inner().as_slice())
 }
 

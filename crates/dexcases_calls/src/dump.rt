@@ -2,7 +2,7 @@
 
 use dexcases::{CaseFault, Outcome};
 use dexhead::Device;
-use dexruns::{Detail, RunFault, dump_run};
+use dexruns::{Detail, Leftover, RunFault, dump_run};
 use std::alloc::Global;
 
 /// Runs a line, given the bytes of the file and of its listing.
@@ -17,7 +17,13 @@ pub fn run(alloc: Global, bytes: &[u8], right: &[u8]) -> Result<Outcome, CaseFau
 fn is_listed_as(alloc: Global, bytes: &[u8], right: &[u8]) -> Result<bool, CaseFault> {
     let mut input = Device::new(bytes);
     let mut out = Device::new(Vec::new(alloc));
-    match dump_run(alloc, Detail::Short, &mut input, &mut out) {
+    match dump_run(
+        alloc,
+        Detail::Short,
+        &mut input,
+        &mut out,
+        Leftover::Dropped,
+    ) {
         Ok(()) => Ok(out.into_inner().as_slice() == right),
         Err(RunFault::Memory) => Err(CaseFault::Memory),
         Err(_) => Ok(false),

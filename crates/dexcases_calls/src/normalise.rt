@@ -10,7 +10,7 @@ use dexcanon::{Layout, StoreFault, to_bytes, write_to};
 use dexcases::{CaseFault, Outcome};
 use dexclass::Program;
 use dexhead::Device;
-use dexruns::{RunFault, normalise_run};
+use dexruns::{Leftover, RunFault, normalise_run};
 use std::alloc::{AllocError, Global};
 
 /// Runs a line, given the bytes of the file and of its canonical file.
@@ -38,7 +38,7 @@ fn built(alloc: Global, bytes: &[u8], right: &[u8]) -> Result<Outcome, CaseFault
 fn is_written_by_the_run(alloc: Global, bytes: &[u8], right: &[u8]) -> Result<bool, CaseFault> {
     let mut input = Device::new(bytes);
     let mut out = Device::new(Vec::new(alloc));
-    match normalise_run(alloc, &mut input, &mut out, false) {
+    match normalise_run(alloc, &mut input, &mut out, Leftover::Dropped) {
         Ok(()) => Ok(out.into_inner().as_slice() == right),
         Err(RunFault::Memory) => Err(CaseFault::Memory),
         Err(_) => Ok(false),

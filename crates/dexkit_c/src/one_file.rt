@@ -13,7 +13,7 @@ ghost use Rattle.dexkit_c.specs.Faults.{IsOfFile, IsRefusalSaid};
 use crate::faults::{Bytes, DONE, Fault, MEMORY, REFUSED, put_refusal};
 use dexhead::Device;
 use dexpool::ReadFault;
-use dexruns::{Detail, RunFault, dump_run, repair_run};
+use dexruns::{Detail, Leftover, RunFault, dump_run, repair_run};
 use std::alloc::Global;
 
 // The canonical file of what a file denotes.
@@ -117,7 +117,13 @@ fn listed(alloc: Global, file: &[u8]) -> Result<Vec<u8>, RunFault>
 {
     let mut input = Device::expecting(file, file.len());
     let mut written = Device::new(Vec::new(alloc));
-    match dump_run(alloc, Detail::Short, &mut input, &mut written) {
+    match dump_run(
+        alloc,
+        Detail::Short,
+        &mut input,
+        &mut written,
+        Leftover::Dropped,
+    ) {
         Ok(()) => Ok(written.into_inner()),
         Err(why) => Err(why),
     }

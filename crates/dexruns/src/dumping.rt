@@ -14,7 +14,7 @@ ghost use Rattle.dexruns.specs.declared.faults.RunFault.TheVariants.{Read, Write
 
 use crate::digesting::class_names;
 use crate::faults::RunFault;
-use crate::inputs::{read_input, read_program};
+use crate::inputs::{Leftover, give_up, read_input, read_program};
 use crate::lines::push_text;
 use dexclass::Program;
 use dexhead::{Sink, Source};
@@ -114,6 +114,7 @@ pub fn dump_classes_run<R: Source, W: Sink>(
     names: &[String],
     input: &mut R,
     out: &mut W,
+    leftover: Leftover,
 ) -> Result<Listed, RunFault>
     requires input { R.has_failed input.old ≡ false }
     requires out { W.has_failed out.old ≡ false }
@@ -148,5 +149,6 @@ pub fn dump_classes_run<R: Source, W: Sink>(
         Choice::NoClass(i) => return Ok(Listed::NoClass(i)),
     };
     write_listing_of(alloc, &program, detail, flags.as_slice(), out)?;
+    give_up(program, leftover);
     Ok(Listed::Done)
 }

@@ -11,7 +11,7 @@ use dexcmd::{
 };
 use dexhead::{Device, DeviceFault, Refusal, Sink, Source};
 use dexmerge::{Caps, Plan};
-use dexruns::Detail;
+use dexruns::{Detail, Leftover};
 use std::alloc::Global;
 use std::io::ErrorKind;
 
@@ -106,8 +106,14 @@ fn over_file(alloc: Global, run: FileRun, file: &[u8], reads: Script, writes: Sc
     let mut input = Device::new(Scripted::new(file, reads));
     let mut out = Device::new(Scripted::new(Vec::new(alloc), writes));
     let answer = match run {
-        FileRun::Normalise => normalise_run(alloc, &mut input, &mut out, false),
-        FileRun::List => dump_run(alloc, Detail::Short, &mut input, &mut out),
+        FileRun::Normalise => normalise_run(alloc, &mut input, &mut out, Leftover::Dropped),
+        FileRun::List => dump_run(
+            alloc,
+            Detail::Short,
+            &mut input,
+            &mut out,
+            Leftover::Dropped,
+        ),
         FileRun::Repair => repair_run(alloc, &mut input, &mut out),
         FileRun::Digest => digest_run(alloc, NameForm::Escaped, "a b", &mut input, &mut out),
     };
@@ -122,7 +128,7 @@ fn counted(alloc: Global, files: [(&[u8], Script); 2], writes: Script) -> Option
         inputs.push(Device::new(Scripted::new(file, reads))).ok()?;
     }
     let mut out = Device::new(Scripted::new(Vec::new(alloc), writes));
-    let answer = count_run(alloc, inputs.as_mut_slice(), &mut out);
+    let answer = count_run(alloc, inputs.as_mut_slice(), &mut out, Leftover::Dropped);
     let read_failed = inputs.iter().any(Source::failed);
     Some(ended(status(answer), (calls_of(inputs), read_failed), out))
 }
@@ -407,6 +413,7 @@ fn are_listed(alloc: Global, names: [&str; 2], right: Listed, lines: &[u8]) -> O
         classes.as_slice(),
         &mut input,
         &mut out,
+        Leftover::Dropped,
     )
     .ok()?;
     Some(listed == right && out.into_inner().as_slice() == lines)
@@ -432,7 +439,13 @@ fn calls_for(alloc: Global, expected: usize) -> Option<usize> {
     };
     let mut input = Device::expecting(Scripted::new(file.as_slice(), script), expected);
     let mut out = Device::new(Vec::new(alloc));
-    match dump_run(alloc, Detail::Short, &mut input, &mut out) {
+    match dump_run(
+        alloc,
+        Detail::Short,
+        &mut input,
+        &mut out,
+        Leftover::Dropped,
+    ) {
         Err(RunFault::Input(0, _)) => Some(input.into_inner().calls),
         _ => None,
     }

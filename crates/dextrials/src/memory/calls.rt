@@ -10,7 +10,7 @@ use dexclass::{Program, read};
 use dexhead::Device;
 use dexmerge::{Caps, MergeFault, Plan, PlanFault, merge, merge_plan};
 use dexpool::ReadFault;
-use dexruns::{Detail, dump_run, fan_plan, merge_run, merge_strip_run, normalise_run};
+use dexruns::{Detail, Leftover, dump_run, fan_plan, merge_run, merge_strip_run, normalise_run};
 use std::alloc::{AllocError, Global};
 use std::fmt;
 
@@ -86,14 +86,20 @@ impl Call {
     fn normalised(&self, alloc: Global) -> Result<Trial, Trial> {
         let mut input = Device::new(self.file()?);
         let mut out = Compare::with(&self.right);
-        let answer = normalise_run(alloc, &mut input, &mut out, false);
+        let answer = normalise_run(alloc, &mut input, &mut out, Leftover::Dropped);
         Ok(Trial::of_run(&answer, &out))
     }
 
     fn listed(&self, alloc: Global) -> Result<Trial, Trial> {
         let mut input = Device::new(self.file()?);
         let mut out = Compare::with(&self.right);
-        let answer = dump_run(alloc, Detail::Short, &mut input, &mut out);
+        let answer = dump_run(
+            alloc,
+            Detail::Short,
+            &mut input,
+            &mut out,
+            Leftover::Dropped,
+        );
         Ok(Trial::of_run(&answer, &out))
     }
 

@@ -28,6 +28,7 @@ pub mod ProgramClasses
 pub mod EmptyPrograms
 pub mod ProgramsOf
 pub mod PartsOf
+pub mod Shorts
 pub mod SharedLists
 pub mod FirstEqual
 pub mod ClassesListed

@@ -1,5 +1,6 @@
 -- Words of the contracts of private functions: no public contract reaches them.
 pub mod Rows
+pub mod Shared
 pub mod Listed
 pub mod ClassLists
 pub mod Wholes

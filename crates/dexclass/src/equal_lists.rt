@@ -68,8 +68,8 @@ impl KnownLists {
 }
 
 impl<'a> Class<'a> {
-    /// Returns whether the classes have the same interfaces, both in the bytes of files, or both in numbers that other
-    /// classes share. Others are not compared. The numbers are compared many at a time.
+    /// Returns whether the classes have the same interfaces, both in two bytes for each, as in files, or both in whole
+    /// numbers that other classes share. Others are not compared. The numbers are compared many at a time.
     ///
     /// Source: "class_def_item", the field `interfaces_off`, and "type_list".
     pub fn has_interfaces_of(&self, other: &Class<'_>) -> bool

@@ -5,9 +5,9 @@ ghost use Rattle.dexspec.specs.Bytes.{ushorts_at};
 ghost use Rattle.dexclass.specs.internal.Rows.{interface_indices, HasInterfaceList};
 ghost use Rattle.dexclass.specs.Renumbering.{remapped};
 
-use crate::list_parts::{ListPlace, SharedPart};
+use crate::list_parts::{ListPlace, SharedPart, shorts_between};
 use crate::renumbering::type_number;
-use dexhead::Frame;
+use dexhead::{Frame, put_u16};
 use dexpool::Remap;
 use dexrows::TypeNumbers;
 use dexval::source_of;
@@ -89,11 +89,10 @@ fn are_shorts_at(whole: &[u8], place: usize, list: &[u8]) -> bool
     let Some(room) = (whole.len() / 2).checked_sub(place) else {
         return false;
     };
-    if room < count || list.len() % 2 != 0 {
+    if room < count {
         return false;
     }
-    let (_, rest) = whole.split_at(2 * place);
-    rest.split_at(2 * count).0 == list
+    shorts_between(whole, place, place + count) == list
 }
 
 // Returns whether the numbers from a place on are those of a list.
@@ -137,6 +136,27 @@ pub(crate) fn remapped_types(
         images.push(type_number(remap, numbers.at(k)))?;
     }
     Ok(images)
+}
+
+/// The images of the numbers of types, two bytes for each, or `None` if one has no room in these.
+pub(crate) fn remapped_shorts(
+    alloc: Global,
+    remap: &Remap,
+    numbers: &TypeNumbers<'_>,
+) -> Result<Option<Vec<u8>>, AllocError>
+    ensures { IfOk result (λ found. IfSome found
+        (λ bytes. ushorts_at bytes.items 0 (length bytes.items / 2)
+        ≡ map (remapped remap.now.types) numbers.now)) }
+{
+    let mut bytes = Vec::with_capacity(alloc, numbers.len().saturating_mul(2))?;
+    for k in 0..numbers.len() {
+        let image = type_number(remap, numbers.at(k));
+        if image > 65535 {
+            return Ok(None);
+        }
+        put_u16(image as u16, &mut bytes)?;
+    }
+    Ok(Some(bytes))
 }
 
 impl<'a> Interfaces<'a> {
@@ -185,29 +205,30 @@ impl<'a> Interfaces<'a> {
             return TypeNumbers::words(numbers);
         }
         if let Kept::Shared(part) = &self.kept {
-            return TypeNumbers::words(part.numbers());
+            return part.numbers();
         }
         TypeNumbers::words(&[])
     }
 
-    // The bytes of the list, if it is in a file.
-    fn bytes(&self) -> Option<&'a [u8]>
+    // The bytes of the list, if it has two for each number, in a file or in a list of which others are parts too.
+    fn bytes(&self) -> Option<&[u8]>
         ensures { IfSome result (λ bytes. self.now ≡ ushorts_at bytes.now 0 (length bytes.now / 2)) }
     {
-        if let Kept::File(list) = &self.kept {
-            return Some(list.bytes);
+        match &self.kept {
+            Kept::File(list) => Some(list.bytes),
+            Kept::Own(_) => None,
+            Kept::Shared(part) => part.bytes(),
         }
-        None
     }
 
-    // The numbers, if they are in a list of which others are parts too.
-    fn shared(&self) -> Option<&[usize]>
-        ensures { IfSome result (λ numbers. self.now ≡ numbers.now) }
+    // The numbers, if they are in a list of which others are parts too and that has each by itself.
+    fn words(&self) -> Option<&[usize]>
+        ensures { IfSome result (λ words. self.now ≡ words.now) }
     {
-        if let Kept::Shared(part) = &self.kept {
-            return Some(part.numbers());
+        match &self.kept {
+            Kept::File(_) | Kept::Own(_) => None,
+            Kept::Shared(part) => part.words(),
         }
-        None
     }
 
     /// Returns whether the lists are kept in the same way and are equal. They are compared many numbers at a time.
@@ -220,7 +241,7 @@ impl<'a> Interfaces<'a> {
                 None => false,
             };
         }
-        match (self.shared(), other.shared()) {
+        match (self.words(), other.words()) {
             (Some(mine), Some(theirs)) => mine == theirs,
             _ => false,
         }
@@ -237,7 +258,7 @@ impl<'a> Interfaces<'a> {
                 None => false,
             };
         }
-        match (self.shared(), list.shared()) {
+        match (self.words(), list.words()) {
             (Some(whole), Some(list)) => are_words_at(whole, place, list),
             _ => false,
         }

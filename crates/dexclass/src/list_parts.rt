@@ -1,7 +1,10 @@
 //! Parts of numbers that several lists share.
 
-ghost use Rattle.std.specs.Prelude.{◌≡◌, IfOk, IfSome, take, drop};
+ghost use Rattle.std.specs.Prelude.{◌≡◌, ◌≤◌, ◌/◌, length, slice_range, IfOk, IfSome, take, drop};
+ghost use Rattle.dexspec.specs.Bytes.{ushorts_at};
+ghost use Rattle.dexclass.specs.internal.Shared.{shared_in};
 
+use dexrows::TypeNumbers;
 use std::alloc::AllocError;
 use std::marker::Model;
 use std::rc::Rc;
@@ -15,10 +18,52 @@ pub(crate) struct ListPlace {
     pub(crate) start: usize,
 }
 
+/// Numbers that several lists share.
+#[derive(Drop)]
+pub(crate) enum SharedNumbers {
+    /// Two bytes for each, as in a file.
+    Shorts(Rc<Vec<u8>>),
+    /// Each number by itself, where one has no room in two bytes.
+    Words(Rc<Vec<usize>>),
+}
+
+impl SharedNumbers {
+    // How many there are.
+    fn len(&self) -> usize
+        ensures { result ≡ length (shared_in self.now) }
+    {
+        match self {
+            SharedNumbers::Shorts(bytes) => bytes.len() / 2,
+            SharedNumbers::Words(words) => words.len(),
+        }
+    }
+
+    // The same numbers.
+    fn copy(&self) -> Result<SharedNumbers, AllocError>
+        ensures { IfOk result (λ copy. shared_in copy ≡ shared_in self.now) }
+    {
+        match self {
+            SharedNumbers::Shorts(bytes) => Ok(SharedNumbers::Shorts(bytes.clone()?)),
+            SharedNumbers::Words(words) => Ok(SharedNumbers::Words(words.clone()?)),
+        }
+    }
+}
+
+/// The bytes of the numbers from `start` to `end`, two for each.
+pub(crate) fn shorts_between(whole: &[u8], start: usize, end: usize) -> &[u8]
+    requires ordered { start ≤ end }
+    requires within { end ≤ length whole.now / 2 }
+    ensures { ushorts_at result.now 0 (length result.now / 2)
+        ≡ slice_range (ushorts_at whole.now 0 (length whole.now / 2)) start end }
+{
+    let (_, rest) = whole.split_at(2 * start);
+    rest.split_at(2 * (end - start)).0
+}
+
 /// A part of numbers of which other lists may be parts too. Contracts see the list.
 #[derive(Drop)]
 pub(crate) struct SharedPart {
-    numbers: Rc<Vec<usize>>,
+    numbers: SharedNumbers,
     // Where those are whose images the numbers are.
     from: ListPlace,
     start: usize,
@@ -27,24 +72,25 @@ pub(crate) struct SharedPart {
 
 impl Model for SharedPart {
     ghost use Rattle.std.specs.Prelude.{◌≤◌, ℕ, List, length, slice_range};
+    ghost use Rattle.dexclass.specs.internal.Shared.{shared_in};
 
     ghost Value = { List ℕ };
 
-    ghost view = { λ part. slice_range part.numbers.value.items part.start part.end };
+    ghost view = { λ part. slice_range (shared_in part.numbers) part.start part.end };
 
-    ghost invariant = { λ part. (part.start ≤ part.end) × (part.end ≤ length part.numbers.value.items) };
+    ghost invariant = { λ part. (part.start ≤ part.end) × (part.end ≤ length (shared_in part.numbers)) };
 }
 
 impl SharedPart {
     /// The `len` numbers from `start` on of these, which are those of a place, or `None` where there are less.
     pub(crate) fn of(
-        numbers: &Rc<Vec<usize>>,
+        numbers: &SharedNumbers,
         from: ListPlace,
         start: usize,
         len: usize,
     ) -> Result<Option<SharedPart>, AllocError>
         ensures { IfOk result (λ found. IfSome found
-            (λ part. part ≡ take len (drop start numbers.now.value.items))) }
+            (λ part. part ≡ take len (drop start (shared_in numbers.now)))) }
     {
         let Some(room) = numbers.len().checked_sub(start) else {
             return Ok(None);
@@ -53,7 +99,7 @@ impl SharedPart {
             return Ok(None);
         }
         Ok(Some(SharedPart {
-            numbers: numbers.clone()?,
+            numbers: numbers.copy()?,
             from,
             start,
             end: start + len,
@@ -61,10 +107,35 @@ impl SharedPart {
     }
 
     /// The numbers.
-    pub(crate) fn numbers(&self) -> &[usize]
-        ensures { result.now ≡ self.now }
+    pub(crate) fn numbers(&self) -> TypeNumbers<'_>
+        ensures { result ≡ self.now }
     {
-        &self.numbers[self.start..self.end]
+        match &self.numbers {
+            SharedNumbers::Shorts(bytes) => {
+                TypeNumbers::shorts(shorts_between(bytes, self.start, self.end))
+            }
+            SharedNumbers::Words(words) => TypeNumbers::words(&words[self.start..self.end]),
+        }
+    }
+
+    /// The bytes of the numbers, if they have two each.
+    pub(crate) fn bytes(&self) -> Option<&[u8]>
+        ensures { IfSome result (λ bytes. self.now ≡ ushorts_at bytes.now 0 (length bytes.now / 2)) }
+    {
+        match &self.numbers {
+            SharedNumbers::Shorts(bytes) => Some(shorts_between(bytes, self.start, self.end)),
+            SharedNumbers::Words(_) => None,
+        }
+    }
+
+    /// The numbers, if each is kept by itself.
+    pub(crate) fn words(&self) -> Option<&[usize]>
+        ensures { IfSome result (λ words. self.now ≡ words.now) }
+    {
+        match &self.numbers {
+            SharedNumbers::Shorts(_) => None,
+            SharedNumbers::Words(words) => Some(&words[self.start..self.end]),
+        }
     }
 
     /// The same part of the same numbers.
@@ -72,7 +143,7 @@ impl SharedPart {
         ensures { IfOk result (λ copy. copy ≡ self.now) }
     {
         Ok(SharedPart {
-            numbers: self.numbers.clone()?,
+            numbers: self.numbers.copy()?,
             from: self.from,
             start: self.start,
             end: self.end,

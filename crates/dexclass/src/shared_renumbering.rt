@@ -3,13 +3,15 @@
 ghost use Rattle.std.specs.Prelude.{◌≡◌, All, IfOk, IfSome, OnOk, OnErr, map, unwrap_or};
 ghost use Rattle.dexpool.specs.Numberings.{Maps};
 ghost use Rattle.dexclass.specs.Renumbering.{remapped, renumbered, ClassHasPlaces};
+ghost use Rattle.dexclass.specs.internal.Shared.{shared_in};
 ghost use Rattle.dexclass.specs.internal.Wholes.{IsRemapped};
 
 use crate::classes::Class;
-use crate::interface_lists::{Interfaces, remapped_types};
-use crate::list_parts::{ListPlace, SharedPart};
+use crate::interface_lists::{Interfaces, remapped_shorts, remapped_types};
+use crate::list_parts::{ListPlace, SharedNumbers, SharedPart};
 use dexmembers::RemappedMembers;
 use dexpool::Remap;
+use dexrows::TypeNumbers;
 use dexval::KnownImages;
 use std::alloc::{AllocError, Global};
 use std::collections::HashMap;
@@ -93,13 +95,29 @@ impl Coverings {
     }
 }
 
+// The images of numbers, for lists that share them: two bytes for each, if all have room in these.
+fn shared_images(
+    alloc: Global,
+    remap: &Remap,
+    numbers: &TypeNumbers<'_>,
+) -> Result<SharedNumbers, AllocError>
+    ensures { IfOk result (λ images.
+        shared_in images ≡ map (remapped remap.now.types) numbers.now) }
+{
+    if let Some(bytes) = remapped_shorts(alloc, remap, numbers)? {
+        return Ok(SharedNumbers::Shorts(Rc::new(alloc, bytes)?));
+    }
+    let words = remapped_types(alloc, remap, numbers)?;
+    Ok(SharedNumbers::Words(Rc::new(alloc, words)?))
+}
+
 /// What lists of one file are parts of, and the images of its numbers.
 #[derive(Drop)]
 pub(crate) struct Whole<'a> {
     numbers: Interfaces<'a>,
     // Where it begins in the file.
     low: usize,
-    images: Rc<Vec<usize>>,
+    images: SharedNumbers,
 }
 
 impl<'a> Whole<'a> {
@@ -113,11 +131,11 @@ impl<'a> Whole<'a> {
         ensures { IfOk result (IsRemapped remap.now) }
     {
         let numbers = covering.whole(alloc, classes)?;
-        let images = remapped_types(alloc, remap, &numbers.numbers())?;
+        let images = shared_images(alloc, remap, &numbers.numbers())?;
         Ok(Whole {
             numbers,
             low: covering.low,
-            images: Rc::new(alloc, images)?,
+            images,
         })
     }
 

@@ -2,7 +2,7 @@
 use Rattle.std.proofs.lemmas.Bool.{cases_lt}
 use Rattle.std.proofs.lemmas.List.{get_or_append_left, get_or_push, length_push}
 use Rattle.dexclass.proofs.Common.{◌≡◌, ℕ, ◌+◌, ◌<◌, ◌≤◌, List, [], ◌∷◌, ◌++◌, length, get_or, arith, inl, inr, sym, ap, ◌∙◌}
-use Rattle.dexclass.specs.{AreFirstEqual}
+use Rattle.dexorder.specs.EqualLists.{AreFirstEqual}
 
 -- those of the first members
 pub record AreFirstUpTo {X Y : Type 0} (f : X → Y) (xs : List X) (firsts : List ℕ) (i : ℕ) : Type 0 where

@@ -31,4 +31,3 @@ pub mod PartsOf
 pub mod Shorts
 pub mod SharedLists
 pub mod FirstEqual
-pub mod ClassesListed

@@ -3,7 +3,6 @@ pub mod Numbered
 pub mod Uses
 pub mod Renumbering
 pub mod Parents
-pub mod EqualLists
 pub mod Programs
 pub mod Laws
 pub mod internal
@@ -12,6 +11,5 @@ unfoldable pub use Numbered.*
 unfoldable pub use Uses.*
 unfoldable pub use Renumbering.*
 unfoldable pub use Parents.*
-unfoldable pub use EqualLists.*
 unfoldable pub use Programs.*
 unfoldable pub use Laws.*

@@ -2,7 +2,7 @@
 pub mod Rows
 pub mod Shared
 pub mod Listed
-pub mod ClassLists
+pub mod InterfaceClasses
 pub mod Wholes
 pub mod Checked
 pub mod Ordered

@@ -2,7 +2,7 @@
 
 ghost use Rattle.std.specs.Prelude.{◌≡◌, ◌<◌, ◌≤◌, length, slice_index_or, IfOk, IsTrue};
 ghost use Rattle.dexclass.specs.Numbered.{NumberedClass};
-ghost use Rattle.dexclass.specs.EqualLists.{AreFirstEqual};
+ghost use Rattle.dexorder.specs.EqualLists.{AreFirstEqual};
 
 use crate::classes::Class;
 use std::alloc::{AllocError, Global};

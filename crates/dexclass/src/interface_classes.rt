@@ -3,7 +3,7 @@
 ghost use Rattle.std.specs.Prelude.{◌≡◌, MatchOption};
 ghost use Rattle.dexorder.specs.Parents.{HasNoClassFrom, IsFirstClassFrom};
 ghost use Rattle.dexclass.specs.Renumbering.{renumbered};
-ghost use Rattle.dexclass.specs.internal.ClassLists.{type_of, types_of};
+ghost use Rattle.dexclass.specs.internal.InterfaceClasses.{type_of, types_of};
 
 use crate::classes::Class;
 use crate::renumbering::type_number;

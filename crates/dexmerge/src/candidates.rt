@@ -4,7 +4,7 @@ ghost use Rattle.std.specs.Prelude.{◌≡◌, ◌↔◌, ◌<◌, ◌≤◌, Li
 ghost use Rattle.dexmembers.specs.Fitting.{members_short_strings};
 ghost use Rattle.dexpool.specs.Numberings.{Maps};
 ghost use Rattle.dexclass.specs.Renumbering.{IsMappedClass};
-ghost use Rattle.dexclass.specs.EqualLists.{AreFirstEqual};
+ghost use Rattle.dexorder.specs.EqualLists.{AreFirstEqual};
 ghost use Rattle.dexmerge.specs.Candidates.{class_of};
 ghost use Rattle.dexmerge.specs.internal.CandidateLists.{AreMembersOf, AreOfParts, AreByPart, HaveEqualInterfaces};
 ghost use Rattle.dexmerge.specs.Parts.{referents};

@@ -17,8 +17,10 @@ use crate::candidates::{Candidate, candidates, first_equal};
 use crate::caps::Caps;
 use crate::faults::MergeFault;
 use crate::fitting::first_exceeded;
-use dexclass::{Program, depths_with_firsts, same_law};
-use dexorder::{HasParents, class_of_type, classes_by_type, first_without_depth};
+use dexclass::{Program, same_law};
+use dexorder::{
+    HasParents, class_of_type, classes_by_type, depths_with_firsts, first_without_depth,
+};
 use dexpool::{Numbering, Remap, SymbolKind};
 use dexstr::Name;
 use std::alloc::{AllocError, Global};

@@ -1,9 +1,10 @@
 -- For each type the class that it names, and the parents of a class, one element at a time.
-use Rattle.dexorder.proofs.Common.{◌≡◌, ℕ, ◌+◌, ◌-◌, ◌<◌, List, [], ◌∷◌, ◌++◌, length, get_or, take, refl, sym, ap, ◌∙◌, subst, arith, inl, inr, length-take, map, Option, Some, None, IsSome, slice_set, cases_eq, cases_lt, get_or-set_same, get_or-set_other, take_more, length_push, get_or_append_left, get_or_push, map-append, length-map, present, same_Some, zero, suc, Contains, Contains-get_or, get_or-map}
+use Rattle.dexorder.proofs.Common.{◌≡◌, ℕ, ◌+◌, ◌-◌, ◌<◌, List, [], ◌∷◌, ◌++◌, length, get_or, take, drop, refl, sym, ap, ◌∙◌, subst, arith, inl, inr, length-take, map, Option, Some, None, IsSome, slice_set, cases_eq, cases_lt, get_or-set_same, get_or-set_other, take_more, length_push, get_or_append_left, get_or_push, map-append, length-map, present, same_Some, zero, suc, Contains, Contains-get_or, get_or-map, get_or_default}
 use Rattle.dexspec.proofs.sharing.Sharing.{present_source}
 use Rattle.dexorder.specs.{AreByType, AreWithin, HasNoClassFrom, IsFirstClassFrom, classes_of_types, parent_types}
 use Rattle.dexorder.specs.declared.parents.InterfaceClass.{InterfaceClass}
-use Rattle.dexorder.specs.internal.Searching.{AreParentsWithin, HasNoParentFrom, IsFirstParentFrom, parents_in, parents_of_all}
+use Rattle.dexorder.specs.EqualLists.{HaveEqual}
+use Rattle.dexorder.specs.internal.Searching.{AreParentsWithin, HasNoParentFrom, HaveEqualParents, IsFirstParentFrom, interface_parents, parents_in, parents_of_all}
 
 -- ---- one more class
 
@@ -63,6 +64,11 @@ parents_present by_type (Some t) interfaces = refl
 pub parents_length : (by_type : List (Option ℕ)) (superclass : Option ℕ) (interfaces : List ℕ) → length (parents_in by_type superclass interfaces) ≡ length interfaces + 1
 parents_length by_type None interfaces = omega (arith, length-map interfaces (λ t. get_or by_type t None))
 parents_length by_type (Some t) interfaces = omega (arith, length-map interfaces (λ t. get_or by_type t None))
+
+-- all but the superclass
+pub parents_rest : (by_type : List (Option ℕ)) (superclass : Option ℕ) (interfaces : List ℕ) → drop 1 (parents_in by_type superclass interfaces) ≡ map (λ t. get_or by_type t None) interfaces
+parents_rest by_type None interfaces = refl
+parents_rest by_type (Some t) interfaces = refl
 
 -- the superclass
 pub parent_first : (by_type : List (Option ℕ)) (t : ℕ) (interfaces : List ℕ) → get_or (parents_in by_type (Some t) interfaces) 0 None ≡ get_or by_type t None
@@ -135,3 +141,16 @@ module _ {C : Type 0} (by_type : List (Option ℕ)) (superclass_of : C → Optio
   parents_some [] i lt = absurd (omega arith)
   parents_some (c ∷ cs) zero lt = omega (arith, parents_length by_type (superclass_of c) (interfaces_of c))
   parents_some (c ∷ cs) (suc i) lt = parents_some cs i (omega arith)
+
+  -- all but the superclass
+  rest_of_one : (cs : List C) (i : ℕ) (d : C) → i < length cs → interface_parents (parents_of_all by_type superclass_of interfaces_of cs) i ≡ map (λ t. get_or by_type t None) (interfaces_of (get_or cs i d))
+  rest_of_one cs i d lt =
+      let c = get_or cs i d in
+      ap (drop 1) (parents_of_one cs i c lt (sym (get_or_default cs i c d lt))) ∙ parents_rest by_type (superclass_of c) (interfaces_of c)
+
+  -- classes that have equal interfaces have equal parents but for the superclass
+  pub equal_parents : (cs : List C) (firsts : List ℕ) → HaveEqual interfaces_of cs firsts → HaveEqualParents (parents_of_all by_type superclass_of interfaces_of cs) firsts
+  equal_parents [] firsts h i few lt = absurd (omega arith)
+  equal_parents (c ∷ cs) firsts h i few lt =
+      let within : i < length (c ∷ cs) = omega (arith, lt, length-map (c ∷ cs) (λ c. parents_in by_type (superclass_of c) (interfaces_of c))) in
+      rest_of_one (c ∷ cs) (get_or firsts i 0) c (omega (arith, h.before i few, within)) ∙ ap (map (λ t. get_or by_type t None)) (h.equal i c few within) ∙ sym (rest_of_one (c ∷ cs) i c within)

@@ -6,3 +6,4 @@ pub mod DepthLaws
 pub mod PlaceLaws
 pub mod SearchLaws
 pub mod Passing
+pub mod ListDepths

@@ -5,9 +5,12 @@ use Rattle.std.proofs.Math.ListN.{get_or-append}
 use Rattle.std.proofs.lemmas.List.Quantifiers.{all_pairs_push}
 use Rattle.dexorder.specs.declared.depths.Visit.{Visit}
 use Rattle.dexorder.specs.declared.depths.Search.{Search}
+use Rattle.dexorder.specs.declared.depths.Reached.{Reached}
+use Rattle.dexorder.specs.declared.depths.Reached.TheVariants.{Depth, Waiting}
 use Rattle.dexorder.specs.{parents_of, is_under, AreDepths, AreWithin, IsDepth, IsDepthOrNone, HasNone}
-use Rattle.dexorder.specs.internal.Searching.{is_under_all, AreBelow, HasDepthBelow, IsWaiting, IsVisit, IsWaitingFor, IsOn, IsSearch, IsDepthBelow, IsBegun, parents_at, work_left, work_unseen}
-use Rattle.std.proofs.lemmas.List.{get_or_past}
+use Rattle.dexorder.specs.internal.Searching.{is_under_all, AreBelow, HasDepthBelow, HasReached, HasReachedIn, HasReachedWith, interface_parents, IsWaiting, IsVisit, IsWaitingFor, IsOn, IsSearch, IsDepthBelow, IsBegun, parents_at, work_left, work_unseen}
+use Rattle.std.specs.Prelude.{replicate}
+use Rattle.std.proofs.lemmas.List.{get_or-replicate, get_or_past, length-replicate}
 use Rattle.dexorder.proofs.DepthLaws.{list_all-fails, is_under-suc, is_under-later, parent_within, depth_less}
 
 -- after a class is seen, the bound no longer counts its steps
@@ -67,6 +70,20 @@ module _ (parents : List (List (Option ℕ))) where
   -- the parents of a class are those that are classes
   parents_are : (i : ℕ) → i < length parents → parents_of (map present parents) i ≡ present (parents_at parents i)
   parents_are i lt = get_or-map present parents i [] [] lt
+
+  -- nothing is known yet
+  same_everywhere : {X : Type 0} (n i : ℕ) (x : X) → get_or (replicate n x) i x ≡ x
+  same_everywhere n i x = elim (cases_lt i n) [ inl lt ↦ get_or-replicate n i x x lt | inr ge ↦ get_or_past (replicate n x) i x (omega (arith, ge, length-replicate n x)) ]
+
+  pub search_none : (s : Search) → s.depths.items ≡ replicate (length parents) None → s.is_seen.items ≡ replicate (length parents) false → IsSearch parents s []
+  search_none s depths seen = record {
+    depth_count = ap length depths ∙ length-replicate (length parents) None;
+    seen_count = ap length seen ∙ length-replicate (length parents) false;
+    known = λ i d e. absurd (let none : None ≡ Some d = sym (ap (λ ds. get_or ds i None) depths ∙ same_everywhere (length parents) i None) ∙ e in cc);
+    unknown = λ i e f. absurd (let none : false ≡ true = sym (ap (λ bs. get_or bs i false) seen ∙ same_everywhere (length parents) i false) ∙ e in cc);
+    visits = λ k d lt. absurd (omega arith);
+    waiting = λ i j d ij lt. absurd (omega arith);
+  }
 
   -- the visit of a class begins
   pub search_begun : (s t : Search) (i : ℕ) → IsBegun s i t → IsSearch parents s s.path.items → i < length parents → 0 < length (parents_at parents i) → All (IsWaitingFor (map present parents) i) s.path.items → IsSearch parents t t.path.items
@@ -166,6 +183,14 @@ module _ (parents : List (List (Option ℕ))) where
           passed = subst (λ (l : List (Option ℕ)). w.passed < length l) same is.within;
           below = subst (λ (l : List (Option ℕ)). IsDepthBelow (map present parents) (present (take w.passed l)) w.depth) same (is.below (map present parents) h.known last_visit.below);
         }
+
+    pub reached_in : (r : Reached) → HasReached (parents_at parents v.class) s.depths.items v r → HasReachedIn parents s.depths.items v r
+    reached_in (Depth d) is = reached_depth d is
+    reached_in (Waiting w p) is = is
+
+    pub reached_with : (list : ℕ) (r : Reached) → IsDepthBelow (map present parents) (present (interface_parents parents v.class)) list → HasReachedWith (parents_at parents v.class) s.depths.items list v r → HasReachedIn parents s.depths.items v r
+    reached_with list (Depth d) below is = is (map present parents) h.known last_visit.below below
+    reached_with list (Waiting w p) below is = is
 
     -- ---- the last visit goes on
 

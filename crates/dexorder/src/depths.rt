@@ -1,15 +1,18 @@
-//! The depths of classes: a search along the parents of each class, which visits each class once.
+//! The depths of classes: a search along the parents of each class, which visits each class once. Interfaces that several
+//! classes share are gone over only until the depth below them is known.
 
-ghost use Rattle.std.specs.Prelude.{◌≡◌, ◌≤◌, ◌<◌, ◌+◌, ◌++◌, [], ◌∷◌, length, slice_index_or, All, IfOk, OnOk, MatchOption};
+ghost use Rattle.std.specs.Prelude.{◌≡◌, ◌≤◌, ◌<◌, ◌+◌, ◌++◌, [], ◌∷◌, ℕ, length, slice_index_or, All, IfOk, OnOk, MatchOption};
+ghost use Rattle.dexorder.specs.EqualLists.{AreFirstEqual, HaveEqual};
 ghost use Rattle.dexorder.specs.Parents.{AllHaveDepths, AreDepthsOfClasses, IsFirstWithout};
-ghost use Rattle.dexorder.specs.internal.Searching.{AreBelow, AreStillSeen, FindsParentFrom, HasReached, IsBegun, IsNearerFrom, IsSearch, AreParentsWithin, parents_in, parents_of_all};
+ghost use Rattle.dexorder.specs.internal.Searching.{AreBelow, AreListDepths, AreStillSeen, FindsParentFrom, HasReached, HasReachedIn, HasReachedWith, IsBegun, IsNearerFrom, IsSearch, AreParentsWithin, parents_in, parents_of_all};
 
+use crate::list_depths::ListDepths;
 use crate::parents::{HasParents, class_of_type, classes_by_type};
 use std::alloc::{AllocError, Global};
 
 /// The visit of a class. It waits for the depth of each parent in turn: of its superclass, then of its interfaces.
 #[derive(Clone, Copy)]
-struct Visit {
+pub(crate) struct Visit {
     class: usize,
     /// The number of parents that it waits for no longer.
     passed: usize,
@@ -17,8 +20,22 @@ struct Visit {
     depth: usize,
 }
 
+impl Visit {
+    /// The visit of a class as it begins.
+    pub(crate) fn of(class: usize) -> Visit
+        ensures { result ≡ record { class = class; passed = 0; depth = 0 } }
+    {
+        Visit {
+            class,
+            passed: 0,
+            depth: 0,
+        }
+    }
+}
+
 /// What a visit comes to.
-enum Reached {
+#[derive(Clone, Copy)]
+pub(crate) enum Reached {
     /// The depth of its class.
     Depth(usize),
     /// A parent whose depth is not known, for which the visit waits.
@@ -77,8 +94,8 @@ fn first_parent<C: HasParents>(
     }
 }
 
-// What the visit of a class comes to by the depths that are known.
-fn continued<C: HasParents>(
+/// What the visit of a class comes to by the depths that are known.
+pub(crate) fn continued<C: HasParents>(
     by_type: &[Option<usize>],
     depths: &[Option<usize>],
     class: &C,
@@ -110,6 +127,33 @@ fn continued<C: HasParents>(
     Reached::Depth(depth)
 }
 
+// What the visit of a class comes to by the depths that are known, of which `list` is that below its interfaces alone.
+fn continued_with<C: HasParents>(
+    by_type: &[Option<usize>],
+    depths: &[Option<usize>],
+    class: &C,
+    list: usize,
+    visit: Visit,
+) -> Reached
+    requires within { AreParentsWithin by_type.now (length depths.now) }
+    requires below { AreBelow (length depths.now) depths.now }
+    ensures { HasReachedWith
+        (parents_in by_type.now (C.superclass_of class.now) (C.interfaces_of class.now))
+        depths.now list visit result }
+{
+    let depth = visit.depth.max(list);
+    if visit.passed > 0 {
+        return Reached::Depth(depth);
+    }
+    let Some(parent) = superclass(by_type, class) else {
+        return Reached::Depth(depth);
+    };
+    match depths[parent] {
+        Some(above) => Reached::Depth(depth.max(above + 1)),
+        None => Reached::Waiting(visit, parent),
+    }
+}
+
 impl Search {
     /// Begins the visit of a class.
     fn begin(&mut self, class: usize) -> Result<(), AllocError>
@@ -117,12 +161,33 @@ impl Search {
         ensures { OnOk result (IsBegun self.old class self.new) }
     {
         self.is_seen[class] = true;
-        self.path.push(Visit {
-            class,
-            passed: 0,
-            depth: 0,
-        })?;
+        self.path.push(Visit::of(class))?;
         Ok(())
+    }
+
+    /// What a visit comes to by the depths that are known.
+    fn reached<C: HasParents>(
+        &self,
+        by_type: &[Option<usize>],
+        classes: &[C],
+        lists: &ListDepths<'_>,
+        visit: Visit,
+    ) -> Reached
+        requires within { AreParentsWithin by_type.now (length classes.now) }
+        requires search { IsSearch
+            (parents_of_all by_type.now C.superclass_of C.interfaces_of classes.now) self.now
+            (self.now.path.items ++ visit ∷ []) }
+        requires lists { AreListDepths
+            (parents_of_all by_type.now C.superclass_of C.interfaces_of classes.now) lists.now }
+        ensures { HasReachedIn
+            (parents_of_all by_type.now C.superclass_of C.interfaces_of classes.now)
+            self.now.depths.items visit result }
+    {
+        let class = &classes[visit.class];
+        match lists.depth(visit.class) {
+            Some(list) => continued_with(by_type, &self.depths, class, list, visit),
+            None => continued(by_type, &self.depths, class, visit),
+        }
     }
 
     /// Continues the last visit of the path. The visit is over if all its parents have a depth: its class then has one
@@ -132,12 +197,17 @@ impl Search {
         &mut self,
         by_type: &[Option<usize>],
         classes: &[C],
+        lists: &mut ListDepths<'_>,
         visit: Visit,
     ) -> Result<(), AllocError>
         requires within { AreParentsWithin by_type.now (length classes.now) }
         requires search { IsSearch
             (parents_of_all by_type.now C.superclass_of C.interfaces_of classes.now) self.old
             (self.old.path.items ++ visit ∷ []) }
+        requires lists { AreListDepths
+            (parents_of_all by_type.now C.superclass_of C.interfaces_of classes.now) lists.old }
+        ensures lists { AreListDepths
+            (parents_of_all by_type.now C.superclass_of C.interfaces_of classes.now) lists.new }
         ensures search { OnOk result (IsSearch
             (parents_of_all by_type.now C.superclass_of C.interfaces_of classes.now) self.new
             self.new.path.items) }
@@ -146,8 +216,11 @@ impl Search {
             (parents_of_all by_type.now C.superclass_of C.interfaces_of classes.now) visit
             self.old self.new) }
     {
-        match continued(by_type, &self.depths, &classes[visit.class], visit) {
-            Reached::Depth(depth) => self.depths[visit.class] = Some(depth),
+        match self.reached(by_type, classes, lists, visit) {
+            Reached::Depth(depth) => {
+                self.depths[visit.class] = Some(depth);
+                lists.add(by_type, &self.depths, classes, visit.class);
+            }
             Reached::Waiting(visit, parent) => {
                 if !self.is_seen[parent] {
                     self.path.push(visit)?;
@@ -157,6 +230,37 @@ impl Search {
         }
         Ok(())
     }
+}
+
+// What [`depths_of`] returns for classes, where each of `firsts` is a class with the same interfaces.
+fn search_depths<C: HasParents>(
+    alloc: Global,
+    classes: &[C],
+    types: usize,
+    firsts: &[usize],
+) -> Result<Vec<Option<usize>>, AllocError>
+    requires names { All (λ c. C.name_of c < types) classes.now }
+    requires firsts { HaveEqual C.interfaces_of classes.now firsts.now }
+    ensures { IfOk result (λ depths.
+        AreDepthsOfClasses C.name_of C.superclass_of C.interfaces_of classes.now depths.items) }
+{
+    let by_type = classes_by_type(alloc, classes, types)?;
+    let count = classes.len();
+    let mut lists = ListDepths::none(alloc, firsts, count)?;
+    let mut search = Search {
+        depths: vec![in alloc; None; count]?,
+        is_seen: vec![in alloc; false; count]?,
+        path: Vec::new(alloc),
+    };
+    for class in 0..count {
+        if !search.is_seen[class] {
+            search.begin(class)?;
+            while let Some(visit) = search.path.pop() {
+                search.step(&by_type, classes, &mut lists, visit)?;
+            }
+        }
+    }
+    Ok(search.depths)
 }
 
 /// The depth of each class, or none if the class is above itself or below a class that is. A class without parents
@@ -173,22 +277,28 @@ pub fn depths_of<C: HasParents>(
     ensures { IfOk result (λ depths.
         AreDepthsOfClasses C.name_of C.superclass_of C.interfaces_of classes.now depths.items) }
 {
-    let by_type = classes_by_type(alloc, classes, types)?;
-    let count = classes.len();
-    let mut search = Search {
-        depths: vec![in alloc; None; count]?,
-        is_seen: vec![in alloc; false; count]?,
-        path: Vec::new(alloc),
-    };
-    for class in 0..count {
-        if !search.is_seen[class] {
-            search.begin(class)?;
-            while let Some(visit) = search.path.pop() {
-                search.step(&by_type, classes, visit)?;
-            }
-        }
-    }
-    Ok(search.depths)
+    search_depths(alloc, classes, types, &[])
+}
+
+/// What [`depths_of`] returns for classes, where each of `firsts` is a class with the same interfaces: the class itself,
+/// or one before it. The interfaces of classes that share theirs are gone over three times, however many classes they
+/// are.
+///
+/// Condition: the name of each class is below `types`, the number of types. Error: an allocation failed.
+///
+/// Source: "class_defs", a superclass and interfaces come before the class.
+pub fn depths_with_firsts<C: HasParents>(
+    alloc: Global,
+    classes: &[C],
+    types: usize,
+    firsts: &[usize],
+) -> Result<Vec<Option<usize>>, AllocError>
+    requires names { All (λ c. C.name_of c < types) classes.now }
+    requires firsts { AreFirstEqual C.interfaces_of classes.now firsts.now }
+    ensures { IfOk result (λ depths.
+        AreDepthsOfClasses C.name_of C.superclass_of C.interfaces_of classes.now depths.items) }
+{
+    search_depths(alloc, classes, types, firsts)
 }
 
 /// The first class without a depth in the result of [`depths_of`], if there is one.

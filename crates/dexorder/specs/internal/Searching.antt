@@ -1,12 +1,13 @@
 -- A search for the depths of classes along their parents.
 use Rattle.std.specs.Prelude.{◌≡◌, ◌⊎◌, ℕ, zero, suc, ◌+◌, ◌-◌, ◌<◌, ◌≤◌, Bool, true, false, cond, List, [], ◌∷◌, ◌++◌}
-use Rattle.std.specs.Prelude.{length, map, take, All, Option, None, Some, MatchOption, slice_index_or, slice_set}
+use Rattle.std.specs.Prelude.{drop, length, map, take, All, Option, None, Some, MatchOption, slice_index_or, slice_set}
 use Rattle.std.specs.List.{AllPairs, Contains, list_all, sum_by}
 use Rattle.dexspec.specs.Lists.{present}
 use Rattle.dexorder.specs.declared.depths.Visit.{Visit}
 use Rattle.dexorder.specs.declared.depths.Search.{Search}
 use Rattle.dexorder.specs.declared.depths.Reached.{Reached}
 use Rattle.dexorder.specs.declared.depths.Reached.TheVariants.{Depth, Waiting}
+use Rattle.dexorder.specs.declared.list_depths.ListDepths.{ListDepths}
 use Rattle.dexorder.specs.Depths.{is_under, IsDepth, HasNone}
 
 -- ---- parents
@@ -26,6 +27,10 @@ parents_of_all by_type superclass_of interfaces_of cs =
 -- those of class i
 abbrev pub parents_at : List (List (Option ℕ)) → ℕ → List (Option ℕ)
 parents_at parents i = slice_index_or parents i []
+
+-- those of class i but its superclass
+abbrev pub interface_parents : List (List (Option ℕ)) → ℕ → List (Option ℕ)
+interface_parents parents i = drop 1 (parents_at parents i)
 
 -- no parent from this place on is a class
 abbrev pub HasNoParentFrom : List (Option ℕ) → ℕ → Type 0
@@ -101,6 +106,33 @@ pub record IsWaiting (parents depths : List (Option ℕ)) (v w : Visit) (p : ℕ
 abbrev pub HasReached : List (Option ℕ) → List (Option ℕ) → Visit → Reached → Type 0
 HasReached parents depths v (Depth d) = HasDepthBelow parents depths v (length parents) d
 HasReached parents depths v (Waiting w p) = IsWaiting parents depths v w p
+
+-- what the visit comes to if the depth below the parents but the superclass is known too
+abbrev pub HasReachedWith : List (Option ℕ) → List (Option ℕ) → ℕ → Visit → Reached → Type 0
+HasReachedWith parents depths list v (Depth d) = (classes : List (List ℕ)) → AreKnownDepths classes depths
+    → IsDepthBelow classes (present (take v.passed parents)) v.depth
+    → IsDepthBelow classes (present (drop 1 parents)) list → IsDepthBelow classes (present parents) d
+HasReachedWith parents depths list v (Waiting w p) = IsWaiting parents depths v w p
+
+-- what the visit comes to among these classes
+abbrev pub HasReachedIn : List (List (Option ℕ)) → List (Option ℕ) → Visit → Reached → Type 0
+HasReachedIn parents depths v (Depth d) =
+    IsDepthBelow (map present parents) (present (parents_at parents v.class)) d
+HasReachedIn parents depths v (Waiting w p) = IsWaiting (parents_at parents v.class) depths v w p
+
+-- ---- interfaces that classes share
+
+-- for each class one that has the same parents but for the superclass, as far as the list goes
+abbrev pub HaveEqualParents : List (List (Option ℕ)) → List ℕ → Type 0
+HaveEqualParents parents firsts = (i : ℕ) → i < length firsts → i < length parents
+    → interface_parents parents (slice_index_or firsts i 0) ≡ interface_parents parents i
+
+-- the depths that are known are those below the interfaces of the classes
+pub record AreListDepths (parents : List (List (Option ℕ))) (l : ListDepths) : Type 0 where
+  pub count : length l.depths.items ≡ length parents
+  pub equal : HaveEqualParents parents l.firsts.now
+  pub known : (i d : ℕ) → slice_index_or l.depths.items i None ≡ Some d
+      → IsDepthBelow (map present parents) (present (interface_parents parents i)) d
 
 -- ---- the search
 

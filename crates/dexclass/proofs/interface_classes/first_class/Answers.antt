@@ -1,7 +1,7 @@
 use Rattle.std.specs.Borrow.{Bor}
 use Rattle.dexclass.proofs.Common.{◌≡◌, ◌∙◌, ◌+◌, ◌-◌, ◌<◌, ℕ, List, Option, None, Some, Maps, length, length-map, get_or, get_or-map, refl, ap, sym, arith}
 use Rattle.dexclass.specs.{remapped}
-use Rattle.dexclass.specs.internal.ClassLists.{type_of, types_of}
+use Rattle.dexclass.specs.internal.InterfaceClasses.{type_of, types_of}
 use Rattle.dexclass.proofs.interface_classes.first_class.Goals as goal
 
 -- the numbers, each remapped if there is a map

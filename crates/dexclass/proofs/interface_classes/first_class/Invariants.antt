@@ -1,5 +1,5 @@
 use Rattle.dexclass.proofs.Common.{◌≡◌, ◌≤◌, ◌<◌, ℕ, None, get_or}
-use Rattle.dexclass.specs.internal.ClassLists.{types_of}
+use Rattle.dexclass.specs.internal.InterfaceClasses.{types_of}
 use Rattle.dexclass.proofs.interface_classes.first_class.Given as goal
 
 abbrev pub invariant-loop-k : goal.invariant-loop-k

@@ -1,5 +1,5 @@
 use Rattle.dexmerge.proofs.Common.{◌∙◌, ℕ, ◌<◌, [], get_or, sym, ap, subst, arith, Text, AreDepths, IsFirstCause, Cycle}
-use Rattle.dexclass.specs.EqualLists.{AreFirstEqual}
+use Rattle.dexorder.specs.EqualLists.{AreFirstEqual}
 use Rattle.dexmerge.specs.{class_of, classes_of}
 use Rattle.dexmerge.specs.declared.candidates.Candidate.{Candidate}
 use Rattle.dexmerge.specs.internal.Cycles.{HaveDepths, IsFirstCycle}

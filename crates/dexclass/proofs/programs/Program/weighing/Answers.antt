@@ -1,5 +1,6 @@
 use Rattle.dexclass.proofs.Common.{arith, ℕ, ◌<◌, ◌∙◌, All, List, map, sym, subst, AreDepthsOf, IsAcyclic}
-use Rattle.dexclass.specs.{NumberedClass, definition_of, AreFirstEqual, AreNamed}
+use Rattle.dexorder.specs.EqualLists.{AreFirstEqual}
+use Rattle.dexclass.specs.{NumberedClass, definition_of, AreNamed}
 use Rattle.dexclass.proofs.Ordered.{depths_are, names_within}
 use Rattle.dexclass.proofs.ProgramsOf.{named, one_collection_is, one_program_is}
 use Rattle.dexclass.proofs.programs.Program.weighing.Goals as goal

@@ -3,7 +3,7 @@ use Rattle.dexorder.proofs.Common.{◌≡◌, ℕ, ◌+◌, ◌-◌, ◌<◌, Li
 use Rattle.dexspec.proofs.sharing.Sharing.{present_source}
 use Rattle.dexorder.specs.{AreByType, AreWithin, HasNoClassFrom, IsFirstClassFrom, classes_of_types, parent_types}
 use Rattle.dexorder.specs.declared.parents.InterfaceClass.{InterfaceClass}
-use Rattle.dexorder.specs.EqualLists.{HaveEqual}
+use Rattle.dexorder.specs.EqualLists.{AreFirstEqual}
 use Rattle.dexorder.specs.internal.Searching.{AreParentsWithin, HasNoParentFrom, HaveEqualParents, IsFirstParentFrom, interface_parents, parents_in, parents_of_all}
 
 -- ---- one more class
@@ -149,8 +149,8 @@ module _ {C : Type 0} (by_type : List (Option ℕ)) (superclass_of : C → Optio
       ap (drop 1) (parents_of_one cs i c lt (sym (get_or_default cs i c d lt))) ∙ parents_rest by_type (superclass_of c) (interfaces_of c)
 
   -- classes that have equal interfaces have equal parents but for the superclass
-  pub equal_parents : (cs : List C) (firsts : List ℕ) → HaveEqual interfaces_of cs firsts → HaveEqualParents (parents_of_all by_type superclass_of interfaces_of cs) firsts
+  pub equal_parents : (cs : List C) (firsts : List ℕ) → AreFirstEqual interfaces_of cs firsts → HaveEqualParents (parents_of_all by_type superclass_of interfaces_of cs) firsts
   equal_parents [] firsts h i few lt = absurd (omega arith)
   equal_parents (c ∷ cs) firsts h i few lt =
       let within : i < length (c ∷ cs) = omega (arith, lt, length-map (c ∷ cs) (λ c. parents_in by_type (superclass_of c) (interfaces_of c))) in
-      rest_of_one (c ∷ cs) (get_or firsts i 0) c (omega (arith, h.before i few, within)) ∙ ap (map (λ t. get_or by_type t None)) (h.equal i c few within) ∙ sym (rest_of_one (c ∷ cs) i c within)
+      rest_of_one (c ∷ cs) (get_or firsts i 0) c (omega (arith, h.before i within, within)) ∙ ap (map (λ t. get_or by_type t None)) (h.equal i c within) ∙ sym (rest_of_one (c ∷ cs) i c within)

@@ -6,8 +6,3 @@ pub record AreFirstEqual {X Y : Type 0} (f : X → Y) (xs : List X) (firsts : Li
   pub count : length firsts ≡ length xs
   pub before : (i : ℕ) → i < length xs → slice_index_or firsts i 0 ≤ i
   pub equal : (i : ℕ) (d : X) → i < length xs → f (slice_index_or xs (slice_index_or firsts i 0) d) ≡ f (slice_index_or xs i d)
-
--- so it is for each member as far as the list goes
-pub record HaveEqual {X Y : Type 0} (f : X → Y) (xs : List X) (firsts : List ℕ) : Type 0 where
-  pub before : (i : ℕ) → i < length firsts → slice_index_or firsts i 0 ≤ i
-  pub equal : (i : ℕ) (d : X) → i < length firsts → i < length xs → f (slice_index_or xs (slice_index_or firsts i 0) d) ≡ f (slice_index_or xs i d)

@@ -2,7 +2,7 @@
 //! classes share are gone over only until the depth below them is known.
 
 ghost use Rattle.std.specs.Prelude.{◌≡◌, ◌≤◌, ◌<◌, ◌+◌, ◌++◌, [], ◌∷◌, ℕ, length, slice_index_or, All, IfOk, OnOk, MatchOption};
-ghost use Rattle.dexorder.specs.EqualLists.{AreFirstEqual, HaveEqual};
+ghost use Rattle.dexorder.specs.EqualLists.{AreFirstEqual};
 ghost use Rattle.dexorder.specs.Parents.{AllHaveDepths, AreDepthsOfClasses, IsFirstWithout};
 ghost use Rattle.dexorder.specs.internal.Searching.{AreBelow, AreListDepths, AreStillSeen, FindsParentFrom, HasReached, HasReachedIn, HasReachedWith, IsBegun, IsNearerFrom, IsSearch, AreParentsWithin, parents_in, parents_of_all};
 
@@ -232,15 +232,24 @@ impl Search {
     }
 }
 
-// What [`depths_of`] returns for classes, where each of `firsts` is a class with the same interfaces.
-fn search_depths<C: HasParents>(
+/// The depth of each class, or none if the class is above itself or below a class that is. A class without parents
+/// among the classes has depth 0. The depth of another class is one more than the greatest depth of its parents.
+///
+/// Each of `firsts` is a class with the same interfaces: the class itself, or one before it. The interfaces of classes
+/// that share theirs are gone over three times, however many classes they are.
+///
+/// Condition: the name of each class is below `types`, the number of types. The time is linear in the number of types,
+/// classes and parents; no parents are copied. Error: an allocation failed.
+///
+/// Source: "class_defs", a superclass and interfaces come before the class.
+pub fn depths_with_firsts<C: HasParents>(
     alloc: Global,
     classes: &[C],
     types: usize,
     firsts: &[usize],
 ) -> Result<Vec<Option<usize>>, AllocError>
     requires names { All (λ c. C.name_of c < types) classes.now }
-    requires firsts { HaveEqual C.interfaces_of classes.now firsts.now }
+    requires firsts { AreFirstEqual C.interfaces_of classes.now firsts.now }
     ensures { IfOk result (λ depths.
         AreDepthsOfClasses C.name_of C.superclass_of C.interfaces_of classes.now depths.items) }
 {
@@ -263,45 +272,7 @@ fn search_depths<C: HasParents>(
     Ok(search.depths)
 }
 
-/// The depth of each class, or none if the class is above itself or below a class that is. A class without parents
-/// among the classes has depth 0. The depth of another class is one more than the greatest depth of its parents.
-///
-/// Condition: the name of each class is below `types`, the number of types. The time is linear in the number of types,
-/// classes and parents; no parents are copied.
-pub fn depths_of<C: HasParents>(
-    alloc: Global,
-    classes: &[C],
-    types: usize,
-) -> Result<Vec<Option<usize>>, AllocError>
-    requires { All (λ c. C.name_of c < types) classes.now }
-    ensures { IfOk result (λ depths.
-        AreDepthsOfClasses C.name_of C.superclass_of C.interfaces_of classes.now depths.items) }
-{
-    search_depths(alloc, classes, types, &[])
-}
-
-/// What [`depths_of`] returns for classes, where each of `firsts` is a class with the same interfaces: the class itself,
-/// or one before it. The interfaces of classes that share theirs are gone over three times, however many classes they
-/// are.
-///
-/// Condition: the name of each class is below `types`, the number of types. Error: an allocation failed.
-///
-/// Source: "class_defs", a superclass and interfaces come before the class.
-pub fn depths_with_firsts<C: HasParents>(
-    alloc: Global,
-    classes: &[C],
-    types: usize,
-    firsts: &[usize],
-) -> Result<Vec<Option<usize>>, AllocError>
-    requires names { All (λ c. C.name_of c < types) classes.now }
-    requires firsts { AreFirstEqual C.interfaces_of classes.now firsts.now }
-    ensures { IfOk result (λ depths.
-        AreDepthsOfClasses C.name_of C.superclass_of C.interfaces_of classes.now depths.items) }
-{
-    search_depths(alloc, classes, types, firsts)
-}
-
-/// The first class without a depth in the result of [`depths_of`], if there is one.
+/// The first class without a depth in the result of [`depths_with_firsts`], if there is one.
 pub fn first_without_depth(depths: &[Option<usize>]) -> Option<usize>
     ensures { MatchOption result (AllHaveDepths depths.now) (IsFirstWithout depths.now) }
 {

@@ -14,7 +14,7 @@ mod list_depths;
 mod order;
 mod parents;
 
-pub use depths::{depths_of, depths_with_firsts, first_without_depth};
+pub use depths::{depths_with_firsts, first_without_depth};
 pub use laws::{
     classes_of_definitions, depths_of_classes, depths_of_definitions, order_of_definitions,
 };

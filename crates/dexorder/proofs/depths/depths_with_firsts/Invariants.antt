@@ -1,6 +1,6 @@
 use Rattle.dexorder.proofs.Common.{◌≡◌, ◌<◌, ℕ, [], true, false, slice_index_or}
 use Rattle.dexorder.specs.internal.Searching.{AreListDepths, IsSearch, parents_of_all, work}
-use Rattle.dexorder.proofs.depths.search_depths.Given as goal
+use Rattle.dexorder.proofs.depths.depths_with_firsts.Given as goal
 
 abbrev pub invariant-loop-class : goal.invariant-loop-class
 invariant-loop-class g l = record {

@@ -6,8 +6,8 @@ use Rattle.dexorder.specs.internal.Searching.{AreListDepths, IsSearch, IsWaiting
 use Rattle.dexspec.specs.Lists.{present}
 use Rattle.dexorder.proofs.ByType.{all_present, equal_parents, parents_some}
 use Rattle.dexorder.proofs.SearchLaws.{search_none, all_depths, before_seen, begun_seen, search_begun}
-use Rattle.dexorder.proofs.depths.search_depths.Goals as goal
-use Rattle.dexorder.proofs.depths.search_depths.Goals.{then-not-index+in_ok-begin+in_default, else-not-index}
+use Rattle.dexorder.proofs.depths.depths_with_firsts.Goals as goal
+use Rattle.dexorder.proofs.depths.depths_with_firsts.Goals.{then-not-index+in_ok-begin+in_default, else-not-index}
 
 pub loop-visit-init : goal.loop-visit-init
 loop-visit-init g c =

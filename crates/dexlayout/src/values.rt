@@ -12,7 +12,7 @@ ghost use Rattle.dexlayout.specs.Laid.{AreWritable, ordered_of, AreStaticValues}
 use crate::input::Input;
 use crate::items::Items;
 use dexclass::Class;
-use dexval::{put_annotation, put_statics};
+use dexval::put_annotation;
 use std::alloc::AllocError;
 
 /// The annotations of the sets that are written, encoded, and the offset of each, from an offset on, set by set.
@@ -65,11 +65,11 @@ fn put_array(input: &Input<'_, '_>, class: &Class<'_>, items: &mut Items) -> Res
     ensures { OnOk result (items.new
         ≡ encode_use 1 items.old (static_item input.now.numbering.now class.now)) }
 {
-    let values = class.members().static_values();
-    if values.is_empty() {
+    let members = class.members();
+    if members.static_values().is_empty() {
         return items.pass();
     }
     let before = items.bytes.len();
-    put_statics(values, input.numbering, &mut items.bytes)?;
+    members.put_static_values(input.numbering, &mut items.bytes)?;
     items.end_item(before)
 }

@@ -1,8 +1,11 @@
 //! What a class declares, with numbers for symbols.
 
 ghost use Rattle.std.specs.Prelude.{◌≡◌, [], MatchOption, length, map, IfOk, OnOk, OnErr};
+ghost use Rattle.dexspec.specs.internal.Writing.{Puts};
 ghost use Rattle.dexval.specs.Code.{set_of, value_of};
 ghost use Rattle.dexval.specs.Numbered.{values_of_list};
+ghost use Rattle.dexval.specs.Spelled.{numbered_array_bytes};
+ghost use Rattle.dexval.specs.Writing.{PutsValues};
 ghost use Rattle.dexmembers.specs.Numbered.{fields_of, methods_of, HasFewMembers};
 ghost use Rattle.dexmembers.specs.Renumbering.{remapped_field, renumbered_members, IsHeldFieldMapped, MembersHavePlaces};
 ghost use Rattle.dexmembers.specs.Stripped.{stripped_members};
@@ -12,7 +15,7 @@ use crate::places::Place;
 use crate::static_values::StaticValues;
 use crate::{Fields, Methods, RemappedMembers};
 use dexflags::FieldFlags;
-use dexpool::{Remap, Renumber, SymbolKind, renumber_all};
+use dexpool::{Numbering, Remap, Renumber, SymbolKind, renumber_all};
 use dexval::{AnnotationSet, SetTable, Value, WeighedValues, remapped};
 use std::alloc::AllocError;
 use std::marker::Model;
@@ -176,6 +179,24 @@ impl<'a> Members<'a> {
         ensures { values_of_list (map value_of result.now) ≡ self.now.static_values }
     {
         self.weighed_values().values()
+    }
+
+    /// Appends the initial values of the static fields, as [`put_statics`](dexval::put_statics) does.
+    ///
+    /// On error the vector is unchanged.
+    ///
+    /// Source: "encoded_array_item".
+    pub fn put_static_values(
+        &self,
+        numbering: &Numbering<'_>,
+        out: &mut Vec<u8>,
+    ) -> Result<(), AllocError>
+        ensures bytes { Puts
+            (numbered_array_bytes self.now.static_values) out.old out.new result }
+        ensures symbolic { PutsValues numbering.now
+            self.now.static_values out.old out.new result }
+    {
+        self.weighed_values().put(numbering, out)
     }
 
     /// The initial values of the static fields with their weight.

@@ -16,7 +16,7 @@ use Rattle.dexval.specs.Code.{value_of, values_of, annotation_of, set_of}
 use Rattle.dexval.specs.Directories.{set_weight_in}
 use Rattle.dexval.specs.Numbered.{NumberedValue, NumberedValues, NumberedAnnotation, NumberedSet, value_in, values_in}
 use Rattle.dexval.specs.Numbered.{annotation_in, set_in, Denotes, Denote, DenotesAnnotation, DenotesSet}
-use Rattle.dexval.specs.Spelled.{IsCounted, AreCounted, IsCountedAnnotation, numbered_array_bytes}
+use Rattle.dexval.specs.Spelled.{values_count, IsCounted, AreCounted, IsCountedAnnotation, numbered_array_bytes}
 use Rattle.dexval.specs.Spelled.{numbered_annotation_bytes}
 
 -- ---- bytes
@@ -32,6 +32,12 @@ abbrev pub PutsStatics : {T E : Type 0} → Mentions → List Value → Vec ℕ 
 PutsStatics m values old new r =
     (symbolic : ValuesMeant) → length values < 2 ^ 32 → AreCounted (values_of values)
     → Denote m (values_of values) symbolic → Puts (encoded_array_bytes m symbolic) old new r
+
+-- those of the values that the numbers denote, of which there are fewer than 2^32
+abbrev pub PutsValues : {T E : Type 0} → Mentions → NumberedValues → Vec ℕ → Vec ℕ → Result T E → Type 0
+PutsValues m xs old new r =
+    (symbolic : ValuesMeant) → values_count xs < 2 ^ 32 → AreCounted xs → Denote m xs symbolic
+    → Puts (encoded_array_bytes m symbolic) old new r
 
 -- those of the annotation
 abbrev pub PutsAnnotation : {T E : Type 0} → Mentions → NumberedAnnotation → Vec ℕ → Vec ℕ → Result T E → Type 0

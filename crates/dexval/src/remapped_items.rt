@@ -96,7 +96,8 @@ fn remapped_values(
     if are_images(values.values(), remap, values.values()) {
         return Ok(values.clone()?);
     }
-    Ok(Rc::new(alloc, values.renumbered_copy(remap)?)?)
+    let image = values.renumbered_copy(remap)?.with_encoding()?;
+    Ok(Rc::new(alloc, image)?)
 }
 
 impl<'r> RemappedItems<'r> {

@@ -13,4 +13,5 @@ invariant_of-result c =
         | else-is_empty w ↦ weighed (λ none. absurd (omega (arith, none, r.values.ok.0, eqb-false (vec_len r.values) 0 (sym c.is_empty.ensures ∙ w.if-is_empty.false)))) (λ some. omega (arith, w.weight-is, w.saturating_add-weight.ensures))
       ],
       r.ensures.tallied.nameless,
+      tt,
     )

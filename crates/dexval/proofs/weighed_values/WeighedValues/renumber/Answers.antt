@@ -12,7 +12,7 @@ invariant_of-self c =
     let weight = λ (n : ℕ). min (2 ^ 64 - 1) n in
     let kept = ap numbered_statics_weight c.renumber_values.ensures ∙ statics_kept c.args.remap.now (values_of c.self.inside.values.items) in
     let named = c.if-self.true in
-    (c.self.invariant.0 ∙ ap weight (sym kept), λ none. absurd cc)
+    (c.self.invariant.0 ∙ ap weight (sym kept), λ none. absurd cc, tt)
 
 pub returns-else-self : goal.returns-else-self
 returns-else-self c =

@@ -13,4 +13,4 @@ invariant_of-result c =
     let old = values_of c.self.inside.values.items in
     let is = c.in_ok-renumbered_copies.ensures in
     let kept = ap numbered_statics_weight is ∙ statics_kept r old in
-    (c.self.invariant.0 ∙ ap (λ (n : ℕ). min (2 ^ 64 - 1) n) (sym kept), λ none. let uses = c.self.invariant.1 none in ap values_uses (is ∙ values_stay r old uses) ∙ uses)
+    (c.self.invariant.0 ∙ ap (λ (n : ℕ). min (2 ^ 64 - 1) n) (sym kept), λ none. let uses = c.self.invariant.1 none in ap values_uses (is ∙ values_stay r old uses) ∙ uses, tt)

@@ -5,7 +5,8 @@ pub use Rattle.std.proofs.lemmas.Grind.{common_steps, fold-append}
 pub use Rattle.std.proofs.lemmas.List.{drop-drop, drop_all, drop_at, drop_more, get_or-map, length-append, length-map, length-take, nil_from_length, take-append-drop, take_at}
 pub use Rattle.std.specs.List.{Contains, concat, flat_map}
 pub use Rattle.std.specs.Prelude.{All, IfSome, is_err, option_to_list, unwrap_or, vec_capacity, vec_len, ◌%◌, ◌/◌, ◌↔◌}
-pub use Rattle.dexclass.specs.Numbered.{NumberedClass, definition_of, text_at, type_at}
+pub use Rattle.dexpool.specs.NumberedSymbols.{text_at, type_at}
+pub use Rattle.dexclass.specs.Numbered.{NumberedClass, definition_of}
 pub use Rattle.dexclass.specs.Uses.{IsKnownClass}
 pub use Rattle.dexio.proofs.Encoded.{Completes, completes_all, completes_more, completes_none}
 pub use Rattle.dexhead.specs.Laid.{StatesLayout, after_header, map_list}

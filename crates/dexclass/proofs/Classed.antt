@@ -1,6 +1,6 @@
 -- Classes with their parents number the definitions that they denote.
-use Rattle.dexclass.proofs.Common.{◌≡◌, ℕ, ◌<◌, List, [], ◌++◌, length, get_or, map, refl, sym, ap, ◌∙◌, subst, arith, Option, Some, None, All, IsSome, option_to_list, option_map, Contains, flat_map, filter, length-map, get_or-map, get_or_default, All-contains, Contains-get_or, Text, text_cmp, same_text, Definition, parents, is_defined, above, Mentions, Contains-flat_map, Contains-flat_map_source, Contains-filter, Contains-filter_source, list_any-member, list_any-source, Contains-map, Contains-map_source, text_total, parents_of, AreWithin, name_at, AreClassesOf, one_place as one_at, texts_same, same_from_equal, present_has, present_source, some_of, true}
-use Rattle.dexclass.specs.{NumberedClass, type_at, definition_of, parent_numbers, no_class, name_number, ArePlaces, AreNamed}
+use Rattle.dexclass.proofs.Common.{◌≡◌, ℕ, ◌<◌, List, [], ◌++◌, length, get_or, map, refl, sym, ap, ◌∙◌, subst, arith, Option, Some, None, All, IsSome, option_to_list, option_map, Contains, flat_map, filter, length-map, get_or-map, get_or_default, All-contains, Contains-get_or, Text, text_cmp, same_text, Definition, parents, is_defined, above, Mentions, Contains-flat_map, Contains-flat_map_source, Contains-filter, Contains-filter_source, list_any-member, list_any-source, Contains-map, Contains-map_source, text_total, parents_of, AreWithin, name_at, AreClassesOf, one_place as one_at, texts_same, same_from_equal, present_has, present_source, some_of, true, type_at}
+use Rattle.dexclass.specs.{NumberedClass, definition_of, parent_numbers, no_class, name_number, ArePlaces, AreNamed}
 use Rattle.dexclass.proofs.Places.{places_some, places_all, defined_parents, one_place, seen_apart}
 
 module _ (m : Mentions) (cs : List NumberedClass) (named : AreNamed m cs) where

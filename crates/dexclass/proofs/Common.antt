@@ -32,6 +32,7 @@ pub use Rattle.dexpool.proofs.Pairs.{map_both, zip_at, zip_length, zip_push, zip
 pub use Rattle.dexpool.proofs.Parts.{all_back, all_map, all_prefix}
 pub use Rattle.dexids.proofs.TypeLists.{appended_more, if_ok_map}
 pub use Rattle.dexpool.proofs.Visits.{marked_both, still_all}
+pub use Rattle.dexpool.specs.NumberedSymbols.{text_at, type_at}
 pub use Rattle.dexpool.specs.Numberings.{AllMapTo, AreMarksOf, AreRising, IsAt, IsNumbered, IsNumbering, IsOfKind, Maps, MapsTo, image, marked}
 pub use Rattle.dexpool.specs.Pools.{AreAll, ArePools}
 pub use Rattle.dexpool.specs.Uses.{AreMarkedToo, HasMark, IsMappedUse, IsMarkedUse, IsUseOf, MapsMarked, Use, marks_of, occurs, same_kind}

@@ -3,7 +3,8 @@ use Rattle.dexclass.proofs.Common.{◌≡◌, ◌≢◌, ℕ, ◌+◌, ◌<◌, 
 use Rattle.dexspec.specs.Texts.{Text}
 use Rattle.dexspec.specs.Rows.{TypeRow}
 use Rattle.dexpool.specs.Numberings.{IsAt}
-use Rattle.dexclass.specs.internal.Rows.{IsClassIndex, IsParentIndex, IsSourceIndex, IsInterfaceIndex, superclass_indices, interface_indices, HasInterfaces, AreDefinedMarks}
+use Rattle.dexids.specs.Reading.{listed}
+use Rattle.dexclass.specs.internal.Rows.{IsClassIndex, IsParentIndex, IsSourceIndex, IsInterfaceIndex, superclass_indices, HasInterfaces, AreDefinedMarks}
 
 -- the descriptor of a row says whether its index is that of a class
 pub tested : (b : List ℕ) (m : Mentions) (i : ℕ) (t : Text) → ArePools b m → IsAt m.types i t → IsClass t ↔ IsClassIndex b i
@@ -69,13 +70,13 @@ module _ (b : List ℕ) (r : ℕ) (f : ClassDef) (is : IsClassDef b r f) where
 
   pub parent_before_of : HasClass b r → All (IsDefinedBefore b r) (superclass_indices f.superclass_idx)
   parent_before_of h = subst (λ (i : ℕ). All (IsDefinedBefore b r) (superclass_indices i)) is.superclass_is
-      (all_prefix (IsDefinedBefore b r) (superclass_indices (superclass_idx b r)) (interface_indices b (interfaces_off b r)) h.parents)
+      (all_prefix (IsDefinedBefore b r) (superclass_indices (superclass_idx b r)) (listed b (interfaces_off b r)) h.parents)
 
   pub interfaces_of : HasClass b r → HasInterfaces b r f.interfaces_off
   interfaces_of h = subst (HasInterfaces b r) is.interfaces_are (record {
     types = h.interfaces.0;
     list = h.interfaces.1;
-    before = all_back (IsDefinedBefore b r) (superclass_indices (superclass_idx b r)) (interface_indices b (interfaces_off b r)) h.parents;
+    before = all_back (IsDefinedBefore b r) (superclass_indices (superclass_idx b r)) (listed b (interfaces_off b r)) h.parents;
   })
 
   module _ (seen : List Bool) (marks : AreDefinedMarks b r seen) where
@@ -87,14 +88,14 @@ module _ (b : List ℕ) (r : ℕ) (f : ClassDef) (is : IsClassDef b r f) where
     pub has_class : IsClassIndex b f.class_idx → get_or seen f.class_idx false ≡ false → IsParentIndex b f.superclass_idx → IsSourceIndex b f.source_file_idx
         → All (IsDefinedBefore b r) (superclass_indices f.superclass_idx) → HasInterfaces b r f.interfaces_off → HasClass b r
     has_class class e parent source before interfaces =
-        let listed : HasInterfaces b r (interfaces_off b r) = subst (HasInterfaces b r) (sym is.interfaces_are) interfaces in
+        let list : HasInterfaces b r (interfaces_off b r) = subst (HasInterfaces b r) (sym is.interfaces_are) interfaces in
         record {
           name = class.0;
           is = subst (λ (i : ℕ). ClassTypeRow b i class.0) (sym is.class_is) class.1;
           first = λ k lt same. false≢true (sym e ∙ (marks.each f.class_idx (class_in_range b f.class_idx class)).1 (k, lt, same ∙ is.class_is));
           superclass = subst (IsParentIndex b) (sym is.superclass_is) parent;
-          interfaces = (listed.types, listed.list);
+          interfaces = (list.types, list.list);
           source = subst (IsSourceIndex b) (sym is.source_is) source;
-          parents = All-append (IsDefinedBefore b r) (superclass_indices (superclass_idx b r)) (interface_indices b (interfaces_off b r))
-              (subst (λ (i : ℕ). All (IsDefinedBefore b r) (superclass_indices i)) (sym is.superclass_is) before) listed.before;
+          parents = All-append (IsDefinedBefore b r) (superclass_indices (superclass_idx b r)) (listed b (interfaces_off b r))
+              (subst (λ (i : ℕ). All (IsDefinedBefore b r) (superclass_indices i)) (sym is.superclass_is) before) list.before;
         }

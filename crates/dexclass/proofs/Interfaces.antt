@@ -3,11 +3,11 @@ use Rattle.std.specs.Prelude.{◌/◌}
 use Rattle.dexclass.proofs.Common.{◌≡◌, ◌≢◌, ℕ, ◌+◌, ◌-◌, ◌*◌, ◌<◌, ◌≤◌, ◌↔◌, List, [], ◌∷◌, length, take, drop, nil_from_length, refl, sym, ap, ◌∙◌, subst, arith, inl, inr, All, AllZip, ne_eqb, All-cons, All-tail, uint_at, ushort_at, ushorts_at, Text, IsClass, TypeRow, type_indices, OrNone, ClassListAt, interfaces_off, IsDefinedBefore, IsClassDef, ClassDef, length-ushorts_at}
 use Rattle.dexrows.proofs.Shorts.{short_of}
 use Rattle.std.proofs.lemmas.List.{drop-drop}
-use Rattle.dexids.specs.Reading.{HasRoom, HasSpan, file_numbers}
+use Rattle.dexids.specs.Reading.{HasRoom, HasSpan, file_numbers, listed}
 use Rattle.dexids.specs.declared.rows.Span.{Span}
 use Rattle.dexids.proofs.FileLists.{bytes_of_part, part_of_file}
 use Rattle.dexclass.specs.internal.Checked.{AreInterfacesIn}
-use Rattle.dexclass.specs.internal.Rows.{IsClassIndex, IsInterfaceIndex, interface_indices, HasInterfaceList, HasInterfaces}
+use Rattle.dexclass.specs.internal.Rows.{IsClassIndex, IsInterfaceIndex, HasInterfaceList, HasInterfaces}
 
 module _ (b : List ℕ) (off count : ℕ) (room : HasRoom b off count) where
   -- what holds of each index holds of all
@@ -61,11 +61,11 @@ of_classes b x v rows classes = absurd rows
 
 -- ---- the list at an offset
 
-pub listed_interfaces : (b : List ℕ) (o : ℕ) → o ≢ 0 → interface_indices b o ≡ type_indices b o
+pub listed_interfaces : (b : List ℕ) (o : ℕ) → o ≢ 0 → listed b o ≡ type_indices b o
 listed_interfaces b o ne = rw (ne_eqb o 0 ne) refl
 
 -- there are as many as there is room for
-pub interfaces_count : (b : List ℕ) (off count : ℕ) → off ≢ 0 → HasRoom b off count → count ≡ length (interface_indices b off)
+pub interfaces_count : (b : List ℕ) (off count : ℕ) → off ≢ 0 → HasRoom b off count → count ≡ length (listed b off)
 interfaces_count b off count some room = room.count ∙ sym (length-ushorts_at b (off + 4) (uint_at b off)) ∙ ap length (sym (listed_interfaces b off some))
 
 -- a list at an offset has room
@@ -74,10 +74,10 @@ listed_room b off some (ts, inl none) = absurd (some none.0)
 listed_room b off some (ts, inr list) = record { count = refl; in_data = list.1.list.in_data; aligned = list.1.list.aligned }
 
 -- as many as are listed at the offset of a row
-pub row_interfaces : (b : List ℕ) (r : ℕ) (row : ClassDef) (n : ℕ) → IsClassDef b r row → n ≡ length (interface_indices b row.interfaces_off) → n ≡ length (interface_indices b (interfaces_off b r))
-row_interfaces b r row n is e = e ∙ ap (λ (o : ℕ). length (interface_indices b o)) (sym is.interfaces_are)
+pub row_interfaces : (b : List ℕ) (r : ℕ) (row : ClassDef) (n : ℕ) → IsClassDef b r row → n ≡ length (listed b row.interfaces_off) → n ≡ length (listed b (interfaces_off b r))
+row_interfaces b r row n is e = e ∙ ap (λ (o : ℕ). length (listed b o)) (sym is.interfaces_are)
 
-module _ (b : List ℕ) (off count : ℕ) (list : HasInterfaceList b off) (counted : count ≡ length (interface_indices b off)) where
+module _ (b : List ℕ) (off count : ℕ) (list : HasInterfaceList b off) (counted : count ≡ length (listed b off)) where
   -- a list at an offset has room for `count` interfaces
   counted_room : off ≢ 0 → HasRoom b off count
   counted_room some =
@@ -94,15 +94,15 @@ module _ (b : List ℕ) (off count : ℕ) (list : HasInterfaceList b off) (count
   -- each index is in the file
   pub index_within : (k : ℕ) → k < count → off + 4 + 2 * k + 2 ≤ length b
   index_within k lt = elim list.1 [
-    | inl none ↦ let few : count ≡ 0 = counted ∙ ap (λ (o : ℕ). length (interface_indices b o)) none.0 in absurd (omega (arith, few, lt))
+    | inl none ↦ let few : count ≡ 0 = counted ∙ ap (λ (o : ℕ). length (listed b o)) none.0 in absurd (omega (arith, few, lt))
     | inr there ↦ let room = counted_room there.0 in omega (arith, room.count, room.in_data.within, lt)
   ]
 
   -- the `count` indices at the offset are those of the list
-  pub counted_indices : ushorts_at b (off + 4) count ≡ interface_indices b off
+  pub counted_indices : ushorts_at b (off + 4) count ≡ listed b off
   counted_indices = elim list.1 [
     | inl none ↦
-        ap (ushorts_at b (off + 4)) (counted ∙ ap (λ (o : ℕ). length (interface_indices b o)) none.0) ∙ sym (ap (interface_indices b) none.0)
+        ap (ushorts_at b (off + 4)) (counted ∙ ap (λ (o : ℕ). length (listed b o)) none.0) ∙ sym (ap (listed b) none.0)
     | inr there ↦ ap (ushorts_at b (off + 4)) (counted_room there.0).count ∙ sym (listed_interfaces b off there.0)
   ]
 
@@ -111,13 +111,13 @@ module _ (b : List ℕ) (off count : ℕ) (list : HasInterfaceList b off) (count
   listed_within some = let last : count - 1 < count = omega (arith, some) in omega (arith, index_within (count - 1) last)
 
   -- an empty list has no indices
-  pub none_listed : count ≡ 0 → [] ≡ interface_indices b off
-  none_listed none = sym (nil_from_length (interface_indices b off) (sym counted ∙ none))
+  pub none_listed : count ≡ 0 → [] ≡ listed b off
+  none_listed none = sym (nil_from_length (listed b off) (sym counted ∙ none))
 
   -- and its bytes encode them
-  pub listed_bytes : (part : List ℕ) → count ≢ 0 → part ≡ take (2 * count) (drop 4 (drop off b)) → ushorts_at part 0 (length part / 2) ≡ interface_indices b off
+  pub listed_bytes : (part : List ℕ) → count ≢ 0 → part ≡ take (2 * count) (drop 4 (drop off b)) → ushorts_at part 0 (length part / 2) ≡ listed b off
   listed_bytes part some e = elim list.1 [
-    | inl none ↦ absurd (some (counted ∙ ap (λ (o : ℕ). length (interface_indices b o)) none.0))
+    | inl none ↦ absurd (some (counted ∙ ap (λ (o : ℕ). length (listed b o)) none.0))
     | inr there ↦
         let room = counted_room there.0 in
         let s : Span = record { start = off / 2 + 2; end = off / 2 + 2 + count } in

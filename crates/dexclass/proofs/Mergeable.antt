@@ -1,7 +1,7 @@
 -- Trimmed classes that can be merged.
-use Rattle.dexclass.proofs.Common.{◌≡◌, ℕ, ◌<◌, List, length, get_or, map, sym, ap, ◌∙◌, subst, arith, length-map, get_or-map, AreDistinct, Definition, Mentions, mentions, AreWellFormed, IsGood, greatest_caps, ClassDefs, table_size, Collection, definitions, Denotes, IsCollectionOf, weight, mentions_weight, HoldBelow, AreRows, IsAccepted, IsGood-within, has_classes, AreReadable, rows_denote, denoted_rows}
+use Rattle.dexclass.proofs.Common.{◌≡◌, ℕ, ◌<◌, List, length, get_or, map, sym, ap, ◌∙◌, subst, arith, length-map, get_or-map, AreDistinct, Definition, Mentions, mentions, AreWellFormed, IsGood, greatest_caps, ClassDefs, table_size, Collection, definitions, Denotes, IsCollectionOf, weight, mentions_weight, HoldBelow, AreRows, IsAccepted, IsGood-within, has_classes, AreReadable, rows_denote, denoted_rows, type_at}
 use Rattle.dexclass.specs.internal.Trimming.{AreTrimmed}
-use Rattle.dexclass.specs.{NumberedClass, type_at, definition_of, no_class, AreMergeable, IsReadAs}
+use Rattle.dexclass.specs.{NumberedClass, definition_of, no_class, AreMergeable, IsReadAs}
 use Rattle.std.specs.FinMap as finite
 use Rattle.dexclass.specs.internal.Reading.{bodies_weight, IsWhole}
 use Rattle.dexclass.proofs.RowsBelow.{weight_is, one_name, collection_denoted, light_accepted}

@@ -1,7 +1,7 @@
 -- The numbers of names order as the names.
-use Rattle.dexclass.proofs.Common.{◌≡◌, ℕ, ◌<◌, List, [], length, map, sym, ap, ◌∙◌, arith, inl, inr, ◌↔◌, cases_order, length-map, text_cmp, rises, Mentions, Rises-from_rises, Rises-places, irreflexive, asymmetric, text_total, AreNamesOf, true}
+use Rattle.dexclass.proofs.Common.{◌≡◌, ℕ, ◌<◌, List, [], length, map, sym, ap, ◌∙◌, arith, inl, inr, ◌↔◌, cases_order, length-map, text_cmp, rises, Mentions, Rises-from_rises, Rises-places, irreflexive, asymmetric, text_total, AreNamesOf, true, type_at}
 use Rattle.std.specs.declared.cmp.Ordering.TheVariants.{Less}
-use Rattle.dexclass.specs.{NumberedClass, type_at, definition_of, name_number, AreNamed}
+use Rattle.dexclass.specs.{NumberedClass, definition_of, name_number, AreNamed}
 use Rattle.dexclass.proofs.Classed.{name_is}
 use Rattle.dexclass.proofs.Places.{name_at as number_is}
 

@@ -1,11 +1,11 @@
 -- Classes in the order of their definitions.
-use Rattle.dexclass.proofs.Common.{◌≡◌, ℕ, ◌<◌, true, List, [], length, get_or, map, refl, sym, ap, ◌∙◌, subst, arith, Option, Some, None, All, Contains, range_with_len, length-map, get_or-map, get_or_default, length-range_with_len, All-contains, Contains-get_or, rises, AreDistinct, Text, Definition, IsAcyclic, depth, in_class_order, Mentions, Rises-from_rises, AreDistinct-from_Rises, Contains-map, Contains-map_source, AreDistinct-map_source, AreDepths, AreClassesOf, AreDepthsOf, AreNamesOf, all_known, map_both}
+use Rattle.dexclass.proofs.Common.{◌≡◌, ℕ, ◌<◌, true, List, [], length, get_or, map, refl, sym, ap, ◌∙◌, subst, arith, Option, Some, None, All, Contains, range_with_len, length-map, get_or-map, get_or_default, length-range_with_len, All-contains, Contains-get_or, rises, AreDistinct, Text, Definition, IsAcyclic, depth, in_class_order, Mentions, Rises-from_rises, AreDistinct-from_Rises, Contains-map, Contains-map_source, AreDistinct-map_source, AreDepths, AreClassesOf, AreDepthsOf, AreNamesOf, all_known, map_both, type_at}
 use Rattle.std.specs.List.Sorted.{IsPermutation}
 use Rattle.std.proofs.lemmas.List.Sorted.{Contains-permutation, IsPermutation-sym, length_permutation}
 use Rattle.dexorder.specs.Places.{class_place, class_cmp}
 use Rattle.dexorder.proofs.PlaceLaws.{class_total}
 use Rattle.dexorder.proofs.DefinitionOrder.{range_below, own_depths, same_order}
-use Rattle.dexclass.specs.{NumberedClass, type_at, definition_of, no_class, name_number, IsHierarchy, AreNamed, AreDepthsByName}
+use Rattle.dexclass.specs.{NumberedClass, definition_of, no_class, name_number, IsHierarchy, AreNamed, AreDepthsByName}
 use Rattle.dexclass.proofs.Classed.{name_is, one_number, classes_of}
 use Rattle.dexclass.proofs.NamesOf.{names_of}
 use Rattle.dexclass.proofs.Places.{parents_are}

@@ -1,7 +1,7 @@
 -- The symbols of a class's own types and text, and of what follows them.
-use Rattle.dexclass.proofs.Common.{◌≡◌, ℕ, ◌<◌, List, [], ◌∷◌, ◌++◌, length, map, Option, Some, None, option_to_list, refl, arith, All, AllZip, option_map, All-head, All-tail, All-append, Symbol, TypeSymbol, Mentions, optional_text, optional_type, Marks, AreMarksOf, Use, HasMark, IsUseOf, all_map, zip-append, texts_in, types_in}
+use Rattle.dexclass.proofs.Common.{◌≡◌, ℕ, ◌<◌, List, [], ◌∷◌, ◌++◌, length, map, Option, Some, None, option_to_list, refl, arith, All, AllZip, option_map, All-head, All-tail, All-append, Symbol, TypeSymbol, Mentions, optional_text, optional_type, Marks, AreMarksOf, Use, HasMark, IsUseOf, all_map, zip-append, texts_in, types_in, text_at, type_at}
 use Rattle.dexclass.proofs.Unmarked.{there}
-use Rattle.dexclass.specs.{type_at, text_at, type_use, text_use}
+use Rattle.dexclass.specs.{type_use, text_use}
 
 -- ---- one for one
 

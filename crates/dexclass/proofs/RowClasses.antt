@@ -1,7 +1,7 @@
 -- The numbers of a class row denote the definition that the row is.
-use Rattle.dexclass.proofs.Common.{◌≡◌, ℕ, ◌+◌, ◌*◌, ◌<◌, Bool, true, false, List, [], ◌∷◌, ◌++◌, length, refl, sym, ap, ◌∙◌, subst, arith, inl, inr, sum_by, ◌==◌, if◌then◌else◌, map, Option, Some, None, option_map, AllZip, eqb-true, false≢true, length-map, OrNone, Text, ClassDefs, table_size, StringRow, TypeRow, type_indices, Body, ClassRow, ClassTypeRow, ClassListAt, IndexOrNone, class_idx, access_flags, superclass_idx, interfaces_off, source_file_idx, no_index, Mentions, set_weight, field_weight, method_weight, static_values_weight, body_weight, HasClass, one_string, one_type, ArePools, Members, members_weight, MembersRow, members_of}
-use Rattle.dexclass.specs.internal.Rows.{interface_indices}
-use Rattle.dexclass.specs.{text_at, type_at, number_of}
+use Rattle.dexclass.proofs.Common.{◌≡◌, ℕ, ◌+◌, ◌*◌, ◌<◌, Bool, true, false, List, [], ◌∷◌, ◌++◌, length, refl, sym, ap, ◌∙◌, subst, arith, inl, inr, sum_by, ◌==◌, if◌then◌else◌, map, Option, Some, None, option_map, AllZip, eqb-true, false≢true, length-map, OrNone, Text, ClassDefs, table_size, StringRow, TypeRow, type_indices, Body, ClassRow, ClassTypeRow, ClassListAt, IndexOrNone, class_idx, access_flags, superclass_idx, interfaces_off, source_file_idx, no_index, Mentions, set_weight, field_weight, method_weight, static_values_weight, body_weight, HasClass, one_string, one_type, ArePools, Members, members_weight, MembersRow, members_of, text_at, type_at}
+use Rattle.dexids.specs.Reading.{listed}
+use Rattle.dexclass.specs.{number_of}
 use Rattle.dexclass.proofs.Interfaces.{listed_interfaces}
 
 -- the body of a row that declares this
@@ -9,7 +9,7 @@ abbrev pub row_body : List ℕ → Mentions → ℕ → Members → Body
 row_body b m r z = record {
   flags = access_flags b r;
   superclass = option_map (type_at m) (number_of (superclass_idx b r));
-  interfaces = map (type_at m) (interface_indices b (interfaces_off b r));
+  interfaces = map (type_at m) (listed b (interfaces_off b r));
   source = option_map (text_at m) (number_of (source_file_idx b r));
   annotations = z.annotations;
   static_fields = z.static_fields;
@@ -26,8 +26,8 @@ body_weighs c =
     omega (arith, parts)
 
 -- what it weighs
-pub row_weight : (b : List ℕ) (m : Mentions) (r : ℕ) (z : Members) → body_weight (row_body b m r z) ≡ 96 + 2 * length (interface_indices b (interfaces_off b r)) + members_weight z
-row_weight b m r z = omega (arith, body_weighs (row_body b m r z), length-map (interface_indices b (interfaces_off b r)) (type_at m))
+pub row_weight : (b : List ℕ) (m : Mentions) (r : ℕ) (z : Members) → body_weight (row_body b m r z) ≡ 96 + 2 * length (listed b (interfaces_off b r)) + members_weight z
+row_weight b m r z = omega (arith, body_weighs (row_body b m r z), length-map (listed b (interfaces_off b r)) (type_at m))
 
 module _ (b : List ℕ) (m : Mentions) (pools : ArePools b m) where
   -- a type row is that of its number
@@ -47,8 +47,8 @@ module _ (b : List ℕ) (m : Mentions) (pools : ArePools b m) where
   listed_is (i ∷ is) (t ∷ ts) h = ap (λ (s : Text). s ∷ ts) (type_is i t h.0) ∙ ap (λ (l : List Text). type_at m i ∷ l) (listed_is is ts h.1)
   listed_is x v h = absurd h
 
-  interfaces_encoded : (o : ℕ) (ts : List Text) → OrNone ClassListAt [] b o ts → OrNone ClassListAt [] b o (map (type_at m) (interface_indices b o))
-  interfaces_encoded o ts (inl none) = inl (none.0, ap (λ (k : ℕ). map (type_at m) (interface_indices b k)) none.0)
+  interfaces_encoded : (o : ℕ) (ts : List Text) → OrNone ClassListAt [] b o ts → OrNone ClassListAt [] b o (map (type_at m) (listed b o))
+  interfaces_encoded o ts (inl none) = inl (none.0, ap (λ (k : ℕ). map (type_at m) (listed b k)) none.0)
   interfaces_encoded o ts (inr list) =
       inr (list.0, subst (ClassListAt b o) (listed_is (type_indices b o) ts list.1.list.types ∙ ap (map (type_at m)) (sym (listed_interfaces b o list.0))) list.1)
 

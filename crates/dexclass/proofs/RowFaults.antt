@@ -1,11 +1,12 @@
 -- The faults of class rows as they are read.
-use Rattle.dexclass.proofs.Common.{◌≡◌, ℕ, zero, suc, ◌+◌, ◌*◌, ◌-◌, ◌<◌, ◌≤◌, List, [], ◌∷◌, length, map, refl, sym, ap, subst, arith, inl, inr, ClassDefs, table_size, Definition, class_idx, interfaces_off, Mentions, mentions, weight, mentions_weight, most_weight, Condition, number, HasClass, HoldBelow, AreRows, FailsAt, place, rows_checked, IsRefused, AreReadable, ArePools, ItemFault, Refused, Memory, AreHeavyMembers, IsMembersFault, IsMembersFaultWithin}
+use Rattle.dexclass.proofs.Common.{◌≡◌, ℕ, zero, suc, ◌+◌, ◌*◌, ◌-◌, ◌<◌, ◌≤◌, List, [], ◌∷◌, length, map, refl, sym, ap, subst, arith, inl, inr, ClassDefs, table_size, Definition, class_idx, interfaces_off, Mentions, mentions, weight, mentions_weight, most_weight, Condition, number, HasClass, HoldBelow, AreRows, FailsAt, place, rows_checked, IsRefused, AreReadable, ArePools, ItemFault, Refused, Memory, AreHeavyMembers, IsMembersFault, IsMembersFaultWithin, type_at}
 use Rattle.std.proofs.Math.Nat.{eq-or-lt_of_le}
 use Rattle.dexpool.specs.declared.faults.ItemFault.TheVariants as items
 use Rattle.dexids.specs.declared.faults.ReadFault.{ReadFault}
-use Rattle.dexclass.specs.internal.Rows.{IsClassFault, interface_indices}
+use Rattle.dexids.specs.Reading.{listed}
+use Rattle.dexclass.specs.internal.Rows.{IsClassFault}
 use Rattle.dexclass.specs.internal.Checked.{IsFaultAtRow}
-use Rattle.dexclass.specs.{type_at, definition_of, IsFaultOf}
+use Rattle.dexclass.specs.{definition_of, IsFaultOf}
 use Rattle.dexclass.specs.internal.Reading.{bodies_weight, AreBodies, AreHeavy}
 use Rattle.dexclass.specs.internal.ReadWithin.{IsFaultWithin}
 use Rattle.dexclass.specs.declared.reading.Bodies.{Bodies}
@@ -54,13 +55,13 @@ module _ (b : List ℕ) (m : Mentions) (pools : ArePools b m) (h : HoldBelow 17 
   has_class = h Condition.Classes (omega arith) r lt
 
   -- what the row declares weighs more than is left
-  members_heavy : (most : ℕ) → most ≡ most_weight - bodies.weight - (96 + 2 * length (interface_indices b (interfaces_off b r))) → AreHeavyMembers b r most → IsRefused b 23 r
+  members_heavy : (most : ℕ) → most ≡ most_weight - bodies.weight - (96 + 2 * length (listed b (interfaces_off b r))) → AreHeavyMembers b r most → IsRefused b 23 r
   members_heavy most left heavy =
       heavy_refused b r (heavy_row b h r (map (definition_of m) bodies.classes.items) (type_at m (class_idx b r), row_body b m r heavy.members) lt before.readable before.rows heavy.readable (row_encoded b m pools r heavy.members lt has_class heavy.row)
       (omega (arith, left, heavy.heavy, row_weight b m r heavy.members, before.weight_is)))
 
   -- the fault of a row that is read within what is left
-  pub row_fault_within : (most : ℕ) → most ≡ most_weight - bodies.weight - (96 + 2 * length (interface_indices b (interfaces_off b r))) → (members : ItemFault) (fault : ReadFault) → IsFaultAtRow members r fault → IsMembersFaultWithin b r most members → IsFaultOf b fault
+  pub row_fault_within : (most : ℕ) → most ≡ most_weight - bodies.weight - (96 + 2 * length (listed b (interfaces_off b r))) → (members : ItemFault) (fault : ReadFault) → IsFaultAtRow members r fault → IsMembersFaultWithin b r most members → IsFaultOf b fault
   row_fault_within most left items.Memory fault is m = subst (IsFaultOf b) (sym is) tt
   row_fault_within most left (items.Refused n) fault is (inl m) = row_fault b r (items.Refused n) fault is h lt m
   row_fault_within most left (items.Refused n) fault is (inr m) = subst (IsFaultOf b) (sym is) (subst (λ (k : ℕ). IsRefused b k r) (sym m.0) (members_heavy most left m.1))
@@ -80,7 +81,7 @@ module _ (b : List ℕ) (m : Mentions) (pools : ArePools b m) (h : HoldBelow 17 
   early_fault less most (items.Refused n) fault is (inr m) = subst (IsFaultWithin limit b) (sym is) (inr (m.0, less))
 
   -- the fault of a row
-  pub row_fault_up_to : limit ≤ most_weight → (most : ℕ) → most ≡ limit - bodies.weight - (96 + 2 * length (interface_indices b (interfaces_off b r))) → (members : ItemFault) (fault : ReadFault) → IsFaultAtRow members r fault → IsMembersFaultWithin b r most members
+  pub row_fault_up_to : limit ≤ most_weight → (most : ℕ) → most ≡ limit - bodies.weight - (96 + 2 * length (listed b (interfaces_off b r))) → (members : ItemFault) (fault : ReadFault) → IsFaultAtRow members r fault → IsMembersFaultWithin b r most members
       → IsFaultWithin limit b fault
   row_fault_up_to le most left members fault is within = elim (eq-or-lt_of_le le) [
     | inl same ↦ file_fault b limit fault (row_fault_within b m pools h r bodies before lt most (omega (arith, left, same)) members fault is within)

@@ -1,11 +1,11 @@
 -- Class rows that were checked, and the file whose rows they are.
-use Rattle.dexclass.proofs.Common.{◌≡◌, ℕ, ◌+◌, ◌-◌, ◌*◌, ◌^◌, ◌<◌, ◌≤◌, min, List, [], ◌∷◌, ◌++◌, length, refl, sym, ap, ◌∙◌, arith, length-range_with_len, range_with_len, ClassDefs, table_size, Definition, class_idx, interfaces_off, Collection, definitions, Mentions, mentions_weight, most_weight, Condition, HoldBelow, IsReadable, AreRows, IsRefused, length-among, has_classes, denoted_rows, ArePools, below_more, get_or, subst, Contains, Contains-get_or, ushort_at, Proto, Field, Method, Symbol, ProtoSymbol, FieldSymbol, MethodSymbol, StringIds, TypeIds, ProtoIds, FieldIds, MethodIds, row_at, StringRow, TypeRow, ProtoRow, FieldRow, MethodRow, mentions, texts_in, types_in, protos_in, fields_in, methods_in, Contains-nil, AreMentioned, mentions-rising, mentions_weight-among, one_string, one_type, one_proto, one_field, one_method, row_of, AreReadable, AreAll}
+use Rattle.dexclass.proofs.Common.{◌≡◌, ℕ, ◌+◌, ◌-◌, ◌*◌, ◌^◌, ◌<◌, ◌≤◌, min, List, [], ◌∷◌, ◌++◌, length, refl, sym, ap, ◌∙◌, arith, length-range_with_len, range_with_len, ClassDefs, table_size, Definition, class_idx, interfaces_off, Collection, definitions, Mentions, mentions_weight, most_weight, Condition, HoldBelow, IsReadable, AreRows, IsRefused, length-among, has_classes, denoted_rows, ArePools, below_more, get_or, subst, Contains, Contains-get_or, ushort_at, Proto, Field, Method, Symbol, ProtoSymbol, FieldSymbol, MethodSymbol, StringIds, TypeIds, ProtoIds, FieldIds, MethodIds, row_at, StringRow, TypeRow, ProtoRow, FieldRow, MethodRow, mentions, texts_in, types_in, protos_in, fields_in, methods_in, Contains-nil, AreMentioned, mentions-rising, mentions_weight-among, one_string, one_type, one_proto, one_field, one_method, row_of, AreReadable, AreAll, type_at}
 use Rattle.std.proofs.lemmas.Slice.Zip.{AllZip-long}
 use Rattle.dexspec.proofs.merge.Collections.{definitions-distinct}
 use Rattle.dexspec.proofs.determined.OneCollection.{one_collection}
 use Rattle.dexmembers.specs.Checking.{HasMembersOf}
-use Rattle.dexclass.specs.internal.Rows.{interface_indices}
-use Rattle.dexclass.specs.{type_at, IsReadAs, HaveBodiesOf, IsCheckedAs}
+use Rattle.dexids.specs.Reading.{listed}
+use Rattle.dexclass.specs.{IsReadAs, HaveBodiesOf, IsCheckedAs}
 use Rattle.dexclass.proofs.RowClasses.{row_body, row_weight, row_encoded}
 use Rattle.dexclass.proofs.RowsBelow.{IsRow, weight_is, bodies_more, rows_more, rows_distinct, heavy_row, light_accepted}
 use Rattle.dexclass.proofs.RowFaults.{heavy_refused}
@@ -58,7 +58,7 @@ pub no_bodies : (b : List ℕ) → HaveBodiesOf b 0 0
 no_bodies b = record { definitions = []; readable = λ k lt. absurd (omega (arith, lt)); rows = tt; weighs = refl; light = omega arith }
 
 module _ (b : List ℕ) (m : Mentions) (pools : ArePools b m) (h : HoldBelow 17 b) (r : ℕ) (lt : r < table_size b ClassDefs) (before members new : ℕ) (old : HaveBodiesOf b r before) (is : HasMembersOf b r members)
-    (more : new ≡ min (2 ^ 64 - 1) (min (2 ^ 64 - 1) (before + (96 + 2 * length (interface_indices b (interfaces_off b r)))) + members)) where
+    (more : new ≡ min (2 ^ 64 - 1) (min (2 ^ 64 - 1) (before + (96 + 2 * length (listed b (interfaces_off b r)))) + members)) where
   -- the definition of the row
   abbrev here : Definition
   here = (type_at m (class_idx b r), row_body b m r is.members)

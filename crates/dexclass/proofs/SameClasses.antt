@@ -1,6 +1,6 @@
 -- Classes that are remapped denote the same definitions; remapped into one numbering they are the same if and only if
 -- their definitions are.
-use Rattle.dexclass.proofs.Common.{◌≡◌, ℕ, ◌-◌, ◌^◌, ◌<◌, min, List, ◌∷◌, ◌++◌, length, map, option_to_list, sym, ap, ◌∙◌, subst, ◌↔◌, IsSome, All, All-head, All-tail, Text, Definition, Mentions, body_weight, AreRising, Maps, AllMapTo, image, Use, IsMappedUse, NumberedMembers, members_in, members_of, AreKnownMembers, AreOrdered, AreOfClass, members_uses, all_prefix, all_back, all_seen}
+use Rattle.dexclass.proofs.Common.{◌≡◌, ℕ, ◌-◌, ◌^◌, ◌<◌, min, List, ◌∷◌, ◌++◌, length, map, option_to_list, sym, ap, ◌∙◌, subst, ◌↔◌, IsSome, All, All-head, All-tail, Text, Definition, Mentions, body_weight, AreRising, Maps, AllMapTo, image, Use, IsMappedUse, NumberedMembers, members_in, members_of, AreKnownMembers, AreOrdered, AreOfClass, members_uses, all_prefix, all_back, all_seen, text_at, type_at}
 use Rattle.dexmembers.specs.Renumbering.{renumbered_members}
 use Rattle.std.specs.Prelude.{Option, Some, None, IfSome, []}
 use Rattle.std.specs.Option.{option_map}
@@ -9,7 +9,7 @@ use Rattle.dexpool.specs.declared.symbols.SymbolKind.TheVariants as kinds
 use Rattle.dexpool.proofs.Numbers.{number_ranked, one_back}
 use Rattle.dexpool.proofs.Numbers as numbers
 use Rattle.dexmembers.proofs.SameMembers.{ranked_members, members_back}
-use Rattle.dexclass.specs.{NumberedClass, text_at, type_at, definition_of, type_numbers, text_numbers, type_use, text_use, IsKnownClass, remapped, renumbered, IsMappedClass, StaysSame}
+use Rattle.dexclass.specs.{NumberedClass, definition_of, type_numbers, text_numbers, type_use, text_use, IsKnownClass, remapped, renumbered, IsMappedClass, StaysSame}
 use Rattle.dexclass.proofs.Remapped.{remapped_is, all_remapped, optional_remapped, all_within, optional_numbers, numbers_after}
 
 -- ---- a class that is remapped

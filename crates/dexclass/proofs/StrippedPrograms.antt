@@ -1,10 +1,10 @@
 -- Classes without their debug programs and source texts make the stripped program.
-use Rattle.dexclass.proofs.Common.{◌≡◌, ℕ, ◌-◌, ◌^◌, ◌<◌, min, List, length, get_or, map, sym, ap, ◌∙◌, subst, arith, All, length-map, get_or-map, All-nil, All-map, Definition, Collection, definitions, IsCollectionOf, Mentions, mentions, in_class_order, AreWellFormed, Caps, IsGood, greatest_caps, strip_definition, strip, strip_collection, IsGood-within, definitions-distinct, in_class_order-only, in_class_order-has, class_names-apart, definitions-are, collection-one, members_in, AreKnownMembers, AreOrdered, AreOfClass, stripped_members, strip_members, members_weight, both_ways, AreDistinct, IsAcyclic}
+use Rattle.dexclass.proofs.Common.{◌≡◌, ℕ, ◌-◌, ◌^◌, ◌<◌, min, List, length, get_or, map, sym, ap, ◌∙◌, subst, arith, All, length-map, get_or-map, All-nil, All-map, Definition, Collection, definitions, IsCollectionOf, Mentions, mentions, in_class_order, AreWellFormed, Caps, IsGood, greatest_caps, strip_definition, strip, strip_collection, IsGood-within, definitions-distinct, in_class_order-only, in_class_order-has, class_names-apart, definitions-are, collection-one, members_in, AreKnownMembers, AreOrdered, AreOfClass, stripped_members, strip_members, members_weight, both_ways, AreDistinct, IsAcyclic, type_at}
 use Rattle.dexspec.proofs.strip.StripCollection.{definitions-strip_collection}
 use Rattle.dexspec.proofs.strip.StripGood.{IsGood-strip}
 use Rattle.dexmembers.specs.Weighing.{numbered_members_weight}
 use Rattle.dexclass.proofs.ProgramsOf.{one_class_order}
-use Rattle.dexclass.specs.{NumberedClass, no_class, type_at, definition_of, IsKnownClass, AreClassesOf, AreMergeable}
+use Rattle.dexclass.specs.{NumberedClass, no_class, definition_of, IsKnownClass, AreClassesOf, AreMergeable}
 use Rattle.dexclass.specs.internal.Stripped.{stripped_class}
 use Rattle.dexclass.proofs.Places.{one_place}
 use Rattle.dexclass.proofs.RowClasses.{body_weighs}

@@ -1,7 +1,7 @@
 -- A class row more, and what the classes weigh with it.
-use Rattle.dexclass.proofs.Common.{◌≡◌, ℕ, ◌+◌, ◌*◌, ◌<◌, ◌≤◌, List, [], ◌∷◌, ◌++◌, length, map, sym, ap, ◌∙◌, subst, arith, All, map-append, All-nil, All-cons, All-append, ClassDefs, table_size, Definition, interfaces_off, Mentions, body_weight, most_weight, Condition, HoldBelow, IsReadable, AreRows, IsRefused, ArePools, NumberedMembers, members_in, members_weight, AreMembersOf, below_more, ◌≢◌, ◌-◌, ◌^◌, min, inl, inr, refl, Option, Some, None, option_to_list, cases_eq, ne_eqb, OrNone, Text, StringRow, type_indices, ClassTypeRow, ClassListAt, IndexOrNone, class_idx, superclass_idx, source_file_idx, no_index, HasClass}
-use Rattle.dexclass.specs.internal.Rows.{interface_indices}
-use Rattle.dexclass.specs.{NumberedClass, definition_of, class_of_row, IsKnownClass, type_at, number_of}
+use Rattle.dexclass.proofs.Common.{◌≡◌, ℕ, ◌+◌, ◌*◌, ◌<◌, ◌≤◌, List, [], ◌∷◌, ◌++◌, length, map, sym, ap, ◌∙◌, subst, arith, All, map-append, All-nil, All-cons, All-append, ClassDefs, table_size, Definition, interfaces_off, Mentions, body_weight, most_weight, Condition, HoldBelow, IsReadable, AreRows, IsRefused, ArePools, NumberedMembers, members_in, members_weight, AreMembersOf, below_more, ◌≢◌, ◌-◌, ◌^◌, min, inl, inr, refl, Option, Some, None, option_to_list, cases_eq, ne_eqb, OrNone, Text, StringRow, type_indices, ClassTypeRow, ClassListAt, IndexOrNone, class_idx, superclass_idx, source_file_idx, no_index, HasClass, type_at}
+use Rattle.dexids.specs.Reading.{listed}
+use Rattle.dexclass.specs.{NumberedClass, definition_of, class_of_row, IsKnownClass, number_of}
 use Rattle.dexclass.specs.internal.Reading.{bodies_weight, AreBodies}
 use Rattle.dexclass.specs.declared.reading.Bodies.{Bodies}
 use Rattle.dexclass.proofs.RowClasses.{row_weight, row_encoded, row_name}
@@ -28,8 +28,8 @@ module _ (b : List ℕ) (m : Mentions) (pools : ArePools b m) where
   source_in i None e ne = absurd (ne e)
   source_in i (Some s) h ne = omega (arith, h.row, pools.texts_are.count)
 
-  interfaces_in : (o : ℕ) (ts : List Text) → OrNone ClassListAt [] b o ts → All (λ k. k < length m.types) (interface_indices b o)
-  interfaces_in o ts (inl none) = subst (λ (k : ℕ). All (λ j. j < length m.types) (interface_indices b k)) (sym none.0) (All-nil (λ j. j < length m.types))
+  interfaces_in : (o : ℕ) (ts : List Text) → OrNone ClassListAt [] b o ts → All (λ k. k < length m.types) (listed b o)
+  interfaces_in o ts (inl none) = subst (λ (k : ℕ). All (λ j. j < length m.types) (listed b k)) (sym none.0) (All-nil (λ j. j < length m.types))
   interfaces_in o ts (inr list) =
       subst (All (λ j. j < length m.types)) (sym (listed_interfaces b o list.0))
       (λ k d lt. omega (arith, class_in_range b _ (of_classes b (type_indices b o) ts list.1.list.types list.1.classes k d lt), pools.types_are.count))
@@ -38,7 +38,7 @@ module _ (b : List ℕ) (m : Mentions) (pools : ArePools b m) where
   pub row_known : (r most : ℕ) (x : NumberedMembers) (weight : ℕ) → HasClass b r → AreMembersOf b r m most x → weight ≡ min (2 ^ 64 - 1) (body_weight (definition_of m (class_of_row b r x weight)).1) → IsKnownClass m (class_of_row b r x weight)
   row_known r most x weight h are weighed = record {
     types_in = All-cons (λ j. j < length m.types) (class_idx b r) _ (omega (arith, h.is.row.row, pools.types_are.count))
-        (All-append (λ j. j < length m.types) (option_to_list (number_of (superclass_idx b r))) (interface_indices b (interfaces_off b r))
+        (All-append (λ j. j < length m.types) (option_to_list (number_of (superclass_idx b r))) (listed b (interfaces_off b r))
         (optional_in (length m.types) (superclass_idx b r) (parent_in (superclass_idx b r) h.superclass.0 h.superclass.1))
         (interfaces_in (interfaces_off b r) h.interfaces.0 h.interfaces.1));
     texts_in = optional_in (length m.texts) (source_file_idx b r) (source_in (source_file_idx b r) h.source.0 h.source.1);
@@ -48,7 +48,7 @@ module _ (b : List ℕ) (m : Mentions) (pools : ArePools b m) where
     weighed = weighed;
   }
 
-module _ (b : List ℕ) (m : Mentions) (pools : ArePools b m) (h : HoldBelow 17 b) (r : ℕ) (lt : r < table_size b ClassDefs) (most : ℕ) (x : NumberedMembers) (are : AreMembersOf b r m most x) (w : ℕ) (weighs : w ≡ 96 + 2 * length (interface_indices b (interfaces_off b r)) + members_weight (members_in m x)) where
+module _ (b : List ℕ) (m : Mentions) (pools : ArePools b m) (h : HoldBelow 17 b) (r : ℕ) (lt : r < table_size b ClassDefs) (most : ℕ) (x : NumberedMembers) (are : AreMembersOf b r m most x) (w : ℕ) (weighs : w ≡ 96 + 2 * length (listed b (interfaces_off b r)) + members_weight (members_in m x)) where
   -- the class of the row with this weight
   abbrev row_class : NumberedClass
   row_class = class_of_row b r x w

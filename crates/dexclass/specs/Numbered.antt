@@ -1,12 +1,12 @@
 -- Class definitions with numbers instead of symbols.
-use Rattle.std.specs.Prelude.{ℕ, ◌==◌, if◌then◌else◌, List, [], map, Option, Some, None, slice_index_or}
+use Rattle.std.specs.Prelude.{ℕ, ◌==◌, if◌then◌else◌, List, map, Option, Some, None}
 use Rattle.std.specs.Option.{option_map}
-use Rattle.dexspec.specs.Texts.{Text}
 use Rattle.dexspec.specs.Classes.{Definition, class_idx, access_flags, superclass_idx, interfaces_off, source_file_idx}
 use Rattle.dexspec.specs.Classes.{no_index}
 use Rattle.dexspec.specs.Mentions.{Mentions}
+use Rattle.dexids.specs.Reading.{listed}
+use Rattle.dexpool.specs.NumberedSymbols.{text_at, type_at}
 use Rattle.dexmembers.specs.Numbered.{NumberedMembers, members_in}
-use Rattle.dexclass.specs.internal.Rows.{interface_indices}
 
 -- A class: the numbers of its type, of its superclass, of its interfaces and of its source text, what it declares, and
 -- what it weighs without the symbols that it names.
@@ -18,14 +18,6 @@ pub record NumberedClass : Type 0 where
   pub source : Option ℕ
   pub members : NumberedMembers
   pub weight : ℕ
-
--- the text of a number
-abbrev pub text_at : Mentions → ℕ → Text
-text_at m i = slice_index_or m.texts i []
-
--- the type of a number
-abbrev pub type_at : Mentions → ℕ → Text
-type_at m i = slice_index_or m.types i []
 
 -- the definition that the numbers denote
 abbrev pub definition_of : Mentions → NumberedClass → Definition
@@ -55,7 +47,7 @@ class_of_row b r x weight = record {
   name = class_idx b r;
   flags = access_flags b r;
   superclass = number_of (superclass_idx b r);
-  interfaces = interface_indices b (interfaces_off b r);
+  interfaces = listed b (interfaces_off b r);
   source = number_of (source_file_idx b r);
   members = x;
   weight = weight;

@@ -8,7 +8,8 @@ use Rattle.dexspec.specs.Mentions.{Mentions}
 use Rattle.dexspec.specs.Depth.{depth}
 use Rattle.dexmembers.specs.Numbered.{no_members}
 use Rattle.dexorder.specs.Parents.{AreByType, IsHierarchyOf, parent_types}
-use Rattle.dexclass.specs.Numbered.{NumberedClass, type_at}
+use Rattle.dexpool.specs.NumberedSymbols.{type_at}
+use Rattle.dexclass.specs.Numbered.{NumberedClass}
 
 -- the numbers of the superclass and the interfaces
 abbrev pub parent_numbers : NumberedClass → List ℕ

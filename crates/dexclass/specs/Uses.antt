@@ -9,7 +9,8 @@ use Rattle.dexpool.specs.declared.marks.Marks.{Marks}
 use Rattle.dexpool.specs.Uses.{Use, marks_of, occurs}
 use Rattle.dexmembers.specs.Numbered.{AreKnownMembers, AreOrdered, AreOfClass}
 use Rattle.dexmembers.specs.Uses.{members_uses}
-use Rattle.dexclass.specs.Numbered.{NumberedClass, type_at, definition_of}
+use Rattle.dexpool.specs.NumberedSymbols.{type_at}
+use Rattle.dexclass.specs.Numbered.{NumberedClass, definition_of}
 
 -- the numbers of its own types: its name, its superclass, its interfaces
 abbrev pub type_numbers : NumberedClass → List ℕ

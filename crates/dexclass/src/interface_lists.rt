@@ -2,7 +2,8 @@
 
 ghost use Rattle.std.specs.Prelude.{◌≡◌, ◌/◌, [], length, map, take, drop, unwrap_or, IfOk, IfSome, IsTrue};
 ghost use Rattle.dexspec.specs.Bytes.{ushorts_at};
-ghost use Rattle.dexclass.specs.internal.Rows.{interface_indices, HasInterfaceList};
+ghost use Rattle.dexids.specs.Reading.{listed};
+ghost use Rattle.dexclass.specs.internal.Rows.{HasInterfaceList};
 ghost use Rattle.dexclass.specs.Renumbering.{remapped};
 
 use crate::list_parts::{ListPlace, SharedPart, shorts_between};
@@ -69,8 +70,8 @@ fn bytes_from(file: &[u8], start: usize, len: usize) -> &[u8] {
 // The bytes of the `count` numbers that are listed at an offset, two for each.
 fn listed_bytes<'a>(frame: &Frame<'a>, off: u32, count: u32) -> &'a [u8]
     requires list { HasInterfaceList frame.now off }
-    requires count { count ≡ length (interface_indices frame.now off) }
-    ensures { ushorts_at result.now 0 (length result.now / 2) ≡ interface_indices frame.now off }
+    requires count { count ≡ length (listed frame.now off) }
+    ensures { ushorts_at result.now 0 (length result.now / 2) ≡ listed frame.now off }
 {
     if count == 0 {
         return &[];
@@ -165,8 +166,8 @@ impl<'a> Interfaces<'a> {
     /// Source: "class_def_item", the field `interfaces_off`, and "type_list".
     pub(crate) fn listed(alloc: Global, frame: &Frame<'a>, off: u32, count: u32) -> Interfaces<'a>
         requires list { HasInterfaceList frame.now off }
-        requires count { count ≡ length (interface_indices frame.now off) }
-        ensures { result ≡ interface_indices frame.now off }
+        requires count { count ≡ length (listed frame.now off) }
+        ensures { result ≡ listed frame.now off }
     {
         let list = FileList {
             bytes: listed_bytes(frame, off, count),

@@ -9,7 +9,8 @@ ghost use Rattle.dexpool.specs.Pools.{ArePools};
 ghost use Rattle.dexmembers.specs.Checking.{AreChecks};
 ghost use Rattle.dexmembers.specs.SharedMembers.{AreSharedMembers};
 ghost use Rattle.dexids.specs.declared.faults.ReadFault.TheVariants.{Refused, Memory};
-ghost use Rattle.dexclass.specs.internal.Rows.{HasInterfaceList, interface_indices};
+ghost use Rattle.dexids.specs.Reading.{listed};
+ghost use Rattle.dexclass.specs.internal.Rows.{HasInterfaceList};
 ghost use Rattle.dexclass.specs.internal.Checked.{IsFaultAtRow};
 ghost use Rattle.dexclass.specs.Programs.{IsReadAs, IsFaultOf};
 ghost use Rattle.dexclass.specs.internal.Reading.{AreBodies, AreHeavy, IsWhole};
@@ -53,7 +54,7 @@ pub fn read<'a>(alloc: Global, bytes: &'a [u8]) -> Result<Program<'a>, ReadFault
 /// Source: "class_def_item", the field `interfaces_off`, and "type_list".
 pub(crate) fn interface_count(frame: &Frame<'_>, off: u32) -> u32
     requires { HasInterfaceList frame.now off }
-    ensures { result ≡ length (interface_indices frame.now off) }
+    ensures { result ≡ length (listed frame.now off) }
 {
     if off == 0 {
         return 0;

@@ -1,7 +1,7 @@
 -- The data of classes: by numbers, they are the items of the file.
 use Rattle.dexlayout.proofs.Common.{◌≡◌, ℕ, ◌+◌, ◌<◌, List, [], ◌∷◌, length, get_or, map, take, drop, Option, None, Some, Bool, true, false, refl, sym, ap, ◌∙◌, arith, ◌==◌, All, option_map, length-append, length-map, length-drop, All-head, All-tail, zip_with, chunks, MethodDef, Definition, declared_fields, declared_methods, Mentions, class_data_bytes, class_data_uses, is_empty_class, end, uses_offsets, ClassDataItems, code_section, class_data_section, AreRising, ranks_are_numbers, NumberedMembers, method_in, methods_of, numbered_class_data_bytes, NumberedClass, definition_of, IsKnownClass, AreWritable, AreClassData, ordered_of, EncodedItems, has_no_members, class_data_item, class_data_items, encode_uses, no_items_from, if◌then◌else◌}
 use Rattle.dexmembers.proofs.ClassDataSpelled.{class_data_spelled}
-use Rattle.dexclass.specs.Numbered.{type_at}
+use Rattle.dexpool.specs.NumberedSymbols.{type_at}
 use Rattle.dexlayout.proofs.EncodedUses.{own_in, drop_next}
 use Rattle.dexlayout.proofs.CodeItems.{methods_in_all}
 use Rattle.dexlayout.proofs.SetsCollected.{fields_count, methods_are}

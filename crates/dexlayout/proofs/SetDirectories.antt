@@ -5,7 +5,7 @@ use Rattle.std.specs.declared.cmp.Ordering.TheVariants.{Less, Equal, Greater}
 use Rattle.dexspec.proofs.layout.Uses as uses
 use Rattle.dexmembers.proofs.PairsMerged.{kept, placed_count}
 use Rattle.dexmembers.proofs.DirectorySpelled as spelled
-use Rattle.dexclass.specs.Numbered.{type_at}
+use Rattle.dexpool.specs.NumberedSymbols.{type_at}
 use Rattle.dexlayout.proofs.CodeItems.{count_methods, methods_in_all}
 use Rattle.dexlayout.proofs.EncodedUses.{own_in, own_same, use_encoded, use_fits, drop_next}
 use Rattle.dexlayout.proofs.SetsCollected.{set_use_offsets, length-set_use_offsets, set_offsets_are, class_sets_count, classes_are_long, classes_parts, fields_count, methods_are}

@@ -10,7 +10,7 @@ use Rattle.dexrows.specs.Numbers.{ProtoNumbers}
 use Rattle.dexrows.specs.declared.fields.FieldRow.{FieldRow}
 use Rattle.dexrows.specs.declared.methods.MethodRow.{MethodRow}
 use Rattle.dexpool.specs.Numberings.{IsAt, DenotesProto, DenotesField, DenotesMethod}
-use Rattle.dexclass.specs.Numbered.{type_at, text_at}
+use Rattle.dexpool.specs.NumberedSymbols.{type_at}
 use Rattle.dexlisting.specs.internal.Known.{proto_at}
 use Rattle.dexval.specs.Numbered.{field_at, method_at}
 use Rattle.dexout.specs.Printed.{shown}

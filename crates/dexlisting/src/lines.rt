@@ -4,7 +4,8 @@ ghost use Rattle.std.specs.Prelude.{◌≡◌, ◌<◌, length, codes, IfSome, A
 ghost use Rattle.std.specs.List.{flat_map};
 ghost use Rattle.std.specs.Option.{option_map, option_map_or};
 ghost use Rattle.dexmembers.specs.Numbered.{IsKnownField, IsKnownMethod, field_in, method_in};
-ghost use Rattle.dexclass.specs.Numbered.{definition_of, text_at, type_at};
+ghost use Rattle.dexpool.specs.NumberedSymbols.{text_at, type_at};
+ghost use Rattle.dexclass.specs.Numbered.{definition_of};
 ghost use Rattle.dexclass.specs.Uses.{IsKnownClass};
 ghost use Rattle.dexout.specs.Printed.{shown};
 ghost use Rattle.dexlisting.specs.Listing.{field_line, method_lines, own_line, interface_line, source_line, class_lines};

@@ -6,7 +6,7 @@ ghost use Rattle.dexspec.specs.Symbols.{FieldSymbol, MethodSymbol};
 ghost use Rattle.dexpool.specs.Pools.{count_of};
 ghost use Rattle.dexval.specs.Numbered.{field_at, method_at};
 ghost use Rattle.dexpool.specs.NumberedSymbols.{symbol_at};
-ghost use Rattle.dexclass.specs.Numbered.{type_at, text_at};
+ghost use Rattle.dexpool.specs.NumberedSymbols.{text_at, type_at};
 ghost use Rattle.dexout.specs.Printed.{shown};
 ghost use Rattle.dexlisting.specs.Listing.{proto_text, own_field_text, own_method_text, symbol_text};
 ghost use Rattle.dexlisting.specs.internal.Known.{name_text, proto_at};

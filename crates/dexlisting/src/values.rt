@@ -3,11 +3,11 @@
 ghost use Rattle.std.specs.Prelude.{◌<◌, ◌++◌, [], All, IfSome, map, length, codes};
 ghost use Rattle.std.specs.List.{flat_map};
 ghost use Rattle.std.specs.Option.{option_map, option_map_or};
-ghost use Rattle.dexclass.specs.Numbered.{type_at};
+ghost use Rattle.dexpool.specs.NumberedSymbols.{text_at, type_at};
 ghost use Rattle.dexout.specs.Printed.{shown};
 ghost use Rattle.dexlisting.specs.internal.Known.{meant_value};
 ghost use Rattle.dexval.specs.Code.{value_of, element_of, annotation_of, encoded_of, encoded_type, encoded_elements, visibility_of};
-ghost use Rattle.dexval.specs.Numbered.{text_at, values_of_list, elements_of_list, value_in, values_in, elements_in, annotation_in, set_in, IsKnown, AreKnown, HaveKnown, IsKnownAnnotation, IsKnownSet, field_at, method_at};
+ghost use Rattle.dexval.specs.Numbered.{values_of_list, elements_of_list, value_in, values_in, elements_in, annotation_in, set_in, IsKnown, AreKnown, HaveKnown, IsKnownAnnotation, IsKnownSet, field_at, method_at};
 ghost use Rattle.dexmembers.specs.Borrowed.{ForSet, IsBorrowedSet};
 ghost use Rattle.dexlisting.specs.FullListing.{plain, value_text, values_text, elements_text, visibility_text, annotation_line, set_lines, literal_text};
 

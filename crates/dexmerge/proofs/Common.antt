@@ -13,7 +13,8 @@ pub use Rattle.std.proofs.lemmas.Option.{same_Some}
 pub use Rattle.std.proofs.lemmas.Simd.{map-map}
 pub use Rattle.std.proofs.lemmas.List.Folds.{flat_map-map}
 pub use Rattle.dexclass.proofs.Places.{places_all, places_some}
-pub use Rattle.dexclass.specs.Numbered.{NumberedClass, definition_of, type_at}
+pub use Rattle.dexpool.specs.NumberedSymbols.{type_at}
+pub use Rattle.dexclass.specs.Numbered.{NumberedClass, definition_of}
 pub use Rattle.dexclass.specs.Parents.{AreDepthsByName, ArePlaces, IsHierarchy, name_number, no_class, parent_numbers}
 pub use Rattle.dexclass.specs.Programs.{AreClassesOf, AreMergeable}
 pub use Rattle.dexclass.specs.Renumbering.{ClassHasPlaces, IsMappedClass, IsPartClass, MapsAllInto, StaysSame, remapped, renumbered}

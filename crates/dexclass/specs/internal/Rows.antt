@@ -4,12 +4,13 @@ use Rattle.std.specs.Prelude.{All, slice_index_or}
 use Rattle.dexspec.specs.Lists.{OrNone}
 use Rattle.dexspec.specs.Texts.{Text}
 use Rattle.dexspec.specs.Header.{ClassDefs, TypeIds, table_size}
-use Rattle.dexspec.specs.Rows.{type_indices, StringRow}
+use Rattle.dexspec.specs.Rows.{StringRow}
 use Rattle.dexspec.specs.Classes.{class_idx, ClassTypeRow, ClassListAt, IndexOrNone, no_index}
 use Rattle.dexspec.specs.Conditions.{Condition}
 use Rattle.dexspec.specs.Accepted.{IsFrame, IsDefinedBefore, FailsFirst}
 use Rattle.dexspec.specs.Mentions.{Mentions}
 use Rattle.dexpool.specs.Pools.{ArePools}
+use Rattle.dexids.specs.Reading.{listed}
 use Rattle.dexids.specs.declared.faults.ReadFault.{ReadFault}
 use Rattle.dexids.specs.declared.faults.ReadFault.TheVariants.{Refused, Memory}
 
@@ -49,10 +50,6 @@ pub record IsInterfaceIndex (b : List ℕ) (r i : ℕ) : Type 0 where
 abbrev pub superclass_indices : ℕ → List ℕ
 superclass_indices i = if i == no_index then [] else i ∷ []
 
--- the indices of the interfaces that are listed at an offset
-abbrev pub interface_indices : List ℕ → ℕ → List ℕ
-interface_indices b o = if o == 0 then [] else type_indices b o
-
 -- at the offset is a list of classes, or none
 abbrev pub HasInterfaceList : List ℕ → ℕ → Type 0
 HasInterfaceList b o = (ts : List Text) × OrNone ClassListAt [] b o ts
@@ -61,7 +58,7 @@ HasInterfaceList b o = (ts : List Text) × OrNone ClassListAt [] b o ts
 pub record HasInterfaces (b : List ℕ) (r o : ℕ) : Type 0 where
   pub types : List Text
   pub list : OrNone ClassListAt [] b o types
-  pub before : All (IsDefinedBefore b r) (interface_indices b o)
+  pub before : All (IsDefinedBefore b r) (listed b o)
 
 -- condition 16 is the first that fails, at its least row; `Memory` says nothing of the file
 abbrev pub IsClassFault : List ℕ → ReadFault → Type 0

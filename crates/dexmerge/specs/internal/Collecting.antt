@@ -11,7 +11,8 @@ use Rattle.dexspec.specs.WellFormed.{IsWellFormed, AreWellFormed}
 use Rattle.dexspec.specs.Mentions.{Mentions, mentions}
 use Rattle.dexspec.specs.Merging.{IsGood, greatest_caps}
 use Rattle.dexpool.specs.Numberings.{AreRising, Maps}
-use Rattle.dexclass.specs.Numbered.{NumberedClass, type_at, definition_of}
+use Rattle.dexpool.specs.NumberedSymbols.{type_at}
+use Rattle.dexclass.specs.Numbered.{NumberedClass, definition_of}
 use Rattle.dexclass.specs.Uses.{IsKnownClass}
 use Rattle.dexclass.specs.Renumbering.{MapsAllInto, ClassHasPlaces}
 use Rattle.dexmerge.specs.Parts.{all_parts, all_definitions}

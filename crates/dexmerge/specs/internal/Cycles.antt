@@ -6,7 +6,8 @@ use Rattle.dexspec.specs.Mentions.{Mentions}
 use Rattle.dexspec.specs.Depth.{IsAcyclic}
 use Rattle.dexspec.specs.Merging.{IsCycle}
 use Rattle.dexorder.specs.Definitions.{AreDepthsOf}
-use Rattle.dexclass.specs.Numbered.{NumberedClass, type_at, definition_of}
+use Rattle.dexpool.specs.NumberedSymbols.{type_at}
+use Rattle.dexclass.specs.Numbered.{NumberedClass, definition_of}
 use Rattle.dexclass.specs.Parents.{name_number, AreNamed, AreDepthsByName}
 use Rattle.dexmerge.specs.Candidates.{classes_of}
 use Rattle.dexmerge.specs.declared.candidates.Candidate.{Candidate}

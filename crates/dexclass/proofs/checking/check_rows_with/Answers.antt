@@ -1,5 +1,6 @@
 use Rattle.dexclass.proofs.Common.{◌≡◌, ◌<◌, ◌+◌, ◌*◌, ◌-◌, ◌^◌, ℕ, min, length, sym, subst, arith, interfaces_off, Condition, ClassDefs, table_size}
-use Rattle.dexclass.specs.internal.Rows.{HasInterfaceList, interface_indices}
+use Rattle.dexids.specs.Reading.{listed}
+use Rattle.dexclass.specs.internal.Rows.{HasInterfaceList}
 use Rattle.dexclass.specs.{IsFaultOf, HaveBodiesOf}
 use Rattle.dexclass.proofs.Interfaces.{row_interfaces}
 use Rattle.dexclass.proofs.RowFaults.{row_fault}
@@ -27,7 +28,7 @@ returns-then-weight-gt-MOST_WEIGHT-clause-refused c =
     let b = c.args.frame.now in
     let r = c.loop-r.r in
     let lt : r < table_size b ClassDefs = omega (arith, c.loop-r-test.true, c.size-r-end.ensures) in
-    let more : c.saturating_add-weight.result ≡ min (2 ^ 64 - 1) (min (2 ^ 64 - 1) (c.loop-r.weight + (96 + 2 * length (interface_indices b (interfaces_off b r)))) + c.in-Ok.members) =
+    let more : c.saturating_add-weight.result ≡ min (2 ^ 64 - 1) (min (2 ^ 64 - 1) (c.loop-r.weight + (96 + 2 * length (listed b (interfaces_off b r)))) + c.in-Ok.members) =
     omega (arith, c.saturating_add-before.ensures, c.saturating_add-weight.ensures, row_interfaces b r c.at-row.result c.interface_count-interfaces.result c.at-row.ensures c.interface_count-interfaces.ensures, c.row_weight.ensures) in
     subst (IsFaultOf b) (sym c.too_heavy.ensures)
     (checked_heavy b c.args.pools.now c.requires.pools c.requires.holds r lt c.loop-r.weight c.in-Ok.members c.saturating_add-weight.result c.loop-r.invariant.bodies_are
@@ -38,7 +39,7 @@ loop-r-preserved c =
     let b = c.args.frame.now in
     let r = c.loop-r.r in
     let lt : r < table_size b ClassDefs = omega (arith, c.loop-r-test.true, c.size-r-end.ensures) in
-    let more : c.saturating_add-weight.result ≡ min (2 ^ 64 - 1) (min (2 ^ 64 - 1) (c.loop-r.weight + (96 + 2 * length (interface_indices b (interfaces_off b r)))) + c.in-Ok.members) =
+    let more : c.saturating_add-weight.result ≡ min (2 ^ 64 - 1) (min (2 ^ 64 - 1) (c.loop-r.weight + (96 + 2 * length (listed b (interfaces_off b r)))) + c.in-Ok.members) =
     omega (arith, c.saturating_add-before.ensures, c.saturating_add-weight.ensures, row_interfaces b r c.at-row.result c.interface_count-interfaces.result c.at-row.ensures c.interface_count-interfaces.ensures, c.row_weight.ensures) in
     record {
       checks_are = c.in-Ok.ensures.checks c.requires.pools;

@@ -1,5 +1,5 @@
-use Rattle.dexclass.proofs.Common.{symbols_of}
-use Rattle.dexclass.specs.{type_at, definition_of, class_uses}
+use Rattle.dexclass.proofs.Common.{symbols_of, type_at}
+use Rattle.dexclass.specs.{definition_of, class_uses}
 use Rattle.dexpool.proofs.MappingAll.{uses_mapped}
 use Rattle.dexclass.proofs.SameClasses.{members_mapped, stays_same}
 use Rattle.dexclass.proofs.laws.renumbering_law.Goals as goal

@@ -1,5 +1,5 @@
-use Rattle.dexclass.proofs.Common.{members_uses, AllZip, Mentions, symbols_of, IsUseOf, members_in, members_symbols}
-use Rattle.dexclass.specs.{type_at, type_numbers, text_numbers, NumberedClass, definition_of, class_uses, IsKnownClass}
+use Rattle.dexclass.proofs.Common.{members_uses, AllZip, Mentions, symbols_of, IsUseOf, members_in, members_symbols, type_at}
+use Rattle.dexclass.specs.{type_numbers, text_numbers, NumberedClass, definition_of, class_uses, IsKnownClass}
 use Rattle.dexclass.proofs.OwnUses.{own_marks, own_zip}
 use Rattle.dexclass.proofs.laws.uses_law.Goals as goal
 

@@ -1,7 +1,8 @@
 use Rattle.dexclass.proofs.Common.{◌≡◌, ◌<◌, ◌+◌, ◌*◌, ◌∙◌, ℕ, ap, length, refl, sym, subst, arith, interfaces_off, Condition, ClassDefs, table_size}
 use Rattle.dexmembers.specs.Checking.{AreChecks}
 use Rattle.dexclass.specs.internal.Reading.{AreBodies}
-use Rattle.dexclass.specs.internal.Rows.{HasInterfaceList, interface_indices}
+use Rattle.dexids.specs.Reading.{listed}
+use Rattle.dexclass.specs.internal.Rows.{HasInterfaceList}
 use Rattle.dexclass.specs.{class_of_row, number_of}
 use Rattle.dexclass.specs.internal.ReadWithin.{IsFaultWithin, IfTooHeavy}
 use Rattle.dexclass.proofs.Interfaces.{row_interfaces}
@@ -12,7 +13,7 @@ use Rattle.dexclass.proofs.reading.read_bodies_within.Goals as goal
 use Rattle.dexclass.proofs.reading.read_bodies_within.Goals.{After-row_weight-own}
 
 -- what the row weighs without its members
-own : (c : After-row_weight-own) → c.row_weight-own.result ≡ 96 + 2 * length (interface_indices c.args.frame.now (interfaces_off c.args.frame.now c.loop-r.r))
+own : (c : After-row_weight-own) → c.row_weight-own.result ≡ 96 + 2 * length (listed c.args.frame.now (interfaces_off c.args.frame.now c.loop-r.r))
 own c = omega (arith, row_interfaces c.args.frame.now c.loop-r.r c.at-row.result c.interface_count-count.result c.at-row.ensures c.interface_count-count.ensures, c.row_weight-own.ensures)
 
 pub interface_count-count-requires : goal.interface_count-count-requires
@@ -61,7 +62,7 @@ loop-r-preserved c =
     let row = c.at-row.ensures in
     let read = c.in-Ok.ensures.read c.loop-r.r row c.requires.pools (c.requires.before Condition.Classes (omega arith) c.loop-r.r lt) in
     let superclass = c.number_of.ensures ∙ ap number_of (sym row.superclass_is) in
-    let interfaces = c.listed-interfaces.ensures ∙ ap (interface_indices b) (sym row.interfaces_are) in
+    let interfaces = c.listed-interfaces.ensures ∙ ap (listed b) (sym row.interfaces_are) in
     let source = c.number_of-in-loop-r.ensures ∙ ap number_of (sym row.source_is) in
     let class : _ ≡ class_of_row b c.loop-r.r c.in-Ok.found.0 w =
     λ i. record { name = sym row.class_is i; flags = sym row.flags_are i; superclass = superclass i; interfaces = interfaces i; source = source i; members = c.in-Ok.found.0; weight = w } in

@@ -1,5 +1,5 @@
-use Rattle.dexclass.proofs.Common.{map, sym, subst, All, definitions, in_class_order, Mentions, mentions, greatest_caps, strip, stripped_members, AreRising}
-use Rattle.dexclass.specs.{type_at, definition_of, IsKnownClass}
+use Rattle.dexclass.proofs.Common.{map, sym, subst, All, definitions, in_class_order, Mentions, mentions, greatest_caps, strip, stripped_members, AreRising, type_at}
+use Rattle.dexclass.specs.{definition_of, IsKnownClass}
 use Rattle.dexclass.specs.internal.Trimming.{AreTrimmed}
 use Rattle.dexclass.proofs.StrippedPrograms.{class_stripped, class_known, all_known, all_stripped, stripped_mergeable, stripped_in_order, stripped_collection}
 use Rattle.dexclass.proofs.stripping.into_stripped.Goals as goal

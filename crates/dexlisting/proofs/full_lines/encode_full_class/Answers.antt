@@ -5,7 +5,7 @@ use Rattle.std.specs.Option.{option_map, option_map_or}
 use Rattle.dexval.specs.Code.{value_of}
 use Rattle.dexval.specs.Numbered.{NumberedValues, NoValue, values_of_list, IsKnownSet, set_in, values_in, method_at}
 use Rattle.dexmembers.specs.Numbered.{NumberedMembers, NumberedField, NumberedMethod, field_in, method_in}
-use Rattle.dexclass.specs.Numbered.{type_at, text_at}
+use Rattle.dexpool.specs.NumberedSymbols.{text_at, type_at}
 use Rattle.dexio.proofs.Encoded.{then_given}
 use Rattle.dexout.proofs.Given.{next_part, last_part}
 use Rattle.dexlisting.specs.Listing.{interface_line, source_line}

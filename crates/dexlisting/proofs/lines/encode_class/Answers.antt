@@ -4,7 +4,7 @@ use Rattle.std.specs.List.{flat_map}
 use Rattle.std.specs.Option.{option_map, option_map_or}
 use Rattle.dexmembers.specs.Numbered.{NumberedMembers, NumberedField, NumberedMethod, field_in, method_in}
 use Rattle.dexlisting.specs.Listing.{field_line, method_lines, interface_line, source_line, class_lines}
-use Rattle.dexclass.specs.Numbered.{type_at, text_at}
+use Rattle.dexpool.specs.NumberedSymbols.{text_at, type_at}
 use Rattle.dexio.proofs.Encoded.{then_given}
 use Rattle.dexout.proofs.Given.{next_part, last_part}
 use Rattle.dexlisting.proofs.Shown.{mapped}

@@ -1,7 +1,7 @@
 use Rattle.std.proofs.Common.{take}
 use Rattle.std.specs.List.{flat_map}
 use Rattle.dexlisting.specs.Listing.{interface_line}
-use Rattle.dexclass.specs.Numbered.{type_at}
+use Rattle.dexpool.specs.NumberedSymbols.{type_at}
 use Rattle.dexlisting.proofs.lines.encode_interfaces.Given as goal
 
 abbrev pub invariant-loop-k : goal.invariant-loop-k

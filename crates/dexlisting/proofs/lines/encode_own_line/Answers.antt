@@ -5,7 +5,7 @@ use Rattle.dexio.proofs.Encoded.{then_given}
 use Rattle.dexflags.specs.Flags.{OfClass, flags_text}
 use Rattle.dexout.specs.Printed.{shown}
 use Rattle.dexlisting.specs.Listing.{own_line}
-use Rattle.dexclass.specs.Numbered.{type_at}
+use Rattle.dexpool.specs.NumberedSymbols.{type_at}
 use Rattle.dexout.proofs.Given.{next_part}
 use Rattle.dexlisting.proofs.ClassParts.{superclass_in}
 use Rattle.dexlisting.proofs.lines.encode_own_line.Goals as goal

@@ -2,7 +2,7 @@ use Rattle.std.proofs.Common.{ap, [], ◌∷◌, ◌∙◌}
 use Rattle.std.specs.List.{flat_map}
 use Rattle.dexio.proofs.Encoded.{then_given}
 use Rattle.dexout.specs.Printed.{shown}
-use Rattle.dexclass.specs.Numbered.{type_at}
+use Rattle.dexpool.specs.NumberedSymbols.{type_at}
 use Rattle.dexout.proofs.Given.{next_part, last_part}
 use Rattle.dexlisting.proofs.RowParts.{proto_row, all_within, types_shown}
 use Rattle.dexlisting.proofs.parts.encode_proto.Goals as goal

@@ -1,7 +1,7 @@
 use Rattle.std.proofs.Common.{take}
 use Rattle.std.specs.List.{flat_map}
 use Rattle.dexout.specs.Printed.{shown}
-use Rattle.dexclass.specs.Numbered.{type_at}
+use Rattle.dexpool.specs.NumberedSymbols.{type_at}
 use Rattle.dexlisting.proofs.parts.encode_types.Given as goal
 
 abbrev pub invariant-loop-k : goal.invariant-loop-k

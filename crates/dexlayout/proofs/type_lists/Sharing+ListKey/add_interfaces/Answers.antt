@@ -1,5 +1,5 @@
 use Rattle.dexlayout.proofs.Common.{◌≡◌, ℕ, List, [], ◌∷◌, ◌++◌, map, take, subst, sym, ap, ◌∙◌, ◌<◌, arith, option_to_list, length, All-tail, all_back, get_or, get_or_default, unless_empty, IsKnownClass, AreTypes, SharesLists, interfaces_use}
-use Rattle.dexclass.specs.Numbered.{type_at}
+use Rattle.dexpool.specs.NumberedSymbols.{type_at}
 use Rattle.dexlayout.proofs.SharedUses.{uses_next}
 use Rattle.dexlayout.proofs.EarlierLists.{earlier_list, lists_before}
 use Rattle.dexlayout.proofs.type_lists.Sharing+ListKey.add_interfaces.Goals as goal

@@ -38,7 +38,7 @@ good_nothing = record {
 }
 
 -- a collection without members has no definitions
-no_definitions : definitions (finite.empty {R = text_cmp}) ≡ []
+pub no_definitions : definitions (finite.empty {R = text_cmp}) ≡ []
 no_definitions = nil_from_length (definitions finite.empty) (sym (finite.len-entries finite.empty) ∙ finite.len-empty text_cmp Body)
 
 -- no classes over no symbols

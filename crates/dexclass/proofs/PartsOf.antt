@@ -1,9 +1,10 @@
 -- Some of the classes that can be merged, and the classes of a program, can be merged.
-use Rattle.dexclass.proofs.Common.{◌≡◌, ℕ, ◌+◌, ◌<◌, Bool, true, false, List, [], ◌∷◌, ◌++◌, length, get_or, map, take, drop, refl, sym, ap, ◌∙◌, subst, arith, append-nil, All, All-nil, All-cons, All-head, All-tail, Contains, flat_map, get_or-take, get_or-drop, length-take, length-drop, take-map, drop-map, take-append-drop, map-append, append_assoc, flat_map-append, All-take, All-drop, Contains-append_left, Contains-append_right, AreDistinct, Definition, Collection, definitions, Mentions, mentions, in_class_order, AreWellFormed, IsGood, greatest_caps, IsGood-within, mentions-same, definitions-distinct, in_class_order-only, in_class_order-has, class_names-apart, IsNumbering, AreAmong-map}
+use Rattle.dexclass.proofs.Common.{◌≡◌, ℕ, ◌+◌, ◌<◌, Bool, true, false, List, [], ◌∷◌, ◌++◌, length, get_or, map, take, drop, refl, sym, ap, ◌∙◌, subst, arith, append-nil, All, Contains, get_or-take, get_or-drop, length-take, length-drop, take-map, drop-map, take-append-drop, All-take, All-drop, Contains-append_left, Contains-append_right, AreDistinct, Definition, Collection, definitions, Mentions, mentions, in_class_order, AreWellFormed, IsGood, greatest_caps, IsGood-within, mentions-same, definitions-distinct, in_class_order-only, in_class_order-has, class_names-apart, IsNumbering, AreAmong-map}
 use Rattle.dexspec.proofs.lists.Members.{AreDistinct-first, AreDistinct-rest}
 use Rattle.dexspec.proofs.lists.Searches.{AreDistinct-cons}
 use Rattle.dexpool.specs.Cut.{kept}
 use Rattle.dexpool.proofs.KeptPlaces.{kept_among}
+use Rattle.dexpool.proofs.KeptRows.{kept_all, kept-map}
 use Rattle.dexclass.specs.{NumberedClass, definition_of, IsKnownClass, AreClassesOf, AreMergeable}
 use Rattle.dexclass.specs.internal.Parts.{AreGoodClasses}
 use Rattle.dexclass.proofs.Places.{one_place, seen_apart}
@@ -31,16 +32,6 @@ AreDistinct-kept (true ∷ marks) (x ∷ xs) h =
     AreDistinct-cons x (kept marks xs) (λ c. AreDistinct-first x xs h x (kept_among marks xs x c) refl) (AreDistinct-kept marks xs (AreDistinct-rest x xs h))
 AreDistinct-kept (false ∷ marks) (x ∷ xs) h = AreDistinct-kept marks xs (AreDistinct-rest x xs h)
 AreDistinct-kept _ _ h = λ i j d less lt e. absurd (omega (arith, less, lt))
-
-kept-map : {X Y : Type 0} (f : X → Y) (marks : List Bool) (xs : List X) → kept marks (map f xs) ≡ map f (kept marks xs)
-kept-map f (true ∷ marks) (x ∷ xs) = ap (λ ys. f x ∷ ys) (kept-map f marks xs)
-kept-map f (false ∷ marks) (x ∷ xs) = kept-map f marks xs
-kept-map f _ _ = refl
-
-All-kept : {X : Type 0} (P : X → Type 0) (marks : List Bool) (xs : List X) → All P xs → All P (kept marks xs)
-All-kept P (true ∷ marks) (x ∷ xs) all = All-cons P x (kept marks xs) (All-head P x xs all) (All-kept P marks xs (All-tail P x xs all))
-All-kept P (false ∷ marks) (x ∷ xs) all = All-kept P marks xs (All-tail P x xs all)
-All-kept P _ _ all = All-nil P
 
 pub kept-nil : {X : Type 0} (marks : List Bool) → kept {R = X} marks [] ≡ []
 kept-nil [] = refl
@@ -104,7 +95,7 @@ module _ (m : Mentions) (cs : List NumberedClass) where
   -- and are good where all are
   pub kept_good : AreGoodClasses m cs → (flags : List Bool) → AreGoodClasses m (kept flags cs)
   kept_good h flags = record {
-    known = All-kept (IsKnownClass m) flags cs h.known;
+    known = kept_all (IsKnownClass m) flags cs h.known;
     names_differ = subst AreDistinct (kept-map (λ (d : Definition). d.0) flags (map (definition_of m) cs) ∙ ap (map (λ (d : Definition). d.0)) (kept-map (definition_of m) flags cs))
         (AreDistinct-kept flags (map (λ (d : Definition). d.0) (map (definition_of m) cs)) h.names_differ);
     good = IsGood-within (map (definition_of m) (kept flags cs)) (map (definition_of m) cs) (kept_within flags) greatest_caps h.good;

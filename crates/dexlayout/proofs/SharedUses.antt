@@ -1,9 +1,10 @@
 -- Uses that share items by a test of equality: one use more, and items that are mapped one to one.
-use Rattle.dexlayout.proofs.Common.{◌≡◌, ◌⊎◌, ℕ, zero, suc, arith, length-map, get_or-map, Bool, true, false, cond, not, ◌||◌, List, [], ◌∷◌, ◌++◌, ◌+◌, ◌<◌, length, get_or, map, take, append_assoc, None, Some, refl, sym, ap, subst, ◌∙◌, inl, inr, Option, All, Result, Ok, Err, IfOk, OnOk, Contains, filter, list_any, position_or_len, option_map, append-nil, map-append, take_more, filter-append, All-nil, All-cons, All-append, All-contains, Contains-get_or, present, distinct, shared_items, unless_empty, Contains-nil, Contains-first, Contains-later, Contains-cons_cases, list_any-source, present-append, numbers_mapped, distinct_source, AreShared, HaveItems, SharedTo, if◌then◌else◌}
+use Rattle.dexlayout.proofs.Common.{◌≡◌, ◌⊎◌, ℕ, arith, length-map, get_or-map, Bool, true, false, cond, not, ◌||◌, List, [], ◌∷◌, ◌++◌, ◌+◌, ◌<◌, length, get_or, map, take, append_assoc, None, Some, refl, sym, ap, subst, ◌∙◌, inl, inr, Option, All, Result, Ok, Err, IfOk, OnOk, Contains, filter, list_any, position_or_len, option_map, append-nil, map-append, take_more, filter-append, All-nil, All-cons, All-append, All-contains, Contains-get_or, present, distinct, shared_items, unless_empty, Contains-nil, Contains-first, Contains-later, Contains-cons_cases, list_any-source, present-append, numbers_mapped, distinct_source, AreShared, HaveItems, SharedTo, if◌then◌else◌}
 use Rattle.std.specs.Cmp.{IsEquivalence}
 use Rattle.std.proofs.lemmas.List.{get_or_default}
 use Rattle.std.proofs.lemmas.Map.Views.{any-filter_same}
 use Rattle.dexspec.proofs.lists.Distinct.{with_last, insert_grows, distinct_mapped}
+use Rattle.dexspec.proofs.sharing.Sharing.{present_has}
 use Rattle.dexspec.proofs.lists.FirstPlaces.{position_within, position_stays, position_last, position_none, position_equal, any_equal}
 
 -- ---- one more item
@@ -107,14 +108,6 @@ module _ {X : Type 0} (same : X → X → Bool) (laws : IsEquivalence same) wher
               ∙ sym (map-append (option_map (number_in all)) uses (Some x ∷ []))
               ∙ ap (λ es. map (option_map (number_in es)) (uses ++ Some x ∷ [])) (sym is);
         }
-
--- what is present is a use
-present_has : {X : Type 0} (us : List (Option X)) (i : ℕ) (x : X) → i < length us → get_or us i None ≡ Some x → Contains (present us) x
-present_has [] i x lt e = absurd (omega (arith, lt))
-present_has (None ∷ us) zero x lt e = absurd cc
-present_has (None ∷ us) (suc i) x lt e = present_has us i x (omega (arith, lt)) e
-present_has (Some y ∷ us) zero x lt e = let same : y ≡ x = cc in subst (Contains (y ∷ present us)) same (Contains-first y (present us))
-present_has (Some y ∷ us) (suc i) x lt e = Contains-later y x (present us) (present_has us i x (omega (arith, lt)) e)
 
 module _ {X : Type 0} (same : X → X → Bool) (laws : IsEquivalence same) {uses : List (Option X)} {written : List X} {numbers : List (Option ℕ)} (h : HaveItems same uses written numbers) where
   again : (place : ℕ) → place < length numbers → HaveItems same (uses ++ get_or uses place None ∷ []) written (numbers ++ get_or numbers place None ∷ [])

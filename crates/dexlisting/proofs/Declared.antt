@@ -5,7 +5,7 @@ use Rattle.std.specs.Borrow.{Bor}
 use Rattle.std.specs.List.{flat_map}
 use Rattle.std.specs.Option.{option_map, option_map_or}
 use Rattle.std.specs.Slice.{IsItemAt}
-use Rattle.std.proofs.lemmas.List.{get_or-map, length-map, drop_more, length-append, get_or_append_left, get_or-append-add}
+use Rattle.std.proofs.lemmas.List.{get_or-map, length-map, drop_more}
 use Rattle.std.proofs.lemmas.List.Elements.{All-head, All-tail}
 use Rattle.dexspec.specs.Texts.{Text}
 use Rattle.dexspec.specs.Mentions.{Mentions}
@@ -123,11 +123,3 @@ pub debug_shown : (m : Mentions) (d : Option NumberedDebug) (r : Option (Bor Num
     → option_map_or (λ x. debug_lines (debug_in m x.now)) r [] ≡ option_map_or debug_lines (option_map (debug_in m) d) []
 debug_shown m d None h = ap (λ o. option_map_or debug_lines (option_map (debug_in m) o) []) (sym h)
 debug_shown m d (Some x) h = ap (λ o. option_map_or debug_lines (option_map (debug_in m) o) []) (sym h)
-
--- ---- all of two lists
-
-pub all_first : {X : Type 0} (P : X → Type 0) (xs ys : List X) → All P (xs ++ ys) → All P xs
-all_first P xs ys all = λ k d lt. subst P (get_or_append_left xs ys d k lt) (all k d (omega (arith, length-append xs ys, lt)))
-
-pub all_last : {X : Type 0} (P : X → Type 0) (xs ys : List X) → All P (xs ++ ys) → All P ys
-all_last P xs ys all = λ k d lt. subst P (get_or-append-add xs ys k d) (all (length xs + k) d (omega (arith, length-append xs ys, lt)))

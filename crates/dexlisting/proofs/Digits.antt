@@ -50,7 +50,8 @@ before_others (suc k) i j m acc fits = by_size (m / 16) refl (before_others k i 
         ∙ sym (append_assoc front (d ∷ []) acc)
         ∙ ap (λ ds. ds ++ acc) (sym (more_digits (suc k + j) m [] more ∙ ap (λ n. digits_onto n 16 false (m / 16) (d ∷ [])) right ∙ there less))
 
-digit_is : (n : ℕ) → hexadecimal_digit n ≡ digit_glyph false (n % 16)
+-- the digit of a number's last four bits is that of the rest by 16
+pub digit_is : (n : ℕ) → hexadecimal_digit n ≡ digit_glyph false (n % 16)
 digit_is n = by_size (nat_lt (n % 16) 10) (n % 16)
   where
     by_size : (b : Bool) (d : ℕ) → cond b (d + 48) (d + 87) ≡ cond b (48 + d) (87 + d)

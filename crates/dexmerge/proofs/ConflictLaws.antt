@@ -1,5 +1,6 @@
 -- The least name of different classes, class by class.
-use Rattle.dexmerge.proofs.Common.{◌≡◌, ℕ, ◌+◌, ◌<◌, min, List, length, get_or, refl, sym, ap, ◌∙◌, subst, arith, inl, inr, Option, Some, None, IsSome, MatchOption, cases_lt, NumberedClass, name_number, ArePlaces, places_all, same_Some, below_more}
+use Rattle.dexmerge.proofs.Common.{◌≡◌, ℕ, ◌+◌, ◌<◌, min, List, length, get_or, refl, sym, ap, ◌∙◌, subst, arith, inl, inr, Option, Some, None, MatchOption, cases_lt, NumberedClass, name_number, ArePlaces, places_all, same_Some, below_more}
+use Rattle.dexinsn.proofs.IndexRoom.{size_is}
 use Rattle.dexmerge.specs.{class_at, IsEqualCopy, IsConflicting, IsFirstConflict, lesser_of}
 
 -- this name has different classes, and no lesser name has any among the first n classes
@@ -12,10 +13,6 @@ abbrev pub IsLeastTo : List NumberedClass → List (Option ℕ) → ℕ → Opti
 IsLeastTo cs places n None = (i : ℕ) → i < n → IsEqualCopy cs places i
 IsLeastTo cs places n (Some name) = IsConflictingWith cs places n name
 
-pub option_is : (o : Option ℕ) → IsSome o → (k : ℕ) × (o ≡ Some k)
-option_is None s = absurd cc
-option_is (Some k) s = (k, refl)
-
 module _ (cs : List NumberedClass) (places : List (Option ℕ)) where
   -- one more class that is equal to the kept one
   pub equivalent_next : (n : ℕ) (least : Option ℕ) → IsLeastTo cs places n least → IsEqualCopy cs places n → IsLeastTo cs places (n + 1) least
@@ -25,7 +22,7 @@ module _ (cs : List NumberedClass) (places : List (Option ℕ)) where
   -- one more class that is different from the kept one
   conflict_is : (n : ℕ) → n < length cs → ArePlaces cs places → (IsEqualCopy cs places n → ⊥) → IsConflicting cs places (name_number cs n)
   conflict_is n lt h unequal =
-      let kept = option_is (get_or places (name_number cs n) None) (places_all cs places h n lt) in
+      let kept = size_is (get_or places (name_number cs n) None) (places_all cs places h n lt) in
       record {
         place = n;
         kept = kept.0;

@@ -1,7 +1,5 @@
 -- The definitions of the parts of a plan.
-use Rattle.dexmerge.proofs.Common.{◌≡◌, ℕ, zero, suc, ◌<◌, ◌≢◌, List, [], ◌∷◌, ◌++◌, length, get_or, refl, sym, ap, ◌∙◌, subst, inl, inr, slice_set, cases_eq, length-set, text_cmp, Body, Contains, flat_map, append-nil, flat_map-append, Contains-append_left, Contains-append_right, Contains-append_cases, Contains-get_or, Definition, Collection, definitions, AreSame, AreWithin, Caps, Cause, IsFirstCause, AreLeaves, Plan, Leaf, Node, leaves, all_leaves, Contains-nil, Contains-cons_cases, Contains-flat_map, IsGood-within, IsCause-within, first_cause-same, All-contains, AreAmong-append, AreAmong-refl}
-use Rattle.std.proofs.lemmas.List.{nil_from_length}
-use Rattle.std.specs.FinMap as finite
+use Rattle.dexmerge.proofs.Common.{◌≡◌, ℕ, zero, suc, ◌<◌, ◌≢◌, List, [], ◌∷◌, ◌++◌, length, get_or, refl, sym, ap, ◌∙◌, subst, inl, inr, slice_set, cases_eq, length-set, Contains, flat_map, append-nil, flat_map-append, Contains-append_left, Contains-append_right, Contains-append_cases, Contains-get_or, Definition, Collection, definitions, AreSame, AreWithin, Caps, Cause, IsFirstCause, AreLeaves, Plan, Leaf, Node, leaves, all_leaves, Contains-nil, Contains-cons_cases, Contains-flat_map, IsGood-within, IsCause-within, first_cause-same, All-contains, AreAmong-append, AreAmong-refl}
 use Rattle.dexspec.specs.Merging as merging
 use Rattle.dexmerge.specs.declared.faults.MergeFault.{MergeFault}
 use Rattle.dexmerge.specs.declared.faults.MergeFault.TheVariants as fault
@@ -113,10 +111,6 @@ module _ (G N : List Collection) (D : List Definition) (left : AreLeft D G N) wh
     holds = IsCause-within (planned N (Node qs)) (planned G (Node (plans_of ps))) (λ d c. part_within G ps (Node qs) has d (now_within (leaves (Node qs)) d c)) caps cause x.holds;
     first = λ flat. absurd (no_leaves ps qs has flat);
   }) f
-
--- a program without classes defines nothing
-pub no_definitions : definitions (finite.empty {R = text_cmp}) ≡ []
-no_definitions = nil_from_length (definitions finite.empty) (sym (finite.len-entries finite.empty) ∙ finite.len-empty text_cmp Body)
 
 -- a file that defines nothing, instead of another
 none_there : (files : List Collection) (number : ℕ) (K : Collection) → definitions K ≡ [] → of_file (slice_set files number K) number ≡ []

@@ -2,7 +2,7 @@
 use Rattle.dexmerge.proofs.Common.{◌≡◌, ℕ, zero, suc, ◌+◌, ◌<◌, ◌≤◌, List, [], ◌∷◌, length, get_or, map, refl, sym, ap, ◌∙◌, subst, arith, inl, inr, Option, Some, None, Less, All, Contains, cases_order, length-map, get_or-map, get_or_default, Contains-get_or, present, AreDistinct, Text, text_cmp, Body, Definition, Mentions, Caps, IsConflict, IsConsistent, Cause, Conflict, Cycle, Exceeded, IsCause, IsReportedBefore, IsFirstCause, Contains-first, Contains-later, consistent-apart, Contains-map, Contains-map_source, AreRising, NumberedClass, type_at, definition_of, IsKnownClass, no_class, name_number, parent_numbers, ArePlaces, places_some, places_all, All-tail, present_source}
 use Rattle.dexclass.proofs.NamesOf.{less_type}
 use Rattle.dexclass.proofs.Remapped.{one_at}
-use Rattle.dexmerge.proofs.ConflictLaws.{option_is}
+use Rattle.dexinsn.proofs.IndexRoom.{size_is}
 use Rattle.dexmerge.specs.{AreMembers, class_at, IsEqualCopy, IsFirstConflict, kept_classes}
 use Rattle.dexmerge.specs.internal.Cycles.{AreKept, IsFirstCycle}
 
@@ -74,7 +74,7 @@ module _ (m : Mentions) (rising : AreRising m) where
       -- classes of one name that are equal to the kept one are equal
       equivalent_same : (i j : ℕ) → i < length cs → name_number cs i ≡ name_number cs j → IsEqualCopy cs places i → IsEqualCopy cs places j → class_at cs i ≡ class_at cs j
       equivalent_same i j lt e f g =
-          let k = option_is (get_or places (name_number cs i) None) (places_all cs places h i lt) in
+          let k = size_is (get_or places (name_number cs i) None) (places_all cs places h i lt) in
           f k.0 k.1 ∙ sym (g k.0 (ap (λ (n : ℕ). get_or places n None) (sym e) ∙ k.1))
 
       -- the least name of different classes is the first cause
@@ -128,7 +128,7 @@ module _ (m : Mentions) (rising : AreRising m) where
       -- and each class that is equal to the kept one is kept
       kept_has : (i : ℕ) → i < length cs → IsEqualCopy cs places i → Contains (kept_classes cs places) (class_at cs i)
       kept_has i lt equivalent =
-          let k = option_is (get_or places (name_number cs i) None) (places_all cs places h i lt) in
+          let k = size_is (get_or places (name_number cs i) None) (places_all cs places h i lt) in
           subst (Contains (kept_classes cs places)) (sym (equivalent k.0 k.1)) (Contains-map (class_at cs) (present places) k.0 (present_at places (name_number cs i) k.0 k.1))
 
       -- where all classes of each name are equal, those that are kept denote the same definitions

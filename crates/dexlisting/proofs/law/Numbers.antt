@@ -10,6 +10,7 @@ use Rattle.dexstr.specs.Escapes.{escaped, hexadecimal_digit}
 use Rattle.dexout.specs.Printed.{count_text, place_text}
 use Rattle.dexflags.specs.Flags.{FlagsOf, flag_names, flags_text}
 use Rattle.dexlisting.specs.FullListing.{is_between, signed_text, register_text, literal_text}
+use Rattle.dexlisting.proofs.Digits.{digit_is}
 use Rattle.dexlisting.proofs.law.Reads.{Reads, Anything, Ends, after, reads_words}
 use Rattle.dexlisting.proofs.law.Spans.{all_below, passes_below, Pass, same_span, head_is}
 
@@ -105,17 +106,9 @@ reads_literal = reads_words (codes "#") reads_signed
 
 -- ---- hexadecimal numbers
 
--- the digit of a number's last four bits is that of the rest by 16
-glyph_of : (n : ℕ) → hexadecimal_digit n ≡ digit_glyph false (n % 16)
-glyph_of n = go (nat_lt (n % 16) 10)
-  where
-    go : (low : Bool) → (if low then n % 16 + 48 else n % 16 + 87) ≡ (if low then 48 + n % 16 else 87 + n % 16)
-    go true = omega arith
-    go false = omega arith
-
 -- the digit of a number's last four bits is hexadecimal
 pass_digit : (n : ℕ) → is_hexadecimal (hexadecimal_digit n) ≡ true
-pass_digit n = subst (λ d. is_hexadecimal d ≡ true) (sym (glyph_of n)) (passes_below (λ d. is_hexadecimal (digit_glyph false d)) 16 (n % 16) refl (omega arith))
+pass_digit n = subst (λ d. is_hexadecimal d ≡ true) (sym (digit_is n)) (passes_below (λ d. is_hexadecimal (digit_glyph false d)) 16 (n % 16) refl (omega arith))
 
 -- a number of four digits, with zeros before it
 pub pass_place : (n : ℕ) → Pass is_hexadecimal (place_text n)
@@ -125,7 +118,7 @@ pass_place n = pass_either is_hexadecimal (nat_lt n 0x1000) (drop 2 (escaped n))
 
 -- the value of a digit
 pub value_of : (n : ℕ) → digit_value (hexadecimal_digit n) ≡ n % 16
-value_of n = ap digit_value (glyph_of n) ∙ eqb-true _ _ (passes_below (λ d. digit_value (digit_glyph false d) == d) 16 (n % 16) refl (omega arith))
+value_of n = ap digit_value (digit_is n) ∙ eqb-true _ _ (passes_below (λ d. digit_value (digit_glyph false d) == d) 16 (n % 16) refl (omega arith))
 
 -- the number that four digits write
 four_digits : (n : ℕ) → n < 0x1000 → digits_value 16 (drop 2 (escaped n)) ≡ n

@@ -1,8 +1,9 @@
 -- The units of a piece say what it is.
-use Rattle.dexspec.proofs.Common.{◌≡◌, ℕ, ◌%◌, ◌/◌, List, Some, None, ap, sym, subst, ◌∙◌, arith, slice_index, slice_set, get_or-set_other, Bool, true, false, if◌then◌else◌, option_and_then}
+use Rattle.dexspec.proofs.Common.{◌≡◌, ℕ, List, Some, None, ap, sym, subst, ◌∙◌, slice_index, true, false, if◌then◌else◌, option_and_then}
 use Rattle.dexspec.specs.Opcodes.{opcode_of}
 use Rattle.dexspec.specs.Pieces.{Piece, Instruction, Payload, DenotesPiece, index_pool, with_index, is_wide_index, is_payload_ident, low_byte}
 use Rattle.dexspec.specs.Symbols.{pool_of}
+use Rattle.dexspec.proofs.wellformed.ShortStrings.{first_kept}
 
 -- what the units of a piece say of it
 abbrev pub FitsUnits : Piece → Type 0
@@ -11,12 +12,8 @@ FitsUnits (Instruction us (Some s)) = index_pool us ≡ Some (pool_of s)
 FitsUnits (Payload us) = is_payload_ident (slice_index us 0) ≡ true
 
 -- an index does not change the first unit
-kept_by : (us : List ℕ) (t : Bool) → slice_index (if t then slice_set (slice_set us 1 (0 % 65536)) 2 (0 / 65536) else slice_set us 1 0) 0 ≡ slice_index us 0
-kept_by us true = get_or-set_other (slice_set us 1 0) 2 0 0 0 (λ e. omega (arith, e)) ∙ get_or-set_other us 1 0 0 0 (λ e. omega (arith, e))
-kept_by us false = get_or-set_other us 1 0 0 0 (λ e. omega (arith, e))
-
 pub first_unit_kept : (us : List ℕ) → slice_index (with_index 0 us) 0 ≡ slice_index us 0
-first_unit_kept us = kept_by us (is_wide_index us)
+first_unit_kept us = first_kept us (is_wide_index us)
 
 -- a piece of code fits its units
 pub denotes_fits : (us : List ℕ) (p : Piece) → DenotesPiece (λ i s. i ≡ 0) us p → FitsUnits p

@@ -6,6 +6,7 @@ use Rattle.dexval.specs.Code.{value_of}
 use Rattle.dexval.specs.Numbered.{NumberedValues, NoValue, values_of_list, IsKnownSet, set_in, values_in, method_at}
 use Rattle.dexmembers.specs.Numbered.{NumberedMembers, NumberedField, NumberedMethod, field_in, method_in}
 use Rattle.dexpool.specs.NumberedSymbols.{text_at, type_at}
+use Rattle.dexpool.proofs.Parts.{all_back, all_prefix}
 use Rattle.dexio.proofs.Encoded.{then_given}
 use Rattle.dexout.proofs.Given.{next_part, last_part}
 use Rattle.dexlisting.specs.Listing.{interface_line, source_line}
@@ -13,7 +14,7 @@ use Rattle.dexlisting.specs.FullListing.{set_lines, full_method_lines, full_clas
 use Rattle.dexlisting.specs.internal.Known.{field_lines}
 use Rattle.dexlisting.proofs.Shown.{mapped}
 use Rattle.dexlisting.proofs.ClassParts.{interfaces_in, source_in}
-use Rattle.dexlisting.proofs.Declared.{one_set, static_fields_are, instance_fields_are, methods_are, all_first, all_last}
+use Rattle.dexlisting.proofs.Declared.{one_set, static_fields_are, instance_fields_are, methods_are}
 use Rattle.dexlisting.proofs.full_lines.encode_full_class.Goals as goal
 
 pub encode_interfaces-requires : goal.encode_interfaces-requires
@@ -60,6 +61,6 @@ returns g c =
     ∙ static_fields_are (map (field_in m) x.static_fields) (values_in m x.static_values)) c.encode_full_fields.ensures
     (next_part G B (ap (λ fs. fields (codes "  instance-field ") fs NoValue) (c.instance_fields.ensures ∙ ap (λ (y : NumberedMembers). y.instance_fields) c.members-members.ensures) ∙ instance_fields_are (map (field_in m) x.instance_fields)) c.encode_full_fields-2.ensures
     (next_part G B (ap (methods (codes "  direct-method ")) (c.direct_methods.ensures ∙ ap (λ (y : NumberedMembers). y.direct_methods) c.members-members.ensures)
-    ∙ methods_are m class (codes "  direct-method ") x.direct_methods (all_first (λ y. (method_at m y.number).class ≡ class) x.direct_methods x.virtual_methods own)) c.encode_full_methods.ensures
+    ∙ methods_are m class (codes "  direct-method ") x.direct_methods (all_prefix (λ y. (method_at m y.number).class ≡ class) x.direct_methods x.virtual_methods own)) c.encode_full_methods.ensures
     (last_part G B (ap (methods (codes "  virtual-method ")) (c.virtual_methods.ensures ∙ ap (λ (y : NumberedMembers). y.virtual_methods) c.members-members.ensures)
-    ∙ methods_are m class (codes "  virtual-method ") x.virtual_methods (all_last (λ y. (method_at m y.number).class ≡ class) x.direct_methods x.virtual_methods own)) c.encode_full_methods-2.ensures)))))))
+    ∙ methods_are m class (codes "  virtual-method ") x.virtual_methods (all_back (λ y. (method_at m y.number).class ≡ class) x.direct_methods x.virtual_methods own)) c.encode_full_methods-2.ensures)))))))

@@ -1,5 +1,6 @@
 use Rattle.dexmerge.proofs.Common.{ap, ◌∙◌, definitions}
-use Rattle.dexmerge.proofs.PlannedLaws.{file_left, no_definitions}
+use Rattle.dexclass.proofs.EmptyPrograms.{no_definitions}
+use Rattle.dexmerge.proofs.PlannedLaws.{file_left}
 use Rattle.dexmerge.proofs.plan_union.take_file.Goals as goal
 
 pub returns-clause-left : goal.returns-clause-left

@@ -21,7 +21,7 @@ use std::alloc::Global;
 /// The most bytes that are buffered.
 const ROOM: usize = 65536;
 
-// Whether the class at a place is chosen.
+// Returns whether the class at a place is chosen.
 fn is_chosen(flags: &[bool], place: usize) -> bool
     ensures { result ≡ slice_index_or flags.now place true }
 {

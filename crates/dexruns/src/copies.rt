@@ -93,14 +93,14 @@ pub(crate) struct Copies {
     pub(crate) others: Vec<ClassCopy>,
 }
 
-// Whether some of the copies is in one of the first files, of which there are `old`.
+// Returns whether some of the copies is in one of the first files, of which there are `old`.
 fn some_old(copies: &[ClassCopy], old: usize) -> bool
     ensures { result ≡ has_old old copies.now }
 {
     copies.iter().any(|copy| copy.file < old)
 }
 
-// Whether some of the copies is in none of the first files, of which there are `old`.
+// Returns whether some of the copies is in none of the first files, of which there are `old`.
 fn some_new(copies: &[ClassCopy], old: usize) -> bool
     ensures { result ≡ has_new old copies.now }
 {

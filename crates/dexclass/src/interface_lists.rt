@@ -213,7 +213,8 @@ impl<'a> Interfaces<'a> {
 
     // The bytes of the list, if it has two for each number, in a file or in a list of which others are parts too.
     fn bytes(&self) -> Option<&[u8]>
-        ensures { IfSome result (λ bytes. self.now ≡ ushorts_at bytes.now 0 (length bytes.now / 2)) }
+        ensures { IfSome result
+            (λ bytes. self.now ≡ ushorts_at bytes.now 0 (length bytes.now / 2)) }
     {
         match &self.kept {
             Kept::File(list) => Some(list.bytes),

@@ -120,7 +120,8 @@ impl SharedPart {
 
     /// The bytes of the numbers, if they have two each.
     pub(crate) fn bytes(&self) -> Option<&[u8]>
-        ensures { IfSome result (λ bytes. self.now ≡ ushorts_at bytes.now 0 (length bytes.now / 2)) }
+        ensures { IfSome result
+            (λ bytes. self.now ≡ ushorts_at bytes.now 0 (length bytes.now / 2)) }
     {
         match &self.numbers {
             SharedNumbers::Shorts(bytes) => Some(shorts_between(bytes, self.start, self.end)),

@@ -1,14 +1,19 @@
 -- Classes of a file that was made without this project, and its canonical file, which was made without it too.
-use Rattle.std.specs.Prelude.{ℕ, pos, List, [], ◌∷◌, Some, None, codes}
+use Rattle.std.specs.Prelude.{ℕ, pos, List, [], ◌∷◌, ◌++◌, Some, None, codes, replicate}
+use Rattle.dexspec.specs.Texts.{Text}
 use Rattle.dexspec.specs.Symbols.{TextSymbol, TypeSymbol}
 use Rattle.dexspec.specs.Pieces.{Instruction, Payload}
 use Rattle.dexspec.specs.Values.{ByteValue, ShortValue, CharValue, LongValue, MethodValue, ArrayValue, AnnotationValue}
 use Rattle.dexspec.specs.Values.{NoValues, ThenValue, NoElements, ThenElement}
 use Rattle.dexspec.specs.Classes.{Definition}
 
+-- a name of 304 characters
+abbrev pub long_class : Text
+long_class = codes "LA/" ++ replicate 300 0x79 ++ codes ";"
+
 abbrev pub varied_a : Definition
 varied_a = (
-  codes "LA/yyyyyyyyyyyyyyyyyyyyyyyyyyyyyyyyyyyyyyyyyyyyyyyyyyyyyyyyyyyyyyyyyyyyyyyyyyyyyyyyyyyyyyyyyyyyyyyyyyyyyyyyyyyyyyyyyyyyyyyyyyyyyyyyyyyyyyyyyyyyyyyyyyyyyyyyyyyyyyyyyyyyyyyyyyyyyyyyyyyyyyyyyyyyyyyyyyyyyyyyyyyyyyyyyyyyyyyyyyyyyyyyyyyyyyyyyyyyyyyyyyyyyyyyyyyyyyyyyyyyyyyyyyyyyyyyyyyyyyyyyyyyyyyyyyyyyyyyyyyy;",
+  long_class,
   record {
     flags = 0x9;
     superclass = Some (codes "Lm1/a15;");
@@ -60,7 +65,8 @@ varied_b = (
           visibility = 1;
           type = (91 ∷ 76 ∷ 57344 ∷ 127 ∷ 62 ∷ 120 ∷ 47 ∷ 4096 ∷ 65535 ∷ 47 ∷ 121 ∷ 49 ∷ 59 ∷ []);
           elements =
-              (ThenElement (92 ∷ []) (ByteValue (pos 0)) (ThenElement (128 ∷ 48 ∷ 55295 ∷ []) (CharValue 65535) NoElements));
+              (ThenElement (92 ∷ []) (ByteValue (pos 0))
+              (ThenElement (128 ∷ 48 ∷ 55295 ∷ []) (CharValue 65535) NoElements));
         }
         ∷ []);
     static_fields = [];
@@ -175,7 +181,10 @@ varied_e = (
     direct_methods = [];
     virtual_methods = (record {
       name = (34 ∷ []);
-      proto = record { return_type = codes "Z"; parameters = ((codes "Ljava/lang/Object;") ∷ (codes "C") ∷ (codes "LA/yyyyyyyyyyyyyyyyyyyyyyyyyyyyyyyyyyyyyyyyyyyyyyyyyyyyyyyyyyyyyyyyyyyyyyyyyyyyyyyyyyyyyyyyyyyyyyyyyyyyyyyyyyyyyyyyyyyyyyyyyyyyyyyyyyyyyyyyyyyyyyyyyyyyyyyyyyyyyyyyyyyyyyyyyyyyyyyyyyyyyyyyyyyyyyyyyyyyyyyyyyyyyyyyyyyyyyyyyyyyyyyyyyyyyyyyyyyyyyyyyyyyyyyyyyyyyyyyyyyyyyyyyyyyyyyyyyyyyyyyyyyyyyyyyyyyyyyyyyyy;") ∷ []) };
+      proto = record {
+        return_type = codes "Z";
+        parameters = ((codes "Ljava/lang/Object;") ∷ (codes "C") ∷ long_class ∷ []);
+      };
       flags = 0x40;
       code = None;
       annotations = [];
@@ -199,7 +208,20 @@ varied_e = (
             } ∷ []);
         debug = None;
       });
-      annotations = (record { visibility = 2; type = codes "LA/yyyyyyyyyyyyyyyyyyyyyyyyyyyyyyyyyyyyyyyyyyyyyyyyyyyyyyyyyyyyyyyyyyyyyyyyyyyyyyyyyyyyyyyyyyyyyyyyyyyyyyyyyyyyyyyyyyyyyyyyyyyyyyyyyyyyyyyyyyyyyyyyyyyyyyyyyyyyyyyyyyyyyyyyyyyyyyyyyyyyyyyyyyyyyyyyyyyyyyyyyyyyyyyyyyyyyyyyyyyyyyyyyyyyyyyyyyyyyyyyyyyyyyyyyyyyyyyyyyyyyyyyyyyyyyyyyyyyyyyyyyyyyyyyyyyyyyyyyyyy;"; elements = (ThenElement (codes "LA;") (AnnotationValue (76 ∷ 56319 ∷ 127 ∷ 56320 ∷ 59 ∷ []) NoElements) NoElements) } ∷ record { visibility = 2; type = codes "Lm1/a15;"; elements = (ThenElement (codes "B1") (ArrayValue NoValues) NoElements) } ∷ []);
+      annotations =
+          (record {
+            visibility = 2;
+            type = long_class;
+            elements =
+                (ThenElement (codes "LA;")
+                (AnnotationValue (76 ∷ 56319 ∷ 127 ∷ 56320 ∷ 59 ∷ []) NoElements) NoElements);
+          }
+          ∷ record {
+            visibility = 2;
+            type = codes "Lm1/a15;";
+            elements = (ThenElement (codes "B1") (ArrayValue NoValues) NoElements);
+          }
+          ∷ []);
       parameter_annotations = [];
     } ∷ []);
     static_values = NoValues;
@@ -229,8 +251,31 @@ varied_f = (
               }))
               (ThenElement (codes "aab") (ArrayValue (ThenValue (ShortValue (pos 0)) NoValues)) NoElements));
         } ∷ []);
-    static_fields = (record { name = codes "Cab"; type = codes "I"; flags = 0x1; annotations = (record { visibility = 0; type = codes "B"; elements = NoElements } ∷ []) } ∷ record { name = codes "m93"; type = codes "J"; flags = 0x11; annotations = [] } ∷ record { name = codes "xxxxxxxxxxxxxxxxxxxxxxxxxxxxxxxxxxxxxxxxxxxxxxxxxxxxxxxxxxxxxxxxxxxxxxxxxxxxxxxxxxxxxxxxxxxxxxxxxxxxxxxxxxxxxxxxxxxxxxxxxxxxxxx"; type = codes "[Lx;"; flags = 0x10001; annotations = [] } ∷ []);
-    instance_fields = (record { name = codes "Cab"; type = codes "Lx;"; flags = 0x11; annotations = (record { visibility = 2; type = codes "Lb/xab;"; elements = (ThenElement (2048 ∷ []) (LongValue (pos 3209255545290515113)) NoElements) } ∷ []) } ∷ record { name = codes "x1"; type = codes "LA/yyyyyyyyyyyyyyyyyyyyyyyyyyyyyyyyyyyyyyyyyyyyyyyyyyyyyyyyyyyyyyyyyyyyyyyyyyyyyyyyyyyyyyyyyyyyyyyyyyyyyyyyyyyyyyyyyyyyyyyyyyyyyyyyyyyyyyyyyyyyyyyyyyyyyyyyyyyyyyyyyyyyyyyyyyyyyyyyyyyyyyyyyyyyyyyyyyyyyyyyyyyyyyyyyyyyyyyyyyyyyyyyyyyyyyyyyyyyyyyyyyyyyyyyyyyyyyyyyyyyyyyyyyyyyyyyyyyyyyyyyyyyyyyyyyyyyyyyyyyy;"; flags = 0x40000; annotations = [] } ∷ []);
+    static_fields =
+        (record {
+          name = codes "Cab";
+          type = codes "I";
+          flags = 0x1;
+          annotations = (record { visibility = 0; type = codes "B"; elements = NoElements } ∷ []);
+        }
+        ∷ record { name = codes "m93"; type = codes "J"; flags = 0x11; annotations = [] }
+        ∷ record { name = replicate 127 0x78; type = codes "[Lx;"; flags = 0x10001; annotations = [] }
+        ∷ []);
+    instance_fields =
+        (record {
+          name = codes "Cab";
+          type = codes "Lx;";
+          flags = 0x11;
+          annotations =
+              (record {
+                visibility = 2;
+                type = codes "Lb/xab;";
+                elements = (ThenElement (2048 ∷ []) (LongValue (pos 3209255545290515113)) NoElements);
+              }
+              ∷ []);
+        }
+        ∷ record { name = codes "x1"; type = long_class; flags = 0x40000; annotations = [] }
+        ∷ []);
     direct_methods = [];
     virtual_methods = (record {
       name = (36 ∷ 56319 ∷ []);

@@ -12,8 +12,8 @@ pub record EncodedItems : Type 0 where
   pub bytes : List ℕ
   pub places : ItemPlaces
 
--- Items that are encoded where their bytes are few: the bytes, with the zeros that align them, or none where they are not
--- kept, and their offsets.
+-- Items that are encoded where their bytes are few: the bytes, with the zeros that align them, or none where they are
+-- not kept, and their offsets.
 pub record KeptItems : Type 0 where
   pub bytes : Option (List ℕ)
   pub places : ItemPlaces

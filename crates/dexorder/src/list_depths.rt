@@ -53,8 +53,9 @@ impl<'f> ListDepths<'f> {
         firsts: &'f [usize],
         classes: usize,
     ) -> Result<ListDepths<'f>, AllocError>
-        ensures { IfOk result (λ lists. (parents : List (List (Option ℕ))) → length parents ≡ classes
-            → HaveEqualParents parents firsts.now → AreListDepths parents lists) }
+        ensures { IfOk result (λ lists. (parents : List (List (Option ℕ)))
+            → length parents ≡ classes → HaveEqualParents parents firsts.now
+            → AreListDepths parents lists) }
     {
         Ok(ListDepths {
             firsts,
@@ -64,9 +65,10 @@ impl<'f> ListDepths<'f> {
 
     /// The depth below the interfaces of a class, if it is known.
     pub(crate) fn depth(&self, class: usize) -> Option<usize>
-        ensures { IfSome result (λ depth. (parents : List (List (Option ℕ))) → class < length parents
-            → AreListDepths parents self.now
-            → IsDepthBelow (map present parents) (present (interface_parents parents class)) depth) }
+        ensures { IfSome result (λ depth. (parents : List (List (Option ℕ)))
+            → class < length parents → AreListDepths parents self.now
+            → IsDepthBelow (map present parents)
+            (present (interface_parents parents class)) depth) }
     {
         let first = *self.firsts.get(class)?;
         *self.depths.get(first)?

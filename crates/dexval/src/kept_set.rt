@@ -159,7 +159,8 @@ pub(crate) fn prepare_sets(
 pub(crate) fn renumber_sets(sets: &mut Vec<KeptSet>, remap: &Remap)
     requires { All (IsReady remap.now) sets.old.items }
     ensures size { length sets.new.items ≡ length sets.old.items }
-    ensures sets { AreRemappedSets remap.now (map set_in sets.old.items) (map set_in sets.new.items) }
+    ensures sets { AreRemappedSets remap.now (map set_in sets.old.items)
+        (map set_in sets.new.items) }
 {
     for i in 0..sets.len() {
         sets[i].renumber(remap);

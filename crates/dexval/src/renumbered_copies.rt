@@ -18,8 +18,8 @@ pub(crate) fn renumbered_copies(
     remap: &Remap,
 ) -> Result<Vec<Value>, AllocError>
     requires { HavePlaces remap.now (values_of values.now.items) }
-    ensures { IfOk result
-        (λ copies. values_of copies.items ≡ renumbered_values remap.now (values_of values.now.items)) }
+    ensures { IfOk result (λ copies. values_of copies.items
+        ≡ renumbered_values remap.now (values_of values.now.items)) }
 {
     let mut copies = Vec::with_capacity(*values.allocator(), values.len())?;
     for value in values {
@@ -92,7 +92,8 @@ impl EncodedAnnotation {
     #[cycle(copying_renumbered)]
     fn renumbered_copy(&self, remap: &Remap) -> Result<EncodedAnnotation, AllocError>
         requires { HasPlaces remap.now (encoded_of self.now) }
-        ensures { IfOk result (λ copy. encoded_of copy ≡ renumbered remap.now (encoded_of self.now)) }
+        ensures { IfOk result
+            (λ copy. encoded_of copy ≡ renumbered remap.now (encoded_of self.now)) }
     {
         let typ = remapped(remap, SymbolKind::Typ, self.typ);
         let mut elements = Vec::with_capacity(*self.elements.allocator(), self.elements.len())?;
@@ -110,8 +111,8 @@ impl Annotation {
     // Condition: each number maps to a number below 2^32.
     fn renumbered_copy(&self, remap: &Remap) -> Result<Annotation, AllocError>
         requires { AnnotationHasPlaces remap.now (annotation_of self.now) }
-        ensures { IfOk result
-            (λ copy. annotation_of copy ≡ renumbered_annotation remap.now (annotation_of self.now)) }
+        ensures { IfOk result (λ copy. annotation_of copy
+            ≡ renumbered_annotation remap.now (annotation_of self.now)) }
     {
         Ok(Annotation {
             visibility: self.visibility,

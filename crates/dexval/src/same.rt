@@ -220,7 +220,8 @@ pub(crate) fn is_same_set<M: NumberMap, N: NumberMap>(
 /// Returns whether values are the images of others: each number is the one that the number there maps to. Numbers
 /// without images stay.
 pub(crate) fn are_images(values: &[Value], remap: &Remap, images: &[Value]) -> bool
-    ensures { IsTrue result ↔ (values_of images.now ≡ renumbered_values remap.now (values_of values.now)) }
+    ensures { IsTrue result
+        ↔ (values_of images.now ≡ renumbered_values remap.now (values_of values.now)) }
 {
     are_same(remap, values, &Unchanged, images)
 }

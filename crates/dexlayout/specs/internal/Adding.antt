@@ -1,5 +1,6 @@
 -- What a call adds to the uses that were found before.
-use Rattle.std.specs.Prelude.{◌≡◌, ℕ, ◌<◌, Bool, List, [], ◌∷◌, ◌++◌, Option, None, Result, MatchOption, OnOk, All, length, map, slice_index_or}
+use Rattle.std.specs.Prelude.{◌≡◌, ℕ, ◌<◌, Bool, List, [], ◌∷◌, ◌++◌, Option, None, Result, MatchOption, OnOk, All}
+use Rattle.std.specs.Prelude.{length, map, slice_index_or}
 use Rattle.std.specs.Borrow.{Bor}
 use Rattle.dexspec.specs.Texts.{Text}
 use Rattle.dexspec.specs.Annotations.{AnnotationSet}

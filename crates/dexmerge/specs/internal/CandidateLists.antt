@@ -6,7 +6,8 @@ use Rattle.dexspec.specs.Mentions.{Mentions, mentions}
 use Rattle.dexpool.specs.Numberings.{Maps, IsAt}
 use Rattle.dexclass.specs.Numbered.{NumberedClass}
 use Rattle.dexclass.specs.Renumbering.{MapsAllInto}
-use Rattle.dexmerge.specs.Candidates.{AreMembers, IsOfPart, class_of, classes_of, kept_classes, IsEqualCopy, IsFirstConflict}
+use Rattle.dexmerge.specs.Candidates.{AreMembers, IsOfPart, class_of, classes_of, kept_classes, IsEqualCopy}
+use Rattle.dexmerge.specs.Candidates.{IsFirstConflict}
 use Rattle.dexmerge.specs.declared.candidates.Candidate.{Candidate}
 
 -- each part is mapped into the whole
@@ -28,7 +29,9 @@ AreByPart remaps cs = All (λ c. IsAt remaps c.part c.remap.now) cs
 
 -- two of them have the same interfaces
 abbrev pub HaveEqualInterfaces : List Candidate → ℕ → ℕ → Type 0
-HaveEqualInterfaces cs i j = (d : Candidate) → (class_of (slice_index_or cs i d)).interfaces ≡ (class_of (slice_index_or cs j d)).interfaces
+HaveEqualInterfaces cs i j =
+    (d : Candidate)
+    → (class_of (slice_index_or cs i d)).interfaces ≡ (class_of (slice_index_or cs j d)).interfaces
 
 -- each candidate is the same class as the one that is kept of its name
 abbrev pub AllEqual : List Candidate → List (Option ℕ) → Type 0

@@ -121,7 +121,7 @@ fn start<R: Files + Print + Eprint + Input>(
     }
 }
 
-// Whether an argument is UTF-8, if there is one with this number.
+// Returns whether an argument is UTF-8, if there is one with this number.
 fn is_text(rt: &impl Env, alloc: Global, i: usize) -> Result<Option<bool>, AllocError> {
     let mut room: usize = 256;
     for _ in 0..usize::BITS {

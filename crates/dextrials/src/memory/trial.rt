@@ -77,7 +77,7 @@ impl<'a> Compare<'a> {
         }
     }
 
-    // Whether all the right bytes came, and no others.
+    // Returns whether all the right bytes came, and no others.
     fn is_whole(&self) -> bool {
         match self.rest {
             Some(rest) => rest.is_empty(),
@@ -85,7 +85,7 @@ impl<'a> Compare<'a> {
         }
     }
 
-    // Whether it was never called.
+    // Returns whether it was never called.
     fn is_uncalled(&self) -> bool {
         self.calls == 0
     }

@@ -34,8 +34,8 @@ enum Ending {
 }
 
 impl Ending {
-    // Whether a call that was made once did nothing wrong, or one with more memory each time was out of memory again
-    // and again, and right in the end.
+    // Returns whether a call that was made once did nothing wrong, or one with more memory each time was out of memory
+    // again and again, and right in the end.
     fn is_right(self) -> bool {
         match self {
             Ending::Once(trial) => trial != Trial::Wrong,

@@ -1,9 +1,9 @@
 -- The symbols that occur in members are those of what the numbers denote.
-use Rattle.dexmembers.proofs.Common.{◌≡◌, ℕ, ◌<◌, List, [], ◌∷◌, ◌++◌, length, map, Option, Some, None, option_to_list, refl, ◌∙◌, subst, arith, IfSome, All, AllZip, flat_map, option_map, map-append, get_or_default, All-nil, All-cons, All-head, All-tail, All-append, Text, Mentions, set_symbols, field_symbols, method_symbols, code_symbols, values_symbols, IsAt, AreMarksOf, Use, HasMark, IsUseOf, NumberedSet, set_in, values_in, field_at, method_at, IsKnownSet, set_uses, values_uses, NumberedItem, code_in, IsKnownCode, item_uses}
+use Rattle.dexmembers.proofs.Common.{◌≡◌, ℕ, ◌<◌, List, [], ◌∷◌, ◌++◌, length, map, Option, Some, None, option_to_list, refl, ◌∙◌, subst, arith, IfSome, All, AllZip, flat_map, option_map, map-append, get_or_default, All-nil, All-cons, All-head, All-tail, All-append, append_assoc, ap, Text, Mentions, set_symbols, field_symbols, method_symbols, code_symbols, values_symbols, IsAt, AreMarksOf, Use, HasMark, IsUseOf, NumberedSet, set_in, values_in, field_at, method_at, IsKnownSet, set_uses, values_uses, NumberedItem, code_in, IsKnownCode, item_uses}
 use Rattle.dexpool.specs.declared.symbols.SymbolKind.TheVariants as kinds
 use Rattle.dexpool.specs.declared.marks.Marks.{Marks}
 use Rattle.dexval.proofs.Meanings.{set_encoded, values_encoded, set_marks, values_marks}
-use Rattle.dexmembers.specs.{NumberedField, NumberedMethod, NumberedMembers, field_in, method_in, members_in, fields_of, methods_of, IsKnownField, IsKnownMethod, AreKnownMembers, AreOfClass, field_uses, method_uses, members_uses, members_symbols}
+use Rattle.dexmembers.specs.{NumberedField, NumberedMethod, NumberedMembers, field_in, method_in, members_in, fields_of, methods_of, IsKnownField, IsKnownMethod, AreKnownMembers, AreOfClass, declared_uses, field_uses, method_uses, members_uses, members_symbols}
 pub use Rattle.dexpool.proofs.Numbers.{zip-append}
 
 -- ---- parts
@@ -20,6 +20,15 @@ parts_all P Q f step [] all = All-nil Q
 parts_all P Q f step (x ∷ xs) all = All-append Q (f x) (flat_map f xs) (step x (All-head P x xs all)) (parts_all P Q f step xs (All-tail P x xs all))
 
 -- ---- the symbols
+
+-- those of what is declared, and then those of the static values
+pub declared_then : (x : NumberedMembers) → declared_uses x ++ values_uses x.static_values ≡ members_uses x
+declared_then x =
+    let own = set_uses x.annotations in
+    let fields = flat_map field_uses (fields_of x) in
+    let methods = flat_map method_uses (methods_of x) in
+    let values = values_uses x.static_values in
+    append_assoc own (fields ++ methods) values ∙ ap (λ us. own ++ us) (append_assoc fields methods values)
 
 module _ (m : Mentions) where
   set_used : (s : NumberedSet) → IsKnownSet m s → AllZip (IsUseOf m) (set_uses s) (set_symbols (set_in m s))

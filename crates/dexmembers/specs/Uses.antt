@@ -29,6 +29,10 @@ members_uses x =
     set_uses x.annotations
     ++ (flat_map field_uses (fields_of x) ++ (flat_map method_uses (methods_of x) ++ values_uses x.static_values))
 
+-- those of the class's own set, of its fields and of its methods, without the static values
+abbrev pub declared_uses : NumberedMembers → List Use
+declared_uses x = set_uses x.annotations ++ (flat_map field_uses (fields_of x) ++ flat_map method_uses (methods_of x))
+
 -- ---- as symbols
 
 -- the symbols that members of the class of this name name, in the same order

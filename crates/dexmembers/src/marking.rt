@@ -4,7 +4,7 @@ ghost use Rattle.std.specs.Prelude.{All};
 ghost use Rattle.std.specs.List.{FoldsTo, flat_map};
 ghost use Rattle.dexpool.specs.Uses.{HasMark, AreMarkedToo};
 ghost use Rattle.dexval.specs.Uses.{set_uses};
-ghost use Rattle.dexmembers.specs.Uses.{field_uses, method_uses, members_uses};
+ghost use Rattle.dexmembers.specs.Uses.{declared_uses, field_uses, method_uses, members_uses};
 ghost use Rattle.dexmembers.specs.Borrowed.{ForCode, ForSet};
 ghost use Rattle.dexmembers.specs.internal.Parts.{optional_code_uses};
 
@@ -83,15 +83,27 @@ impl Symbols for Methods<'_, '_> {
     }
 }
 
+// What a class declares, without the static values.
+#[derive(Drop)]
+struct Declared<'m, 'a>(&'m Members<'a>);
+
+impl Symbols for Declared<'_, '_> {
+    ghost uses = { λ d. declared_uses d.0.now };
+
+    fn visit<V: Visitor>(&self, visitor: &mut V) {
+        visit_set(self.0.annotations(), visitor);
+        self.0.static_fields().visit(visitor);
+        self.0.instance_fields().visit(visitor);
+        self.0.direct_methods().visit(visitor);
+        self.0.virtual_methods().visit(visitor);
+    }
+}
+
 impl Symbols for Members<'_> {
     ghost uses = { members_uses };
 
     fn visit<V: Visitor>(&self, visitor: &mut V) {
-        visit_set(self.annotations(), visitor);
-        self.static_fields().visit(visitor);
-        self.instance_fields().visit(visitor);
-        self.direct_methods().visit(visitor);
-        self.virtual_methods().visit(visitor);
+        Declared(self).visit(visitor);
         self.weighed_values().visit(visitor);
     }
 }
@@ -107,6 +119,7 @@ impl<'a> Members<'a> {
         requires { All (HasMark marks.old) (members_uses self.now) }
         ensures { AreMarkedToo (members_uses self.now) marks.old marks.new }
     {
-        mark(self, marks);
+        mark(&Declared(self), marks);
+        self.weighed_values().mark(marks);
     }
 }

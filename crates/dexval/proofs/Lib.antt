@@ -8,6 +8,7 @@ pub mod DirectoryCounted
 pub mod DirectoryRead
 pub mod ElementsRead
 pub mod Encodings
+pub mod FewSymbols
 pub mod FileChecked
 pub mod FileRead
 pub mod Fitted

@@ -4,6 +4,7 @@ pub mod Checking
 pub mod Code
 pub mod Directories
 pub mod Equality
+pub mod FewSymbols
 pub mod Items
 pub mod KeptSets
 pub mod Laws
@@ -15,6 +16,7 @@ pub mod Renumbering
 pub mod Results
 pub mod Same
 pub mod Shared
+pub mod SharedForms
 pub mod SharedItems
 pub mod Spelled
 pub mod Stored

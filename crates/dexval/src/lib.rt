@@ -47,6 +47,7 @@ mod directory_member;
 mod directory_reading;
 mod encoding;
 mod equality;
+mod few_symbols;
 mod kept_set;
 mod laws;
 mod put;

@@ -96,7 +96,7 @@ fn remapped_values(
     if are_images(values.values(), remap, values.values()) {
         return Ok(values.clone()?);
     }
-    let image = values.renumbered_copy(remap)?.with_encoding()?;
+    let image = values.renumbered_copy(remap)?.with_shared_form()?;
     Ok(Rc::new(alloc, image)?)
 }
 

@@ -107,7 +107,7 @@ pub fn shared_statics_at(
     if let Some(values) = items.values.get(&off) {
         return Ok(values.clone()?);
     }
-    let values = WeighedValues::read(items.alloc, frame, pools, off)?.with_encoding()?;
+    let values = WeighedValues::read(items.alloc, frame, pools, off)?.with_shared_form()?;
     let values = Rc::new(items.alloc, values)?;
     items.values.insert(off, values.clone()?)?;
     Ok(values)

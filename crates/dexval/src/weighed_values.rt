@@ -1,30 +1,34 @@
 //! Static values with their weights.
 
-ghost use Rattle.std.specs.Prelude.{◌≡◌, ◌-◌, ◌^◌, [], false, min, IfErr, IfOk};
+ghost use Rattle.std.specs.Prelude.{◌≡◌, ◌-◌, ◌^◌, [], All, false, min, IfErr, IfOk, IfSome};
 ghost use Rattle.dexspec.specs.Mentions.{Mentions};
 ghost use Rattle.dexspec.specs.Weight.{static_values_weight};
 ghost use Rattle.dexspec.specs.internal.Writing.{Puts};
 ghost use Rattle.dexpool.specs.Pools.{ArePools};
+ghost use Rattle.dexpool.specs.Uses.{HasMark, AreMarkedToo};
 ghost use Rattle.dexval.specs.Code.{values_of};
+ghost use Rattle.dexval.specs.FewSymbols.{HaveSameUses, uses_of};
 ghost use Rattle.dexval.specs.Numbered.{NoValue, values_in};
 ghost use Rattle.dexval.specs.Reading.{AreStaticsAt, IsStaticsFault};
 ghost use Rattle.dexval.specs.Renumbering.{renumbered_values, HavePlaces};
+ghost use Rattle.dexval.specs.SharedForms.{IsFormOf};
 ghost use Rattle.dexval.specs.Spelled.{numbered_array_bytes};
 ghost use Rattle.dexval.specs.Uses.{values_uses};
 ghost use Rattle.dexval.specs.Writing.{PutsValues};
 
 use crate::encoding::ArrayItem;
+use crate::few_symbols::FewSymbols;
 use crate::renumbered_copies::renumbered_copies;
 use crate::value_reading::tallied_statics;
 use crate::{Value, copied_values, renumber_values, visit_values};
 use dexhead::{Frame, put_encoded};
-use dexpool::{ItemFault, Numbering, Pools, Remap, Symbols, Visitor};
+use dexpool::{ItemFault, Marks, Numbering, Pools, Remap, Symbols, Visitor, mark};
 use std::alloc::{AllocError, Global};
 use std::marker::Model;
 
 /// The initial values of static fields with their weight, so that they are weighed once, and with whether they name a
-/// symbol, so that what concerns symbols passes over values that name none. Values that classes share are encoded once.
-/// Contracts see the values.
+/// symbol, so that what concerns symbols passes over values that name none. Values that classes share are encoded once,
+/// and visited once for their symbols, if these are few. Contracts see the values.
 ///
 /// Source: "encoded_array format".
 #[derive(Drop)]
@@ -32,8 +36,17 @@ pub struct WeighedValues {
     values: Vec<Value>,
     weight: u64,
     names_symbols: bool,
-    // The encoded_array, for values that several classes put.
-    encoded: Option<Vec<u8>>,
+    // For values that several classes share.
+    shared: Option<SharedForm>,
+}
+
+// What values that several classes share are put and marked by.
+#[derive(Drop)]
+struct SharedForm {
+    // The encoded_array.
+    encoded: Vec<u8>,
+    // The symbols that occur in the values, if they are few.
+    symbols: Option<FewSymbols>,
 }
 
 impl Model for WeighedValues {
@@ -41,7 +54,8 @@ impl Model for WeighedValues {
     ghost use Rattle.std.specs.Coded.{codes};
     ghost use Rattle.dexval.specs.Code.{values_of};
     ghost use Rattle.dexval.specs.Numbered.{NumberedValues};
-    ghost use Rattle.dexval.specs.Spelled.{numbered_array_bytes, numbered_statics_weight};
+    ghost use Rattle.dexval.specs.SharedForms.{IsFormOf};
+    ghost use Rattle.dexval.specs.Spelled.{numbered_statics_weight};
     ghost use Rattle.dexval.specs.Stored.{values_code};
     ghost use Rattle.dexval.specs.Uses.{values_uses};
 
@@ -53,7 +67,29 @@ impl Model for WeighedValues {
 
     ghost invariant = { λ w. (w.weight ≡ min (2 ^ 64 - 1) (numbered_statics_weight (values_of w.values.items)))
         × (w.names_symbols ≡ false → values_uses (values_of w.values.items) ≡ [])
-        × IfSome w.encoded (λ bytes. bytes.items ≡ numbered_array_bytes (values_of w.values.items)) };
+        × IfSome w.shared (IsFormOf (values_of w.values.items)) };
+}
+
+// The symbols that occur in values, each once, if they are few.
+fn few_symbols(values: &Vec<Value>) -> Option<FewSymbols>
+    ensures { IfSome result (λ few.
+        HaveSameUses (uses_of few.symbols.items) (values_uses (values_of values.now.items))) }
+{
+    let mut few = FewSymbols::none(*values.allocator());
+    visit_values(values, &mut few);
+    if few.are_all() { Some(few) } else { None }
+}
+
+// What values are put and marked by. Error: an allocation failed.
+fn shared_form(values: &Vec<Value>) -> Result<SharedForm, AllocError>
+    ensures { IfOk result (IsFormOf (values_of values.now.items)) }
+{
+    let mut encoded = Vec::new(*values.allocator());
+    put_encoded(&ArrayItem(values), &mut encoded)?;
+    Ok(SharedForm {
+        encoded,
+        symbols: few_symbols(values),
+    })
 }
 
 impl WeighedValues {
@@ -65,7 +101,7 @@ impl WeighedValues {
             values: Vec::new(alloc),
             weight: 0,
             names_symbols: false,
-            encoded: None,
+            shared: None,
         }
     }
 
@@ -96,20 +132,20 @@ impl WeighedValues {
             values,
             weight,
             names_symbols: tally.names_symbols,
-            encoded: None,
+            shared: None,
         })
     }
 
-    /// The same values, with their encoding beside them, which is then copied wherever they are put.
+    /// The same values, with what they are put and marked by beside them: their encoding, and their symbols if these
+    /// are few.
     ///
     /// Error: an allocation failed.
-    pub(crate) fn with_encoding(self) -> Result<WeighedValues, AllocError>
+    pub(crate) fn with_shared_form(self) -> Result<WeighedValues, AllocError>
         ensures { IfOk result (λ values. values ≡ self) }
     {
-        let mut bytes = Vec::new(*self.values.allocator());
-        put_encoded(&ArrayItem(&self.values), &mut bytes)?;
+        let form = shared_form(&self.values)?;
         let mut values = self;
-        values.encoded = Some(bytes);
+        values.shared = Some(form);
         Ok(values)
     }
 
@@ -117,8 +153,8 @@ impl WeighedValues {
     fn put_array(&self, out: &mut Vec<u8>) -> Result<(), AllocError>
         ensures { Puts (numbered_array_bytes self.now) out.old out.new result }
     {
-        match &self.encoded {
-            Some(bytes) => out.extend_from_slice(bytes),
+        match &self.shared {
+            Some(form) => out.extend_from_slice(&form.encoded),
             None => put_encoded(&ArrayItem(&self.values), out),
         }
     }
@@ -158,6 +194,14 @@ impl WeighedValues {
         self.names_symbols
     }
 
+    // The symbols that occur in the values, if they are kept.
+    fn kept_symbols(&self) -> Option<&FewSymbols>
+        ensures { IfSome result (λ few.
+            HaveSameUses (uses_of few.now.symbols.items) (values_uses self.now)) }
+    {
+        self.shared.as_ref()?.symbols.as_ref()
+    }
+
     /// The same values, with copies of all contents, as [`copied_values`] makes them.
     ///
     /// Error: an allocation failed.
@@ -168,7 +212,7 @@ impl WeighedValues {
             values: copied_values(&self.values)?,
             weight: self.weight,
             names_symbols: self.names_symbols,
-            encoded: None,
+            shared: None,
         })
     }
 
@@ -183,8 +227,21 @@ impl WeighedValues {
             values: renumbered_copies(&self.values, remap)?,
             weight: self.weight,
             names_symbols: self.names_symbols,
-            encoded: None,
+            shared: None,
         })
+    }
+
+    /// Marks each symbol that occurs in the values.
+    ///
+    /// Condition: there is a mark for each of them.
+    pub fn mark(&self, marks: &mut Marks)
+        requires { All (HasMark marks.old) (values_uses self.now) }
+        ensures { AreMarkedToo (values_uses self.now) marks.old marks.new }
+    {
+        match self.kept_symbols() {
+            Some(few) => mark(few, marks),
+            None => mark(self, marks),
+        }
     }
 
     /// Replaces each number of a symbol in the values by the one that it maps to, as [`renumber_values`] does.
@@ -195,7 +252,7 @@ impl WeighedValues {
         ensures { self.new ≡ renumbered_values remap.now self.old }
     {
         if self.names_symbols {
-            self.encoded = None;
+            self.shared = None;
             renumber_values(&mut self.values, remap);
         }
     }

@@ -13,7 +13,7 @@ use Rattle.clap.specs.ValueTests.{is_numeral}
 use Rattle.clap.specs.Walk.{all_of, first_of, one_of, rows_of}
 use Rattle.clap.specs.declared.parser.matches.Found.{Found}
 use Rattle.clap.proofs.WalkLemmas.{both, first_value-rows, one_text-rows, raw_values-rows}
-use Rattle.dexargs.specs.Asked.{number_in, number_of, values_in}
+use Rattle.dexargs.specs.Asked.{number_in, numeral_value, option_values}
 
 -- the value that `get_str` returns
 pub first_is : (f : Found) (id : List ℕ) (r : Option (Bor (List ℕ))) → option_map (λ s. s.now) r ≡ first_value f id
@@ -26,11 +26,11 @@ no_first f id r e is = sym (first_value-rows f id) ∙ (sym e ∙ ap (option_map
 
 -- the values that `get_strs` returns
 pub values_are : (f : Found) (id : List ℕ) (r : Option (Bor (List (Bor (List ℕ))))) → option_map (λ s. map (λ v. v.now) s.now) r ≡ option_map raw_values (matched_of f id)
-    → (t : Bor (List (Bor (List ℕ)))) → r ≡ Some t → values_in id (rows_of f) ≡ map (λ v. v.now) t.now
+    → (t : Bor (List (Bor (List ℕ)))) → r ≡ Some t → option_values id (rows_of f) ≡ map (λ v. v.now) t.now
 values_are f id r e t is = ap (λ o. unwrap_or o []) (sym (raw_values-rows f id) ∙ (sym e ∙ ap (option_map (λ s. map (λ v. v.now) s.now)) is))
 
 pub no_values : (f : Found) (id : List ℕ) (r : Option (Bor (List (Bor (List ℕ))))) → option_map (λ s. map (λ v. v.now) s.now) r ≡ option_map raw_values (matched_of f id)
-    → r ≡ None → values_in id (rows_of f) ≡ []
+    → r ≡ None → option_values id (rows_of f) ≡ []
 no_values f id r e is = ap (λ o. unwrap_or o []) (sym (raw_values-rows f id) ∙ (sym e ∙ ap (option_map (λ s. map (λ v. v.now) s.now)) is))
 
 digits_pass : (ds : List ℕ) → AllDigits 10 ds → list_all (λ d. nat_lt (digit_value d) 10) ds ≡ true
@@ -45,14 +45,14 @@ digits_from (d ∷ ds) e =
 
 -- what `parse` makes of a text is its number
 number_read : {E : Type 0} (G : List ℕ → Result ℕ E → Type 0) → ((u : List ℕ) (x : Result ℕ E) → G u x → ParsesUnsigned 32 10 u x)
-    → (text : List ℕ) (r : Option ℕ) → ReadsOne G text r → r ≡ number_of text
+    → (text : List ℕ) (r : Option ℕ) → ReadsOne G text r → r ≡ numeral_value text
 number_read G only text (Some v) h =
     let parsed = only text (Ok v) h in
     let ds = without_leading_plus text in
     rw (lt-ltb 0 (length ds) parsed.0.0.0, digits_pass ds parsed.0.0.1, lt-ltb (digits_value 10 ds) (2 ^ 32) parsed.0.1, parsed.1) refl
 number_read {E = E} G only text None h = go (is_numeral (without_leading_plus text) && nat_lt (digits_value 10 (without_leading_plus text)) (2 ^ 32)) refl
   where
-    go : (b : Bool) → (is_numeral (without_leading_plus text) && nat_lt (digits_value 10 (without_leading_plus text)) (2 ^ 32)) ≡ b → None ≡ number_of text
+    go : (b : Bool) → (is_numeral (without_leading_plus text) && nat_lt (digits_value 10 (without_leading_plus text)) (2 ^ 32)) ≡ b → None ≡ numeral_value text
     go false t = rw t refl
     go true t =
         let outer = both _ _ t in

@@ -62,35 +62,36 @@ abbrev pub is_set : Text → List Row → Bool
 is_set id rows = option_map_or (λ value. bytes_eq value (codes "true")) (first_of id rows) false
 
 -- the values of an argument
-abbrev pub values_in : Text → List Row → List Text
-values_in id rows = unwrap_or (all_of id rows) []
+abbrev pub option_values : Text → List Row → List Text
+option_values id rows = unwrap_or (all_of id rows) []
 
 -- the number of 32 bits that a text of decimal digits spells
-abbrev pub number_of : Text → Option ℕ
-number_of text =
+abbrev pub numeral_value : Text → Option ℕ
+numeral_value text =
     let number = digits_value 10 (without_leading_plus text) in
     if is_numeral (without_leading_plus text) && nat_lt number (2 ^ 32) then Some number else None
 
 -- the number of an option
 abbrev pub number_in : Text → List Row → Option ℕ
-number_in id rows = option_and_then number_of (one_of id rows)
+number_in id rows = option_and_then numeral_value (one_of id rows)
 
 -- the file or files of a command, of which there is one or more
 abbrev pub files_in : List Row → Option (List Text)
-files_in rows = if is_empty (values_in (codes "files") rows) then None else Some (values_in (codes "files") rows)
+files_in rows =
+    if is_empty (option_values (codes "files") rows) then None else Some (option_values (codes "files") rows)
 
 -- the output of a command, and how it comes under its name: standard output is not moved
-abbrev pub placed : Bool → Text → Option (Text × Placing)
-placed true out = if bytes_eq out (codes "-") then None else Some (out, Atomic)
-placed false out = Some (out, InPlace)
+abbrev pub placed_output : Bool → Text → Option (Text × Placing)
+placed_output true out = if bytes_eq out (codes "-") then None else Some (out, Atomic)
+placed_output false out = Some (out, InPlace)
 
 abbrev pub out_in : List Row → Option (Text × Placing)
-out_in rows = option_and_then (placed (is_set (codes "atomic") rows)) (first_of (codes "out") rows)
+out_in rows = option_and_then (placed_output (is_set (codes "atomic") rows)) (first_of (codes "out") rows)
 
 -- the caps of a merge: the numbers of the options, and the greatest caps otherwise; the texts up to that of a
 -- `const-string` have the greatest
-abbrev pub caps_of : List Row → Caps
-caps_of rows = record {
+abbrev pub option_caps : List Row → Caps
+option_caps rows = record {
   types = unwrap_or (number_in (codes "max-types") rows) greatest_caps.types;
   protos = unwrap_or (number_in (codes "max-protos") rows) greatest_caps.protos;
   fields = unwrap_or (number_in (codes "max-fields") rows) greatest_caps.fields;
@@ -103,15 +104,15 @@ abbrev pub are_caps : Caps → Bool
 are_caps caps = nat_le caps.types 65535 && (nat_le caps.protos 65535 && (nat_le caps.fields 65536
     && (nat_le caps.methods 65536 && (nat_le caps.short_strings 65536 && nat_le caps.weight 1073741824))))
 
-abbrev pub caps_in : List Row → Option Caps
-caps_in rows = if are_caps (caps_of rows) then Some (caps_of rows) else None
+abbrev pub possible_caps : List Row → Option Caps
+possible_caps rows = if are_caps (option_caps rows) then Some (option_caps rows) else None
 
 -- the number of files of a merge at a time
 abbrev pub is_fan : Option ℕ → Bool
 is_fan fan = option_map_or (λ n. nat_le 2 n && nat_le n 65535) fan true
 
-abbrev pub fan_in : List Row → Option (Option ℕ)
-fan_in rows = if is_fan (number_in (codes "fan") rows) then Some (number_in (codes "fan") rows) else None
+abbrev pub possible_fan : List Row → Option (Option ℕ)
+possible_fan rows = if is_fan (number_in (codes "fan") rows) then Some (number_in (codes "fan") rows) else None
 
 -- ---- what each command asks for
 
@@ -119,7 +120,7 @@ abbrev pub merge_in : List Row → Option Request
 merge_in rows =
     option_and_then (λ fan. option_and_then (λ caps. option_and_then (λ out. option_map (λ files.
     Merge out.0 out.1 fan caps (is_set (codes "strip") rows) files)
-    (files_in rows)) (out_in rows)) (caps_in rows)) (fan_in rows)
+    (files_in rows)) (out_in rows)) (possible_caps rows)) (possible_fan rows)
 
 -- the file that a command reads, the one that it writes, and how that comes under its name
 abbrev pub names_in : List Row → Option (Text × Text × Placing)
@@ -132,9 +133,9 @@ copy_in copy rows = option_map (λ names. copy names.0 names.1 names.2) (names_i
 -- the arguments that name the old and the new files of a comparison: the options, or those by place, and not both
 abbrev pub side_ids : List Row → Option (Text × Text)
 side_ids rows =
-    if is_empty (values_in (codes "from") rows) && is_empty (values_in (codes "to") rows)
+    if is_empty (option_values (codes "from") rows) && is_empty (option_values (codes "to") rows)
     then Some (codes "old", codes "new")
-    else if is_empty (values_in (codes "old") rows) && is_empty (values_in (codes "new") rows)
+    else if is_empty (option_values (codes "old") rows) && is_empty (option_values (codes "new") rows)
     then Some (codes "from", codes "to")
     else None
 
@@ -143,7 +144,8 @@ abbrev pub both_sides : List Text → List Text → Option (List Text × List Te
 both_sides old new = if is_empty old || is_empty new then None else Some (old, new)
 
 abbrev pub sides_in : List Row → Option (List Text × List Text)
-sides_in rows = option_and_then (λ ids. both_sides (values_in ids.0 rows) (values_in ids.1 rows)) (side_ids rows)
+sides_in rows =
+    option_and_then (λ ids. both_sides (option_values ids.0 rows) (option_values ids.1 rows)) (side_ids rows)
 
 abbrev pub diff_in : List Row → Option Request
 diff_in rows =
@@ -155,7 +157,7 @@ dump_of full file (class ∷ classes) = DumpClasses full file (class ∷ classes
 
 abbrev pub dump_in : List Row → Option Request
 dump_in rows =
-    option_map (λ file. dump_of (is_set (codes "all") rows) file (values_in (codes "class") rows))
+    option_map (λ file. dump_of (is_set (codes "all") rows) file (option_values (codes "class") rows))
     (first_of (codes "file") rows)
 
 abbrev pub is_null : Ending → Bool

@@ -9,7 +9,7 @@ ghost use Rattle.clap.specs.Walk.{first_of, is_empty, rows_of};
 ghost use Rattle.clap.specs.Simple.{app_of, subcommand_rows_of};
 ghost use Rattle.dexspec.specs.Merging.{AreCaps};
 ghost use Rattle.dexargs.specs.Words.{IsSound, IsSoundOut, EndsNames};
-ghost use Rattle.dexargs.specs.Asked.{is_set, values_in, number_in, files_in, out_in, fan_in, caps_in, names_in, side_ids, merge_in, diff_in, by_in, count_in, dump_in, ends_names, asked_of, asked_by, request_of, IsAsked, refusal};
+ghost use Rattle.dexargs.specs.Asked.{is_set, option_values, number_in, files_in, out_in, possible_fan, possible_caps, names_in, side_ids, merge_in, diff_in, by_in, count_in, dump_in, ends_names, asked_of, asked_by, request_of, IsAsked, refusal};
 ghost use Rattle.dexargs.specs.CommandLine.{program_app};
 ghost use Rattle.dexargs.specs.Answers.{Returns};
 ghost use Rattle.dexargs.specs.declared.lists.Ending.{Ending};
@@ -140,7 +140,7 @@ fn copies(alloc: Global, texts: &[&str]) -> Result<Vec<String>, AllocError>
 // Returns the values of an argument.
 fn texts_of(alloc: Global, matches: &ArgMatches<'_>, id: &str) -> Result<Vec<String>, AllocError>
     ensures { IfOk result (λ texts. map string_bytes texts.items
-        ≡ values_in id.now (rows_of (found_of matches.now))) }
+        ≡ option_values id.now (rows_of (found_of matches.now))) }
 {
     match matches.get_strs(id) {
         Some(texts) => copies(alloc, texts),
@@ -187,7 +187,7 @@ fn files_of(alloc: Global, matches: &ArgMatches<'_>) -> Result<Vec<String>, NoJo
 
 // Returns how many files a merge merges at a time.
 fn fan_of(matches: &ArgMatches<'_>) -> Result<Option<usize>, NoJob>
-    ensures fan { Returns (λ fan. fan) (fan_in (rows_of (found_of matches.now))) result }
+    ensures fan { Returns (λ fan. fan) (possible_fan (rows_of (found_of matches.now))) result }
     ensures bounds { IfOk result (λ fan. IfSome fan (λ n. 2 ≤ n) × IfSome fan (λ n. n ≤ 65535)) }
 {
     match number_of(matches, "fan") {
@@ -199,7 +199,7 @@ fn fan_of(matches: &ArgMatches<'_>) -> Result<Option<usize>, NoJob>
 
 // Returns the caps of a merge: the values of the options, and the greatest caps otherwise.
 fn caps_of(matches: &ArgMatches<'_>) -> Result<Caps, NoJob>
-    ensures caps { Returns (λ caps. caps) (caps_in (rows_of (found_of matches.now))) result }
+    ensures caps { Returns (λ caps. caps) (possible_caps (rows_of (found_of matches.now))) result }
     ensures sound { IfOk result AreCaps }
 {
     let greatest = Caps::greatest();
@@ -235,7 +235,7 @@ fn merge_of(alloc: Global, matches: &ArgMatches<'_>) -> Result<Job, NoJob>
 
 // Returns whether an argument has a value.
 fn is_named(matches: &ArgMatches<'_>, id: &str) -> bool
-    ensures { result ≡ not (is_empty (values_in id.now (rows_of (found_of matches.now)))) }
+    ensures { result ≡ not (is_empty (option_values id.now (rows_of (found_of matches.now)))) }
 {
     match matches.get_strs(id) {
         Some(texts) => !texts.is_empty(),

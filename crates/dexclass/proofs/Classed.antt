@@ -1,5 +1,5 @@
 -- Classes with their parents number the definitions that they denote.
-use Rattle.dexclass.proofs.Common.{◌≡◌, ℕ, ◌<◌, List, [], ◌++◌, length, get_or, map, refl, sym, ap, ◌∙◌, subst, arith, Option, Some, None, All, IsSome, option_to_list, option_map, Contains, flat_map, filter, length-map, get_or-map, get_or_default, All-contains, Contains-get_or, Text, text_cmp, same_text, Definition, parents, is_defined, above, Mentions, Contains-flat_map, Contains-flat_map_source, Contains-filter, Contains-filter_source, list_any-member, list_any-source, Contains-map, Contains-map_source, text_total, parents_of, AreWithin, name_at, AreClassesOf, one_place as one_at, texts_same, same_from_equal, present_has, present_source, some_of, true, type_at}
+use Rattle.dexclass.proofs.Common.{◌≡◌, ℕ, ◌<◌, List, [], ◌++◌, length, get_or, map, refl, sym, ap, ◌∙◌, subst, arith, Option, Some, None, All, IsSome, option_to_list, option_map, Contains, flat_map, filter, length-map, get_or-map, get_or_default, All-contains, Contains-get_or, Text, text_cmp, same_text, Definition, parents, is_defined, above, Mentions, Contains-flat_map, Contains-flat_map_source, Contains-filter, Contains-filter_source, list_any-member, list_any-source, Contains-map, Contains-map_source, text_total, parents_of, HaveParentsWithin, defined_name, AreClassParents, one_place as one_at, texts_same, same_from_equal, present_has, present_source, some_of, true, type_at}
 use Rattle.dexclass.specs.{NumberedClass, definition_of, parent_numbers, no_class, name_number, ArePlaces, AreNamed}
 use Rattle.dexclass.proofs.Places.{places_some, places_all, defined_parents, one_place, seen_apart}
 
@@ -8,7 +8,7 @@ module _ (m : Mentions) (cs : List NumberedClass) (named : AreNamed m cs) where
   D = map (definition_of m) cs
 
   -- the name of a definition is that of its class
-  pub name_is : (i : ℕ) → i < length cs → name_at D i ≡ type_at m (name_number cs i)
+  pub name_is : (i : ℕ) → i < length cs → defined_name D i ≡ type_at m (name_number cs i)
   name_is i lt =
       let few : i < length D = omega (arith, lt, length-map cs (definition_of m)) in
       get_or-map (λ (d : Definition). d.0) D i (definition_of m no_class) [] few ∙ ap (λ (d : Definition). d.0) (get_or-map (definition_of m) cs i no_class (definition_of m no_class) lt)
@@ -39,7 +39,7 @@ module _ (m : Mentions) (cs : List NumberedClass) (named : AreNamed m cs) where
         let s = present_source ps k has in
         Contains-map_source (λ p. get_or places p None) (parent_numbers c) (Some k) (s.0, s.1, get_or_default ps s.0 (Some k) None s.1 ∙ s.2)
 
-    within : AreWithin classes
+    within : HaveParentsWithin classes
     within i d lt =
         let few : i < length cs = omega (arith, lt, length-map cs (defined_parents places)) in
         subst (All (λ p. p < length classes)) (sym (get_or-map (defined_parents places) cs i no_class d few)) (λ k e small.
@@ -48,36 +48,36 @@ module _ (m : Mentions) (cs : List NumberedClass) (named : AreNamed m cs) where
         omega (arith, (places_some cs places h s.0 (get_or (defined_parents places c) k e) s.2).0, length-map cs (defined_parents places)))
 
     -- a defined parent is above
-    is_above : (i : ℕ) (name : Text) → i < length cs → Contains (map (name_at D) (parents_of classes i)) name → Contains (above D (name_at D i)) name
+    is_above : (i : ℕ) (name : Text) → i < length cs → Contains (map (defined_name D) (parents_of classes i)) name → Contains (above D (defined_name D i)) name
     is_above i name lt has =
         let c = get_or cs i no_class in
-        let k = Contains-map_source (name_at D) (parents_of classes i) name has in
+        let k = Contains-map_source (defined_name D) (parents_of classes i) name has in
         let s = parent_source c k.0 (subst (λ (l : List ℕ). Contains l k.0) (at_class i lt) k.1) in
         let at = places_some cs places h s.0 k.0 s.2 in
-        let own : same_text (definition_of m c).0 (name_at D i) ≡ true = same_from_equal (type_at m c.name) (name_at D i) (sym (name_is i lt)) in
+        let own : same_text (definition_of m c).0 (defined_name D i) ≡ true = same_from_equal (type_at m c.name) (defined_name D i) (sym (name_is i lt)) in
         let parent : Contains (parents (definition_of m c).1) name = subst (λ (l : List Text). Contains l name) (sym (parent_types c)) (subst (Contains (map (type_at m) (parent_numbers c))) (sym (sym k.2 ∙ name_is k.0 at.0 ∙ ap (type_at m) at.1)) (Contains-map (type_at m) (parent_numbers c) s.0 s.1)) in
         let defined : is_defined D name ≡ true =
         let d = get_or cs k.0 no_class in
         list_any-member (λ x. same_text x.0 name) D (definition_of m d) (Contains-map (definition_of m) cs d (Contains-get_or cs k.0 no_class at.0)) (same_from_equal (type_at m d.name) name (sym (name_is k.0 at.0) ∙ k.2)) in
-        Contains-filter (is_defined D) (flat_map (λ d. parents d.1) (filter (λ d. same_text d.0 (name_at D i)) D)) name
-        (Contains-flat_map (λ d. parents d.1) (filter (λ d. same_text d.0 (name_at D i)) D) (definition_of m c) name (Contains-filter (λ d. same_text d.0 (name_at D i)) D (definition_of m c) (Contains-map (definition_of m) cs c (Contains-get_or cs i no_class lt)) own) parent)
+        Contains-filter (is_defined D) (flat_map (λ d. parents d.1) (filter (λ d. same_text d.0 (defined_name D i)) D)) name
+        (Contains-flat_map (λ d. parents d.1) (filter (λ d. same_text d.0 (defined_name D i)) D) (definition_of m c) name (Contains-filter (λ d. same_text d.0 (defined_name D i)) D (definition_of m c) (Contains-map (definition_of m) cs c (Contains-get_or cs i no_class lt)) own) parent)
         defined
 
     -- classes of one name are one
-    one_class : (c : NumberedClass) (i : ℕ) → Contains cs c → i < length cs → type_at m c.name ≡ name_at D i → c ≡ get_or cs i no_class
+    one_class : (c : NumberedClass) (i : ℕ) → Contains cs c → i < length cs → type_at m c.name ≡ defined_name D i → c ≡ get_or cs i no_class
     one_class c i member lt e =
         let at : get_or cs member.0 no_class ≡ c = get_or_default cs member.0 no_class c member.1 ∙ member.2 in
         let number : name_number cs member.0 ≡ name_number cs i = one_number _ _ (named.names member.0 member.1) (named.names i lt) (ap (λ (x : NumberedClass). type_at m x.name) at ∙ e ∙ name_is i lt) in
         sym at ∙ ap (λ (k : ℕ). get_or cs k no_class) (one_place (λ (x : NumberedClass). x.name) cs (seen_apart (λ (x : NumberedClass). x.name) cs named.distinct) member.0 i no_class member.1 lt number)
 
     -- and what is above is a defined parent
-    of_above : (i : ℕ) (name : Text) → i < length cs → Contains (above D (name_at D i)) name → Contains (map (name_at D) (parents_of classes i)) name
+    of_above : (i : ℕ) (name : Text) → i < length cs → Contains (above D (defined_name D i)) name → Contains (map (defined_name D) (parents_of classes i)) name
     of_above i name lt has =
-        let f = Contains-filter_source (is_defined D) (flat_map (λ d. parents d.1) (filter (λ d. same_text d.0 (name_at D i)) D)) name has in
-        let d = Contains-flat_map_source (λ d. parents d.1) (filter (λ d. same_text d.0 (name_at D i)) D) name f.0 in
-        let own = Contains-filter_source (λ d. same_text d.0 (name_at D i)) D d.0 d.1 in
+        let f = Contains-filter_source (is_defined D) (flat_map (λ d. parents d.1) (filter (λ d. same_text d.0 (defined_name D i)) D)) name has in
+        let d = Contains-flat_map_source (λ d. parents d.1) (filter (λ d. same_text d.0 (defined_name D i)) D) name f.0 in
+        let own = Contains-filter_source (λ d. same_text d.0 (defined_name D i)) D d.0 d.1 in
         let c = Contains-map_source (definition_of m) cs d.0 own.0 in
-        let is : c.0 ≡ get_or cs i no_class = one_class c.0 i c.1 lt ((ap (λ (x : Definition). x.0) c.2) ∙ texts_same d.0.0 (name_at D i) (sym own.1)) in
+        let is : c.0 ≡ get_or cs i no_class = one_class c.0 i c.1 lt ((ap (λ (x : Definition). x.0) c.2) ∙ texts_same d.0.0 (defined_name D i) (sym own.1)) in
         let p = Contains-map_source (type_at m) (parent_numbers c.0) name (subst (λ (l : List Text). Contains l name) (parent_types c.0) (subst (λ (x : Definition). Contains (parents x.1) name) (sym c.2) d.2)) in
         let e = list_any-source (λ x. same_text x.0 name) D f.1 in
         let k = Contains-map_source (definition_of m) cs e.0 e.1 in
@@ -86,9 +86,9 @@ module _ (m : Mentions) (cs : List NumberedClass) (named : AreNamed m cs) where
         let at = places_some cs places h p.0 some.0 some.1 in
         let listed : Contains (defined_parents places c.0) some.0 = let ps = map (λ q. get_or places q None) (parent_numbers c.0) in let q = subst (Contains ps) some.1 (Contains-map (λ q. get_or places q None) (parent_numbers c.0) p.0 p.1) in
         present_has ps q.0 some.0 q.1 (get_or_default ps q.0 None (Some some.0) q.1 ∙ q.2) in
-        subst (Contains (map (name_at D) (parents_of classes i))) (name_is some.0 at.0 ∙ ap (type_at m) at.1 ∙ p.2) (Contains-map (name_at D) (parents_of classes i) some.0 (subst (λ (l : List ℕ). Contains l some.0) (ap (defined_parents places) is ∙ sym (at_class i lt)) listed))
+        subst (Contains (map (defined_name D) (parents_of classes i))) (name_is some.0 at.0 ∙ ap (type_at m) at.1 ∙ p.2) (Contains-map (defined_name D) (parents_of classes i) some.0 (subst (λ (l : List ℕ). Contains l some.0) (ap (defined_parents places) is ∙ sym (at_class i lt)) listed))
 
-    pub classes_of : AreClassesOf D classes
+    pub classes_of : AreClassParents D classes
     classes_of = record {
       count = length-map cs (defined_parents places) ∙ sym (length-map cs (definition_of m));
       within = within;

@@ -24,8 +24,8 @@ pub use Rattle.dexmembers.specs.Uses.{members_symbols, members_uses}
 pub use Rattle.dexmembers.specs.Weight.{members_weight}
 pub use Rattle.dexmembers.specs.declared.class_def.ClassDef.{ClassDef}
 pub use Rattle.dexorder.proofs.DefinitionDepths.{all_known, same_from_equal}
-pub use Rattle.dexorder.specs.Definitions.{AreClassesOf, AreDepthsOf, AreNamesOf, name_at}
-pub use Rattle.dexorder.specs.Depths.{AreDepths, AreWithin, parents_of}
+pub use Rattle.dexorder.specs.Definitions.{AreClassParents, AreDepthsOf, AreNamesOf, defined_name}
+pub use Rattle.dexorder.specs.Depths.{AreDepths, HaveParentsWithin, parents_of}
 pub use Rattle.dexids.proofs.Bytes.{uint_at_row, ushort_at_rest}
 pub use Rattle.dexpool.proofs.KeptRows.{kept_from, kept_has, mark_within}
 pub use Rattle.dexpool.proofs.Pairs.{map_both, zip_at, zip_length, zip_push, zip_source, zip_target}

@@ -1,5 +1,5 @@
 -- Classes in the order of their definitions.
-use Rattle.dexclass.proofs.Common.{◌≡◌, ℕ, ◌<◌, true, List, [], length, get_or, map, refl, sym, ap, ◌∙◌, subst, arith, Option, Some, None, All, Contains, range_with_len, length-map, get_or-map, get_or_default, length-range_with_len, All-contains, Contains-get_or, rises, AreDistinct, Text, Definition, IsAcyclic, depth, in_class_order, Mentions, Rises-from_rises, AreDistinct-from_Rises, Contains-map, Contains-map_source, AreDistinct-map_source, AreDepths, AreClassesOf, AreDepthsOf, AreNamesOf, all_known, map_both, type_at}
+use Rattle.dexclass.proofs.Common.{◌≡◌, ℕ, ◌<◌, true, List, [], length, get_or, map, refl, sym, ap, ◌∙◌, subst, arith, Option, Some, None, All, Contains, range_with_len, length-map, get_or-map, get_or_default, length-range_with_len, All-contains, Contains-get_or, rises, AreDistinct, Text, Definition, IsAcyclic, depth, in_class_order, Mentions, Rises-from_rises, AreDistinct-from_Rises, Contains-map, Contains-map_source, AreDistinct-map_source, AreDepths, AreClassParents, AreDepthsOf, AreNamesOf, all_known, map_both, type_at}
 use Rattle.std.specs.List.Sorted.{IsPermutation}
 use Rattle.std.proofs.lemmas.List.Sorted.{Contains-permutation, IsPermutation-sym, length_permutation}
 use Rattle.dexorder.specs.Places.{class_place, class_cmp}
@@ -28,8 +28,8 @@ module _ (m : Mentions) (cs : List NumberedClass) (named : AreNamed m cs) where
   arranged_are order within = map_both (λ i. get_or cs i no_class) (definition_of m) (λ i. get_or D i (definition_of m no_class)) order (λ k d lt. sym (get_or-map (definition_of m) cs (get_or order k d) no_class (definition_of m no_class) (within k d lt)))
 
   module _ (H : List (List ℕ)) (h : IsHierarchy cs H) where
-    pub are_classes : AreClassesOf D H
-    are_classes = subst (AreClassesOf D) (sym (parents_are cs H h)) (classes_of m cs named h.by_type h.are)
+    pub are_classes : AreClassParents D H
+    are_classes = subst (AreClassParents D) (sym (parents_are cs H h)) (classes_of m cs named h.by_type h.are)
 
     -- the depths that were found are those of the definitions
     pub depths_are : (depths : List (Option ℕ)) → AreDepths H depths → IsAcyclic D → AreDepthsOf D depths

@@ -9,7 +9,7 @@ use Rattle.dexpool.specs.declared.symbols.SymbolKind.TheVariants as kinds
 use Rattle.dexpool.proofs.Numbers.{number_ranked, one_back}
 use Rattle.dexpool.proofs.Numbers as numbers
 use Rattle.dexmembers.proofs.SameMembers.{ranked_members, members_back}
-use Rattle.dexclass.specs.{NumberedClass, definition_of, type_numbers, text_numbers, type_use, text_use, IsKnownClass, remapped, renumbered, IsMappedClass, StaysSame}
+use Rattle.dexclass.specs.{NumberedClass, definition_of, type_numbers, text_numbers, type_use, text_use, IsKnownClass, image_or_same, renumbered_class, IsMappedClass, StaysSame}
 use Rattle.dexclass.proofs.Remapped.{remapped_is, all_remapped, optional_remapped, all_within, optional_numbers, numbers_after}
 
 -- ---- a class that is remapped
@@ -48,11 +48,11 @@ pub record MembersStay (m n : Mentions) (r : Maps) (class : Text) (x : NumberedM
   pub own : AreOfClass n class (renumbered_members r x)
 
 module _ (m n : Mentions) (r : Maps) (h : AllMapTo m n r) (c : NumberedClass) (maps_to : IsMappedClass r c) where
-  pub name_remapped : type_at n (remapped r.types c.name) ≡ type_at m c.name
+  pub name_remapped : type_at n (image_or_same r.types c.name) ≡ type_at m c.name
   name_remapped = remapped_is m.types n.types r.types h.types_mapped c.name (All-head (λ i. IsSome (image r.types i)) c.name (option_to_list c.superclass ++ c.interfaces) (types_mapped r c maps_to))
 
   module _ (stay : MembersStay m n r (type_at m c.name) c.members) where
-    definition_remapped : definition_of n (renumbered r c) ≡ definition_of m c
+    definition_remapped : definition_of n (renumbered_class r c) ≡ definition_of m c
     definition_remapped = λ i. (
       name_remapped i,
       record {
@@ -74,8 +74,8 @@ module _ (m n : Mentions) (r : Maps) (h : AllMapTo m n r) (c : NumberedClass) (m
     stays_same known = record {
       same = definition_remapped;
       known = record {
-        types_in = subst (All (λ k. k < length n.types)) (ap (λ (l : List ℕ). remapped r.types c.name ∷ l) (numbers_after (remapped r.types) c.superclass c.interfaces)) (all_within m.types n.types r.types h.types_mapped (type_numbers c) (types_mapped r c maps_to));
-        texts_in = subst (All (λ k. k < length n.texts)) (optional_numbers (remapped r.texts) c.source) (all_within m.texts n.texts r.texts h.texts_mapped (text_numbers c) (texts_mapped r c maps_to));
+        types_in = subst (All (λ k. k < length n.types)) (ap (λ (l : List ℕ). image_or_same r.types c.name ∷ l) (numbers_after (image_or_same r.types) c.superclass c.interfaces)) (all_within m.types n.types r.types h.types_mapped (type_numbers c) (types_mapped r c maps_to));
+        texts_in = subst (All (λ k. k < length n.texts)) (optional_numbers (image_or_same r.texts) c.source) (all_within m.texts n.texts r.texts h.texts_mapped (text_numbers c) (texts_mapped r c maps_to));
         members_known = stay.known;
         members_ordered = stay.ordered;
         members_own = subst (λ t. AreOfClass n t (renumbered_members r c.members)) (sym name_remapped) stay.own;
@@ -113,8 +113,8 @@ class_back m rising c known =
     λ i. record { name = name i; flags = c.flags; superclass = superclass i; interfaces = interfaces i; source = source i; members = declared i; weight = (sym known.weighed) i }
 
 -- mapped into one numbering, they are the same if and only if their definitions are
-pub same_classes : (m n whole : Mentions) (r s : Maps) (c d : NumberedClass) → AreRising whole → StaysSame m whole r c → StaysSame n whole s d → (renumbered r c ≡ renumbered s d) ↔ (definition_of m c ≡ definition_of n d)
+pub same_classes : (m n whole : Mentions) (r s : Maps) (c d : NumberedClass) → AreRising whole → StaysSame m whole r c → StaysSame n whole s d → (renumbered_class r c ≡ renumbered_class s d) ↔ (definition_of m c ≡ definition_of n d)
 same_classes m n whole r s c d rising mine theirs = (
   λ e. sym mine.same ∙ ap (definition_of whole) e ∙ theirs.same,
-  λ e. sym (class_back whole rising (renumbered r c) mine.known) ∙ ap (ranked_class whole) (mine.same ∙ e ∙ sym theirs.same) ∙ class_back whole rising (renumbered s d) theirs.known,
+  λ e. sym (class_back whole rising (renumbered_class r c) mine.known) ∙ ap (ranked_class whole) (mine.same ∙ e ∙ sym theirs.same) ∙ class_back whole rising (renumbered_class s d) theirs.known,
 )

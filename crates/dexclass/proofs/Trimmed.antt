@@ -1,6 +1,6 @@
 -- Classes whose numbers are mapped to those of what they mention.
 use Rattle.dexclass.proofs.Common.{◌≡◌, List, map, get_or, sym, ap, ◌∙◌, subst, All, AllZip, flat_map, All-map, Contains-get_or, Mentions, symbols_of, mentions, closed, Contains-flat_map, Marks, Maps, marked, IsUseOf, MapsMarked, map_both, parts_zip}
-use Rattle.dexclass.specs.{NumberedClass, definition_of, class_uses, IsKnownClass, HaveMarked, renumbered, IsMappedClass, StaysSame}
+use Rattle.dexclass.specs.{NumberedClass, definition_of, class_uses, IsKnownClass, HaveMarked, renumbered_class, IsMappedClass, StaysSame}
 use Rattle.dexclass.specs.internal.Trimming.{AreTrimmed}
 use Rattle.dexclass.proofs.Mentioned.{kept_closed, is_marked}
 
@@ -22,13 +22,13 @@ module _ (m : Mentions) (cs : List NumberedClass) (known : All (IsKnownClass m) 
       maps_to u.kind u.number (is_marked m (flat_map class_uses cs) (flat_map symbols_of (map (definition_of m) cs)) marks zipped h u (Contains-flat_map class_uses cs c u (Contains-get_or cs i d lt) (Contains-get_or (class_uses c) k e within)))
 
 -- remapped, they denote the same definitions by numbers of what is kept
-module _ (m n : Mentions) (r : Maps) (cs new : List NumberedClass) (stay : (c : NumberedClass) → IsMappedClass r c → IsKnownClass m c → StaysSame m n r c) (are_mapped : All (IsMappedClass r) cs) (known : All (IsKnownClass m) cs) (e : new ≡ map (renumbered r) cs) where
+module _ (m n : Mentions) (r : Maps) (cs new : List NumberedClass) (stay : (c : NumberedClass) → IsMappedClass r c → IsKnownClass m c → StaysSame m n r c) (are_mapped : All (IsMappedClass r) cs) (known : All (IsKnownClass m) cs) (e : new ≡ map (renumbered_class r) cs) where
   all_stay : All (StaysSame m n r) cs
   all_stay = λ i d lt. stay (get_or cs i d) (are_mapped i d lt) (known i d lt)
 
   pub trimmed : n ≡ mentions (map (definition_of m) cs) → AreTrimmed (map (definition_of m) cs) n new
   trimmed is = record {
     mentions_are = is;
-    same = ap (map (definition_of n)) e ∙ map_both (renumbered r) (definition_of n) (definition_of m) cs (λ i d lt. (all_stay i d lt).same);
-    known = subst (All (IsKnownClass n)) (sym e) (All-map (IsKnownClass n) (renumbered r) cs (λ i d lt. (all_stay i d lt).known));
+    same = ap (map (definition_of n)) e ∙ map_both (renumbered_class r) (definition_of n) (definition_of m) cs (λ i d lt. (all_stay i d lt).same);
+    known = subst (All (IsKnownClass n)) (sym e) (All-map (IsKnownClass n) (renumbered_class r) cs (λ i d lt. (all_stay i d lt).known));
   }

@@ -12,17 +12,17 @@ use Rattle.dexpool.specs.Uses.{HasMark, IsUseOf}
 use Rattle.dexpool.specs.declared.marks.Marks.{Marks}
 use Rattle.dexclass.specs.Numbered.{NumberedClass, definition_of}
 use Rattle.dexclass.specs.Uses.{IsKnownClass, class_uses}
-use Rattle.dexclass.specs.Renumbering.{renumbered, IsMappedClass, StaysSame, IsPartClass}
+use Rattle.dexclass.specs.Renumbering.{renumbered_class, IsMappedClass, StaysSame, IsPartClass}
 
 -- what occurs in a class are the symbols of what it denotes, one for one and in their order
-abbrev pub UsesAreSymbols : Type 0
-UsesAreSymbols =
+abbrev pub ClassUsesAreSymbols : Type 0
+ClassUsesAreSymbols =
     (m : Mentions) (c : NumberedClass) → AreRising m → IsKnownClass m c
     → AllZip (IsUseOf m) (class_uses c) (symbols_of (definition_of m c))
 
 -- where there is a mark for each symbol, there is one for each that occurs in a class
-abbrev pub UsesHaveMarks : Type 0
-UsesHaveMarks =
+abbrev pub ClassUsesHaveMarks : Type 0
+ClassUsesHaveMarks =
     (m : Mentions) (marks : Marks) (c : NumberedClass) → AreMarksOf m marks → IsKnownClass m c
     → All (HasMark marks) (class_uses c)
 
@@ -41,7 +41,7 @@ AllAreMapped =
 abbrev pub SameOnceMapped : Type 0
 SameOnceMapped =
     (m n whole : Mentions) (r s : Maps) (c d : NumberedClass) → AreRising whole → IsPartClass whole m r c
-    → IsPartClass whole n s d → (renumbered r c ≡ renumbered s d) ↔ (definition_of m c ≡ definition_of n d)
+    → IsPartClass whole n s d → (renumbered_class r c ≡ renumbered_class s d) ↔ (definition_of m c ≡ definition_of n d)
 
 -- what is good under caps stays so without debug programs and source texts
 abbrev pub StrippedStaysGood : Collection → Type 0

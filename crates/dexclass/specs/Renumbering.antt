@@ -10,21 +10,21 @@ use Rattle.dexclass.specs.Numbered.{NumberedClass, definition_of}
 use Rattle.dexclass.specs.Uses.{class_uses, IsKnownClass}
 
 -- the image of a number; one that has no image stays
-abbrev pub remapped : List (Option ℕ) → ℕ → ℕ
-remapped images i = unwrap_or (image images i) i
+abbrev pub image_or_same : List (Option ℕ) → ℕ → ℕ
+image_or_same images i = unwrap_or (image images i) i
 
 -- numbers of types, each remapped
 abbrev pub remapped_types : Maps → List ℕ → List ℕ
-remapped_types r numbers = map (remapped r.types) numbers
+remapped_types r numbers = map (image_or_same r.types) numbers
 
 -- the class with each number remapped
-abbrev pub renumbered : Maps → NumberedClass → NumberedClass
-renumbered r c = record {
-  name = remapped r.types c.name;
+abbrev pub renumbered_class : Maps → NumberedClass → NumberedClass
+renumbered_class r c = record {
+  name = image_or_same r.types c.name;
   flags = c.flags;
-  superclass = option_map (remapped r.types) c.superclass;
-  interfaces = map (remapped r.types) c.interfaces;
-  source = option_map (remapped r.texts) c.source;
+  superclass = option_map (image_or_same r.types) c.superclass;
+  interfaces = map (image_or_same r.types) c.interfaces;
+  source = option_map (image_or_same r.texts) c.source;
   members = renumbered_members r c.members;
   weight = c.weight;
 }
@@ -44,8 +44,8 @@ pub record MapsAllInto (m n : Mentions) (r : Maps) : Type 0 where
 
 -- remapped, the class denotes the same definition, by numbers of the second numbering
 pub record StaysSame (m n : Mentions) (r : Maps) (c : NumberedClass) : Type 0 where
-  pub same : definition_of n (renumbered r c) ≡ definition_of m c
-  pub known : IsKnownClass n (renumbered r c)
+  pub same : definition_of n (renumbered_class r c) ≡ definition_of m c
+  pub known : IsKnownClass n (renumbered_class r c)
 
 -- the class's numbers are those of symbols, and each symbol that occurs maps to the same one of the whole
 pub record IsPartClass (whole m : Mentions) (r : Maps) (c : NumberedClass) : Type 0 where

@@ -4,7 +4,7 @@ ghost use Rattle.std.specs.Prelude.{◌≡◌, ◌↔◌, IfOk, IsTrue};
 ghost use Rattle.dexspec.specs.Mentions.{Mentions};
 ghost use Rattle.dexpool.specs.Numberings.{AreRising};
 ghost use Rattle.dexclass.specs.Uses.{IsKnownClass, class_weight};
-ghost use Rattle.dexclass.specs.Renumbering.{renumbered, remapped_types};
+ghost use Rattle.dexclass.specs.Renumbering.{renumbered_class, remapped_types};
 
 use crate::classes::Class;
 use crate::renumbering::{optional_text_number, optional_type_number, type_number};
@@ -39,7 +39,8 @@ impl<'a> Class<'a> {
     /// Returns whether the two classes are equal once the numbers of each are remapped as `renumber` does. The names
     /// are compared first.
     pub fn same_mapped(&self, mine: &Remap, other: &Class<'_>, theirs: &Remap) -> bool
-        ensures { IsTrue result ↔ (renumbered mine.now self.now ≡ renumbered theirs.now other.now) }
+        ensures { IsTrue result ↔
+            (renumbered_class mine.now self.now ≡ renumbered_class theirs.now other.now) }
     {
         let superclass = optional_type_number(theirs, other.superclass);
         type_number(mine, self.name) == type_number(theirs, other.name)

@@ -2,7 +2,7 @@
 
 ghost use Rattle.std.specs.Prelude.{◌≡◌, MatchOption};
 ghost use Rattle.dexorder.specs.Parents.{HasNoClassFrom, IsFirstClassFrom};
-ghost use Rattle.dexclass.specs.Renumbering.{renumbered};
+ghost use Rattle.dexclass.specs.Renumbering.{renumbered_class};
 ghost use Rattle.dexclass.specs.internal.InterfaceClasses.{type_of, types_of};
 
 use crate::classes::Class;
@@ -55,8 +55,8 @@ impl<'a> Class<'a> {
         passed: usize,
     ) -> Option<InterfaceClass>
         ensures { MatchOption result
-            (HasNoClassFrom by_type.now (renumbered remap.now self.now).interfaces passed)
-            (IsFirstClassFrom by_type.now (renumbered remap.now self.now).interfaces passed) }
+            (HasNoClassFrom by_type.now (renumbered_class remap.now self.now).interfaces passed)
+            (IsFirstClassFrom by_type.now (renumbered_class remap.now self.now).interfaces passed) }
     {
         first_class(by_type, &self.interfaces.numbers(), Some(remap), passed)
     }

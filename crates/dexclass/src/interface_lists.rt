@@ -4,7 +4,7 @@ ghost use Rattle.std.specs.Prelude.{◌≡◌, ◌/◌, [], length, map, take, d
 ghost use Rattle.dexspec.specs.Bytes.{ushorts_at};
 ghost use Rattle.dexids.specs.Reading.{listed};
 ghost use Rattle.dexclass.specs.internal.Rows.{HasInterfaceList};
-ghost use Rattle.dexclass.specs.Renumbering.{remapped};
+ghost use Rattle.dexclass.specs.Renumbering.{image_or_same};
 
 use crate::list_parts::{ListPlace, SharedPart, shorts_between};
 use crate::renumbering::type_number;
@@ -112,7 +112,7 @@ fn are_words_at(whole: &[usize], place: usize, list: &[usize]) -> bool
 
 // Returns whether the numbers of types are their own images.
 fn are_unchanged(remap: &Remap, numbers: &TypeNumbers<'_>) -> bool
-    ensures { IsTrue result → map (remapped remap.now.types) numbers.now ≡ numbers.now }
+    ensures { IsTrue result → map (image_or_same remap.now.types) numbers.now ≡ numbers.now }
 {
     for k in 0..numbers.len() {
         let number = numbers.at(k);
@@ -130,7 +130,7 @@ pub(crate) fn remapped_types(
     numbers: &TypeNumbers<'_>,
 ) -> Result<Vec<usize>, AllocError>
     ensures { IfOk result (λ images.
-        images.items ≡ map (remapped remap.now.types) numbers.now) }
+        images.items ≡ map (image_or_same remap.now.types) numbers.now) }
 {
     let mut images = Vec::with_capacity(alloc, numbers.len())?;
     for k in 0..numbers.len() {
@@ -147,7 +147,7 @@ pub(crate) fn remapped_shorts(
 ) -> Result<Option<Vec<u8>>, AllocError>
     ensures { IfOk result (λ found. IfSome found
         (λ bytes. ushorts_at bytes.items 0 (length bytes.items / 2)
-        ≡ map (remapped remap.now.types) numbers.now)) }
+        ≡ map (image_or_same remap.now.types) numbers.now)) }
 {
     let mut bytes = Vec::with_capacity(alloc, numbers.len().saturating_mul(2))?;
     for k in 0..numbers.len() {
@@ -343,7 +343,7 @@ impl<'a> Interfaces<'a> {
     /// stays.
     pub(crate) fn renumbered(&self, remap: &Remap) -> Result<Option<Interfaces<'a>>, AllocError>
         ensures { IfOk result (λ list.
-            unwrap_or list self.now ≡ map (remapped remap.now.types) self.now) }
+            unwrap_or list self.now ≡ map (image_or_same remap.now.types) self.now) }
     {
         if are_unchanged(remap, &self.numbers()) {
             return Ok(None);

@@ -1,15 +1,15 @@
 //! Laws of classes that are remapped, and of the symbols that occur in them. Each function does nothing: its contract
 //! is the law, for the callers that cite it.
 
-ghost use Rattle.dexclass.specs.Laws.{UsesAreSymbols, UsesHaveMarks, MappedStaysSame, AllAreMapped, SameOnceMapped};
+ghost use Rattle.dexclass.specs.Laws.{ClassUsesAreSymbols, ClassUsesHaveMarks, MappedStaysSame, AllAreMapped, SameOnceMapped};
 
 use dexmembers::{members_remapped_law, members_uses_law};
 
 /// The symbols that occur in a class are those of what it denotes, one for one and in their order. Where there is a
 /// mark for each symbol, there is one for each that occurs.
 pub fn uses_law()
-    ensures uses { UsesAreSymbols }
-    ensures marks { UsesHaveMarks }
+    ensures uses { ClassUsesAreSymbols }
+    ensures marks { ClassUsesHaveMarks }
 {
     members_uses_law();
 }

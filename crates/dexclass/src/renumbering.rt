@@ -2,7 +2,7 @@
 
 ghost use Rattle.std.specs.Prelude.{◌≡◌, map, unwrap_or, OnOk, OnErr};
 ghost use Rattle.std.specs.Option.{option_map};
-ghost use Rattle.dexclass.specs.Renumbering.{remapped, renumbered, ClassHasPlaces};
+ghost use Rattle.dexclass.specs.Renumbering.{image_or_same, renumbered_class, ClassHasPlaces};
 
 use crate::classes::Class;
 use crate::interface_lists::Interfaces;
@@ -12,28 +12,28 @@ use std::alloc::AllocError;
 
 /// The image of the number of a type, or the number itself if it has none.
 pub(crate) fn type_number(remap: &Remap, i: usize) -> usize
-    ensures { result ≡ remapped remap.now.types i }
+    ensures { result ≡ image_or_same remap.now.types i }
 {
     remap.or_same(SymbolKind::Typ, i)
 }
 
 // The image of the number of a text, or the number itself if it has none.
 fn text_number(remap: &Remap, i: usize) -> usize
-    ensures { result ≡ remapped remap.now.texts i }
+    ensures { result ≡ image_or_same remap.now.texts i }
 {
     remap.or_same(SymbolKind::Text, i)
 }
 
 /// What [`type_number`] returns for a number, if there is one.
 pub(crate) fn optional_type_number(remap: &Remap, i: Option<usize>) -> Option<usize>
-    ensures { result ≡ option_map (remapped remap.now.types) i }
+    ensures { result ≡ option_map (image_or_same remap.now.types) i }
 {
     i.map(|i| type_number(remap, i))
 }
 
 /// What `text_number` returns for a number, if there is one.
 pub(crate) fn optional_text_number(remap: &Remap, i: Option<usize>) -> Option<usize>
-    ensures { result ≡ option_map (remapped remap.now.texts) i }
+    ensures { result ≡ option_map (image_or_same remap.now.texts) i }
 {
     i.map(|i| text_number(remap, i))
 }
@@ -46,7 +46,7 @@ impl<'a> Class<'a> {
     /// [`dexmembers::Members::renumber`] asks. Error: an allocation failed; the class is as it was.
     pub fn renumber(&mut self, remap: &Remap) -> Result<(), AllocError>
         requires { ClassHasPlaces remap.now self.old }
-        ensures renumbered { OnOk result (self.new ≡ renumbered remap.now self.old) }
+        ensures renumbered { OnOk result (self.new ≡ renumbered_class remap.now self.old) }
         ensures unchanged { OnErr result (self.new ≡ self.old) }
     {
         let interfaces = self.interfaces.renumbered(remap)?;
@@ -62,9 +62,9 @@ impl<'a> Class<'a> {
     ) -> Result<(), AllocError>
         requires places { ClassHasPlaces items.old self.old }
         requires interfaces { unwrap_or interfaces self.old.interfaces
-            ≡ map (remapped items.old.types) self.old.interfaces }
+            ≡ map (image_or_same items.old.types) self.old.interfaces }
         ensures items { items.new ≡ items.old }
-        ensures renumbered { OnOk result (self.new ≡ renumbered items.old self.old) }
+        ensures renumbered { OnOk result (self.new ≡ renumbered_class items.old self.old) }
         ensures unchanged { OnErr result (self.new ≡ self.old) }
     {
         let remap = items.remap();
@@ -80,7 +80,7 @@ impl<'a> Class<'a> {
 /// The same as [`Class::renumber`].
 pub fn renumber(class: &mut Class<'_>, remap: &Remap) -> Result<(), AllocError>
     requires { ClassHasPlaces remap.now class.old }
-    ensures renumbered { OnOk result (class.new ≡ renumbered remap.now class.old) }
+    ensures renumbered { OnOk result (class.new ≡ renumbered_class remap.now class.old) }
     ensures unchanged { OnErr result (class.new ≡ class.old) }
 {
     class.renumber(remap)

@@ -2,7 +2,7 @@
 
 ghost use Rattle.std.specs.Prelude.{◌≡◌, All, IfOk, IfSome, OnOk, OnErr, map, unwrap_or};
 ghost use Rattle.dexpool.specs.Numberings.{Maps};
-ghost use Rattle.dexclass.specs.Renumbering.{remapped, renumbered, ClassHasPlaces};
+ghost use Rattle.dexclass.specs.Renumbering.{image_or_same, renumbered_class, ClassHasPlaces};
 ghost use Rattle.dexclass.specs.internal.Shared.{shared_in};
 ghost use Rattle.dexclass.specs.internal.Wholes.{IsRemapped};
 
@@ -102,7 +102,7 @@ fn shared_images(
     numbers: &TypeNumbers<'_>,
 ) -> Result<SharedNumbers, AllocError>
     ensures { IfOk result (λ images.
-        shared_in images ≡ map (remapped remap.now.types) numbers.now) }
+        shared_in images ≡ map (image_or_same remap.now.types) numbers.now) }
 {
     if let Some(bytes) = remapped_shorts(alloc, remap, numbers)? {
         return Ok(SharedNumbers::Shorts(Rc::new(alloc, bytes)?));
@@ -146,7 +146,7 @@ impl<'a> Whole<'a> {
         list: &Interfaces<'a>,
     ) -> Result<Option<SharedPart>, AllocError>
         ensures { (r : Maps) → IsRemapped r self.now → IfOk result (λ found. IfSome found
-            (λ images. images ≡ map (remapped r.types) list.now)) }
+            (λ images. images ≡ map (image_or_same r.types) list.now)) }
     {
         let Some(start) = place.start.checked_sub(self.low) else {
             return Ok(None);
@@ -256,7 +256,7 @@ impl<'r, 'a> Renumbering<'r, 'a> {
     // The images of a list, if it is a part of what is remapped already.
     fn images_of(&self, list: &Interfaces<'a>) -> Result<Option<SharedPart>, AllocError>
         ensures { IfOk result (λ found. IfSome found
-            (λ images. images ≡ map (remapped self.now.types) list.now)) }
+            (λ images. images ≡ map (image_or_same self.now.types) list.now)) }
     {
         let Some(place) = list.place() else {
             return Ok(None);
@@ -270,7 +270,7 @@ impl<'r, 'a> Renumbering<'r, 'a> {
     // The list with each number remapped, or `None` if all stay.
     fn renumbered_list(&self, list: &Interfaces<'a>) -> Result<Option<Interfaces<'a>>, AllocError>
         ensures { IfOk result (λ images.
-            unwrap_or images list.now ≡ map (remapped self.now.types) list.now) }
+            unwrap_or images list.now ≡ map (image_or_same self.now.types) list.now) }
     {
         if let Some(images) = self.images_of(list)? {
             return Ok(Some(list.part(images)));
@@ -285,7 +285,7 @@ impl<'r, 'a> Renumbering<'r, 'a> {
     pub fn renumber(&mut self, class: &mut Class<'a>) -> Result<(), AllocError>
         requires { ClassHasPlaces self.old class.old }
         ensures kept { self.new ≡ self.old }
-        ensures renumbered { OnOk result (class.new ≡ renumbered self.old class.old) }
+        ensures renumbered { OnOk result (class.new ≡ renumbered_class self.old class.old) }
         ensures unchanged { OnErr result (class.new ≡ class.old) }
     {
         let interfaces = self.renumbered_list(&class.interfaces)?;

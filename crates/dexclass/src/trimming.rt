@@ -5,7 +5,7 @@ ghost use Rattle.dexpool.specs.Orderly.{MapsDown};
 ghost use Rattle.dexclass.specs.Numbered.{definition_of};
 ghost use Rattle.dexclass.specs.Uses.{IsKnownClass};
 ghost use Rattle.dexclass.specs.internal.Trimming.{MarkClasses, AreTrimmed};
-ghost use Rattle.dexclass.specs.Renumbering.{renumbered, IsMappedClass};
+ghost use Rattle.dexclass.specs.Renumbering.{renumbered_class, IsMappedClass};
 
 use crate::classes::Class;
 use crate::equal_lists::first_equal;
@@ -46,7 +46,7 @@ fn cut_all<'a>(
 ) -> Result<(), AllocError>
     requires down { MapsDown remap.now }
     requires remapped { All (IsMappedClass remap.now) classes.old.items }
-    ensures { OnOk result (classes.new.items ≡ map (renumbered remap.now) classes.old.items) }
+    ensures { OnOk result (classes.new.items ≡ map (renumbered_class remap.now) classes.old.items) }
 {
     members_cut_law();
     let images = mem::replace(known, KnownImages::none(alloc));

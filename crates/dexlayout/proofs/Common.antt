@@ -54,4 +54,4 @@ pub use Rattle.dexspec.specs.WellFormed.{AreWellFormed, IsCodeItem, IsDebug, IsM
 pub use Rattle.dexval.specs.Code.{annotation_of, set_of, value_of}
 pub use Rattle.dexval.specs.Numbered.{Annotated, AreKnown, Array, BooleanLiteral, ByteLiteral, CharLiteral, DoubleLiteral, EnumReference, FieldReference, FloatLiteral, IntLiteral, IsKnownAnnotation, IsKnownSet, LongLiteral, MethodReference, Named, NoElement, NoValue, NullLiteral, NumberedAnnotation, NumberedElements, NumberedSet, NumberedValue, NumberedValues, Plain, ShortLiteral, StringReference, ThenNamed, ThenNext, TypeReference, annotation_in, elements_in, set_in, text_at, type_at, value_in, values_in, values_of_list}
 pub use Rattle.dexval.specs.declared.annotation.Annotation.{Annotation}
-pub use Rattle.dexlayout.specs.{AreAnnotations, AreClassData, AreCodes, AreData, AreDebugs, AreDirectories, AreEncodedIn, AreItemsIn, AreKept, AreKeptIn, AreKnownSets, AreLaidIn, AreLaidSo, AreRefLists, AreSets, AreShared, AreSharedAt, AreSharedIn, AreStaticValues, AreTypeLists, AreTypes, AreWritable, AreWrittenSets, EncodedItems, HasShortCode, HasUses, HaveItems, HaveOwnBytes, IsLaid, IsMap, ItemPlaces, KeepsUse, KeptItems, SetPlaces, SharedTo, SharesLists, SharesSets, align_next, all_debug_encodings, annotation_counts, annotation_item, annotation_items, class_data_item, class_data_items, class_parameter_counts, code_item, code_items, collect_class, collect_classes, collect_method, collect_methods, collect_own, debug_encoding, debug_encodings, directory_item, directory_items, encode_use, encode_uses, encoded_debugs, encoded_lists, end_item, entry_count, entry_of, field_uses, file_end, has_no_members, interfaces_use, list_bytes, list_item, members_uses, method_uses, methods_uses, no_items_from, no_sets, none_from, offset_lists, ordered_of, parameter_counts, parts_of_class, parts_of_classes, parts_of_methods, pass, pass_use, place_use, place_uses, placed_map, put_at, put_item, put_next, same_bytes, same_numbers, same_numbers_decides, section_parts, set_annotations, set_item, set_use, sets_of_class, sets_of_method, shared_at, shared_by, shared_places, static_item, table_parts, total, use_offsets, whole_map, without_bytes}
+pub use Rattle.dexlayout.specs.{AreAnnotations, AreClassData, AreCodes, AreData, AreDebugs, AreDirectories, AreEncodedIn, AreItemsIn, AreKept, AreKeptIn, AreKnownSets, AreLaidIn, AreLaidSo, AreRefLists, AreSets, AreShared, AreSharedAt, AreSharedItemsOf, AreStaticValues, AreTypeLists, AreTypes, AreWritable, AreWrittenSets, EncodedItems, HasShortCode, HasUses, HaveItems, HaveOwnBytes, IsLaid, IsMap, ItemPlaces, KeepsUse, KeptItems, SetPlaces, SharedTo, SharesLists, SharesSets, align_next, all_debug_encodings, annotation_counts, annotation_item, annotation_items, class_data_item, class_data_items, class_parameter_counts, code_item, code_items, collect_class, collect_classes, collect_method, collect_methods, collect_own, debug_encoding, debug_encodings, directory_item, directory_items, encode_use, encode_uses, encoded_debugs, encoded_lists, end_item, entry_count, entry_of, field_uses, file_end, has_no_members, interfaces_use, list_bytes, list_item, members_uses, method_uses, methods_uses, no_items_from, no_sets, none_from, offset_lists, ordered_of, parameter_counts, parts_of_class, parts_of_classes, parts_of_methods, pass, pass_use, place_use, place_uses, placed_map, put_at, put_item, put_next, same_bytes, same_numbers, same_numbers_decides, section_parts, set_annotations, set_item, set_use, sets_of_class, sets_of_method, shared_at, shared_by, shared_places, static_item, table_parts, total, use_offsets, whole_map, without_bytes}

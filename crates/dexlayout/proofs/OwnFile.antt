@@ -1,5 +1,5 @@
 -- The file of a program's classes: its tables and map from their parts, and its length.
-use Rattle.dexlayout.proofs.Common.{◌≡◌, ℕ, ◌+◌, ◌*◌, ◌≤◌, List, [], ◌∷◌, ◌++◌, length, map, refl, ap, ◌∙◌, arith, flat_map, ◌==◌, slice_index, length-map, round_up, Table, Mentions, Section, HeaderItem, TableOf, MapList, TypeLists, AnnotationItems, EncodedArrayItems, StringDataItems, DebugInfoItems, CodeItems, ClassDataItems, AnnotationSets, AnnotationSetRefLists, AnnotationsDirectories, Ordered, Placed, offsets, offsets_from, end, placed_tables, data_sections, map_of, data_start, type_list_section, annotation_section, array_section, string_section, debug_section, code_section, class_data_section, set_section, ref_list_section, directory_section, NumberedClass, definition_of, sym, subst, drop, padding, HasSize, Collection, definitions, mentions, Caps, greatest_caps, AreCaps, Fits, IsGood, AreWellFormed, EqualOnce, map_bytes, unsigned_file, with_sums, ordered, canonical, set_offsets, data_before_map, map_place, map_place_is, map_list_named, parts, StatesLayout, map_start, map_list, entry_meant, IsNumbering, AreWritable, ordered_of, entry_of, table_parts, section_parts, SetPlaces, file_end, AreLaidIn, AreLaidSo, AreEncodedIn, AreSharedAt, AreSharedIn, AreSets, HaveOwnBytes, IsLaid, IsMap, AreItemsIn, AreKeptIn, placed_map, whole_map, if◌then◌else◌}
+use Rattle.dexlayout.proofs.Common.{◌≡◌, ℕ, ◌+◌, ◌*◌, ◌≤◌, List, [], ◌∷◌, ◌++◌, length, map, refl, ap, ◌∙◌, arith, flat_map, ◌==◌, slice_index, length-map, round_up, Table, Mentions, Section, HeaderItem, TableOf, MapList, TypeLists, AnnotationItems, EncodedArrayItems, StringDataItems, DebugInfoItems, CodeItems, ClassDataItems, AnnotationSets, AnnotationSetRefLists, AnnotationsDirectories, Ordered, Placed, offsets, offsets_from, end, placed_tables, data_sections, map_of, data_start, type_list_section, annotation_section, array_section, string_section, debug_section, code_section, class_data_section, set_section, ref_list_section, directory_section, NumberedClass, definition_of, sym, subst, drop, padding, HasSize, Collection, definitions, mentions, Caps, greatest_caps, AreCaps, Fits, IsGood, AreWellFormed, EqualOnce, map_bytes, unsigned_file, with_sums, ordered, canonical, set_offsets, data_before_map, map_place, map_place_is, map_list_named, parts, StatesLayout, map_start, map_list, entry_meant, IsNumbering, AreWritable, ordered_of, entry_of, table_parts, section_parts, SetPlaces, file_end, AreLaidIn, AreLaidSo, AreEncodedIn, AreSharedAt, AreSharedItemsOf, AreSets, HaveOwnBytes, IsLaid, IsMap, AreItemsIn, AreKeptIn, placed_map, whole_map, if◌then◌else◌}
 use Rattle.dexhead.specs.declared.map_list.MapEntry.{MapEntry}
 use Rattle.dexclass.specs.Programs.{AreClassesOf}
 use Rattle.dexlayout.specs.Places.{Places}
@@ -109,7 +109,7 @@ module _ (m : Mentions) (cs ds : List NumberedClass) (e : ordered_of m cs ≡ or
     annotations_are = subst (λ (K : Ordered). AreItemsIn (annotation_section K) p.annotations) e h.annotations_are;
     static_values_are = subst (λ (K : Ordered). AreEncodedIn (array_section K) p.static_values) e h.static_values_are;
     strings_are = subst (λ (K : Ordered). AreLaidSo (offsets (string_section K)) (end (string_section K)) p.strings) e h.strings_are;
-    debugs_are = subst (λ (K : Ordered). AreSharedIn (debug_section K) p.debugs) e h.debugs_are;
+    debugs_are = subst (λ (K : Ordered). AreSharedItemsOf (debug_section K) p.debugs) e h.debugs_are;
     codes_are = subst (λ (K : Ordered). AreKeptIn (code_section K) p.codes) e h.codes_are;
     class_data_are = subst (λ (K : Ordered). AreEncodedIn (class_data_section K) p.class_data) e h.class_data_are;
     sets_are = sets_same h.sets_are;

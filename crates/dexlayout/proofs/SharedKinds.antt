@@ -1,5 +1,5 @@
 -- The kinds of item that uses share: their offsets, their bytes, and what they denote.
-use Rattle.dexlayout.proofs.Common.{◌≡◌, ℕ, ◌<◌, List, length, get_or, Some, sym, ap, subst, ◌∙◌, arith, All, IfSome, None, Option, get_or_default, Items, Placed, offsets_from, length-offsets_from, numbers_offsets, AreNumbered, IsNumber, ◌+◌, ◌*◌, [], ◌∷◌, ◌++◌, map, refl, flat_map, length-append, length-map, All-head, All-tail, ushort, uint, Mentions, type_index, type_list_bytes, RanksAreNumbers, type_at, Bool, rank, text_cmp, same_types, same_set, IsEquality, types_decide, set_decides, AreRising, ranks_are_numbers, NumberedSet, set_in, IsKnownSet, ◌^◌, ◌≤◌, append_assoc, Bor, option_map, option_map_or, flat_map-append, map-append, map-map, AnnotationSet, data_start, type_list_items, type_list_section, set_items, string_section, debug_items, debug_section, FieldDef, MethodDef, Debug, unless_empty, method_sets, class_sets, type_list_uses, set_uses, debug_uses, shared_items, end, same_debug, TypeLists, DebugInfoItems, debug_bytes, shared_numbered, text_decides, debug_decides, code_in, IsKnownCode, NumberedItem, set_of, NumberedField, NumberedMethod, IsKnownMethod, field_in, method_in, methods_of, NumberedClass, definition_of, ItemPlaces, EncodedItems, AreItemsIn, AreLaidSo, AreSharedIn, shared_at, shared_by, list_bytes, AreTypes, same_numbers, same_numbers_decides, AreShared, AreTypeLists, AreDebugs, AreWritable, ordered_of, same_bytes, debug_encoding, debug_encodings, all_debug_encodings, encoded_lists, encoded_debugs, HaveItems, SharesLists, SharesSets, interfaces_use, set_use, field_uses, method_uses, methods_uses, members_uses}
+use Rattle.dexlayout.proofs.Common.{◌≡◌, ℕ, ◌<◌, List, length, get_or, Some, sym, ap, subst, ◌∙◌, arith, All, IfSome, None, Option, get_or_default, Items, Placed, offsets_from, length-offsets_from, numbers_offsets, AreNumbered, IsNumber, ◌+◌, ◌*◌, [], ◌∷◌, ◌++◌, map, refl, flat_map, length-append, length-map, All-head, All-tail, ushort, uint, Mentions, type_index, type_list_bytes, RanksAreNumbers, type_at, Bool, rank, text_cmp, same_types, same_set, IsEquality, types_decide, set_decides, AreRising, ranks_are_numbers, NumberedSet, set_in, IsKnownSet, ◌^◌, ◌≤◌, append_assoc, Bor, option_map, option_map_or, flat_map-append, map-append, map-map, AnnotationSet, data_start, type_list_items, type_list_section, set_items, string_section, debug_items, debug_section, FieldDef, MethodDef, Debug, unless_empty, method_sets, class_sets, type_list_uses, set_uses, debug_uses, shared_items, end, same_debug, TypeLists, DebugInfoItems, debug_bytes, shared_numbered, text_decides, debug_decides, code_in, IsKnownCode, NumberedItem, set_of, NumberedField, NumberedMethod, IsKnownMethod, field_in, method_in, methods_of, NumberedClass, definition_of, ItemPlaces, EncodedItems, AreItemsIn, AreLaidSo, AreSharedItemsOf, shared_at, shared_by, list_bytes, AreTypes, same_numbers, same_numbers_decides, AreShared, AreTypeLists, AreDebugs, AreWritable, ordered_of, same_bytes, debug_encoding, debug_encodings, all_debug_encodings, encoded_lists, encoded_debugs, HaveItems, SharesLists, SharesSets, interfaces_use, set_use, field_uses, method_uses, methods_uses, members_uses}
 use Rattle.dexspec.proofs.numbers.ByteNumbers.{length-uint, length-ushort}
 use Rattle.dexspec.proofs.written.PlacedBytes.{length_rows}
 use Rattle.std.specs.Bool.{Decides}
@@ -33,7 +33,7 @@ pub offsets_count : {end : ℕ} (align from : ℕ) (items : List (List ℕ)) {p 
 offsets_count align from items h = ap (λ (l : List ℕ). length l) h.offsets_are ∙ length-offsets_from align from items
 
 -- items that uses share, from those that are written
-pub shared_in : {section : Placed} {p : EncodedItems} (numbers : List (Option ℕ)) → numbers ≡ section.numbers → AreItemsIn section p → AreSharedIn section (shared_by numbers p)
+pub shared_in : {section : Placed} {p : EncodedItems} (numbers : List (Option ℕ)) → numbers ≡ section.numbers → AreItemsIn section p → AreSharedItemsOf section (shared_by numbers p)
 shared_in {section} {p} numbers are h = record {
   bytes_are = h.bytes_are;
   count_is = offsets_count section.align section.from section.items h.places_are;

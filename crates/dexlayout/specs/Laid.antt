@@ -69,7 +69,7 @@ pub record AreKeptIn (section : Placed) (p : KeptItems) : Type 0 where
   pub places_are : AreLaidIn section p.places
 
 -- items that uses share have the bytes, the number and the offsets that they have in this section
-pub record AreSharedIn (section : Placed) (p : EncodedSharedItems) : Type 0 where
+pub record AreSharedItemsOf (section : Placed) (p : EncodedSharedItems) : Type 0 where
   pub bytes_are : p.bytes ≡ section_bytes section
   pub count_is : p.count ≡ length section.items
   pub places_are : AreLaidIn section p.places
@@ -94,7 +94,7 @@ AreAnnotations m cs = AreItemsIn (annotation_section (ordered_of m cs))
 
 -- the debug programs
 abbrev pub AreDebugs : Mentions → List NumberedClass → EncodedSharedItems → Type 0
-AreDebugs m cs = AreSharedIn (debug_section (ordered_of m cs))
+AreDebugs m cs = AreSharedItemsOf (debug_section (ordered_of m cs))
 
 -- the sets
 pub record AreSets (m : Mentions) (cs : List NumberedClass) (p : SetPlaces) : Type 0 where

@@ -1,5 +1,5 @@
 -- Candidates by their numbers.
-use Rattle.dexmerge.proofs.Common.{◌≡◌, ℕ, ◌+◌, ◌<◌, List, [], ◌∷◌, ◌++◌, length, get_or, take, map, sym, ap, ◌∙◌, subst, arith, Option, Some, None, ◌↔◌, All, length-map, get_or-map, take_more, map-append, append_assoc, present, Maps, NumberedClass, renumbered, AreByType, IsHierarchyOf, no_class, name_number, parent_numbers, ArePlaces, IsHierarchy, places_some, map-map, present-append}
+use Rattle.dexmerge.proofs.Common.{◌≡◌, ℕ, ◌+◌, ◌<◌, List, [], ◌∷◌, ◌++◌, length, get_or, take, map, sym, ap, ◌∙◌, subst, arith, Option, Some, None, ◌↔◌, All, length-map, get_or-map, take_more, map-append, append_assoc, present, Maps, NumberedClass, renumbered_class, AreByType, IsHierarchyOf, no_class, name_number, parent_numbers, ArePlaces, IsHierarchy, places_some, map-map, present-append}
 use Rattle.dexmerge.specs.{class_of, classes_of, class_at, kept_classes, IsEqualCopy}
 use Rattle.dexmerge.specs.declared.candidates.Candidate.{Candidate}
 
@@ -47,10 +47,10 @@ kept_next cs places t old new lt h pushed =
     ∙ ap (λ (l : List (Option ℕ)). kept_classes cs l) (sym (take_more places t None lt))
 
 -- one class of a part more
-pub push_more : (cs new : List Candidate) (c : Candidate) (before : List NumberedClass) (r : Maps) (ps : List NumberedClass) (k : ℕ) (x : NumberedClass) → new ≡ cs ++ c ∷ [] → class_of c ≡ renumbered r x → k < length ps → x ≡ get_or ps k x → classes_of cs ≡ before ++ map (renumbered r) (take k ps)
-    → classes_of new ≡ before ++ map (renumbered r) (take (k + 1) ps)
+pub push_more : (cs new : List Candidate) (c : Candidate) (before : List NumberedClass) (r : Maps) (ps : List NumberedClass) (k : ℕ) (x : NumberedClass) → new ≡ cs ++ c ∷ [] → class_of c ≡ renumbered_class r x → k < length ps → x ≡ get_or ps k x → classes_of cs ≡ before ++ map (renumbered_class r) (take k ps)
+    → classes_of new ≡ before ++ map (renumbered_class r) (take (k + 1) ps)
 push_more cs new c before r ps k x pushed is lt at h =
-    let f = renumbered r in
+    let f = renumbered_class r in
     let more : map f (take (k + 1) ps) ≡ map f (take k ps) ++ f x ∷ [] = ap (map f) (take_more ps k x lt) ∙ map-append f (take k ps) (get_or ps k x ∷ []) ∙ ap (λ (y : NumberedClass). map f (take k ps) ++ f y ∷ []) (sym at) in
     ap classes_of pushed ∙ map-append class_of cs (c ∷ []) ∙ ap (λ (y : NumberedClass). classes_of cs ++ y ∷ []) is ∙ ap (λ (l : List NumberedClass). l ++ f x ∷ []) h
     ∙ append_assoc before (map f (take k ps)) (f x ∷ []) ∙ ap (λ (l : List NumberedClass). before ++ l) (sym more)

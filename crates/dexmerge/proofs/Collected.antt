@@ -1,5 +1,5 @@
 -- One class of each name, class by class and part by part.
-use Rattle.dexmerge.proofs.Common.{◌≡◌, ◌≢◌, ℕ, ◌+◌, ◌<◌, Bool, true, false, List, [], ◌∷◌, ◌++◌, length, get_or, take, drop, map, replicate, length-take, sym, ap, ◌∙◌, subst, arith, inl, inr, Option, slice_set, slice_index_or, Contains, AllZip, flat_map, Bor, false≢true, cases_eq, append_assoc, length-set, map-append, get_or-set_same, get_or-set_other, length-replicate, length-append, length-drop, get_or_default, All-nil, All-push, Contains-append_left, Contains-append_right, Contains-append_cases, AreDistinct, Text, Definition, in_class_order, Collection, definitions, AreSame, IsCollectionOf, Mentions, mentions, Caps, AreCaps, IsConsistent, IsGood, greatest_caps, IsWellFormed, AreWellFormed, IsGood-within, definitions-distinct, in_class_order-only, in_class_order-has, Contains-map_source, Contains-map, mentions-same, Contains-nil, Contains-first, Contains-later, Contains-flat_map, Maps, NumberedClass, type_at, definition_of, IsKnownClass, AreDepthsByName, AreClassesOf, AreMergeable, remapped, renumbered, MapsAllInto, StaysSame, Contains-push_cases, Contains-push, AreAmong-append, AreAmong-refl, zip_at}
+use Rattle.dexmerge.proofs.Common.{◌≡◌, ◌≢◌, ℕ, ◌+◌, ◌<◌, Bool, true, false, List, [], ◌∷◌, ◌++◌, length, get_or, take, drop, map, replicate, length-take, sym, ap, ◌∙◌, subst, arith, inl, inr, Option, slice_set, slice_index_or, Contains, AllZip, flat_map, Bor, false≢true, cases_eq, append_assoc, length-set, map-append, get_or-set_same, get_or-set_other, length-replicate, length-append, length-drop, get_or_default, All-nil, All-push, Contains-append_left, Contains-append_right, Contains-append_cases, AreDistinct, Text, Definition, in_class_order, Collection, definitions, AreSame, IsCollectionOf, Mentions, mentions, Caps, AreCaps, IsConsistent, IsGood, greatest_caps, IsWellFormed, AreWellFormed, IsGood-within, definitions-distinct, in_class_order-only, in_class_order-has, Contains-map_source, Contains-map, mentions-same, Contains-nil, Contains-first, Contains-later, Contains-flat_map, Maps, NumberedClass, type_at, definition_of, IsKnownClass, AreDepthsByName, AreClassesOf, AreMergeable, image_or_same, renumbered_class, MapsAllInto, StaysSame, Contains-push_cases, Contains-push, AreAmong-append, AreAmong-refl, zip_at}
 use Rattle.std.proofs.lemmas.List.Quantifiers.{all_pairs_push}
 use Rattle.dexmerge.specs.{all_parts}
 use Rattle.dexmerge.specs.internal.Collecting.{IsPartOf, ArePartsOf, AreCollected, IsAdded, AreOneOfEach}
@@ -111,16 +111,16 @@ module _ (keep : KeepMeaning) (maps_to : MapClasses) (m : Mentions) (K : Collect
   part_stays c known = keep own m r c p.are_mapped.are_mapped (remapped_class maps_to K r c p.are_mapped.all known) known
 
   -- it has a mark
-  pub name_within : (c : NumberedClass) (marks : List Bool) → IsKnownClass own c → length marks ≡ length m.types → remapped r.types c.name < length marks
+  pub name_within : (c : NumberedClass) (marks : List Bool) → IsKnownClass own c → length marks ≡ length m.types → image_or_same r.types c.name < length marks
   name_within c marks known count = omega (arith, (part_stays c known).known.types_in 0 0 (omega arith), count)
 
   -- one class of the part more
-  pub part_more : (D : List Definition) (xs : List NumberedClass) (c : NumberedClass) (old new : Collected) → IsKnownClass own c → Contains (definitions K) (definition_of own c) → IsAdded (renumbered r c) old new → AreCollected m (D ++ map (definition_of own) xs) old.classes.items old.is_name.items
+  pub part_more : (D : List Definition) (xs : List NumberedClass) (c : NumberedClass) (old new : Collected) → IsKnownClass own c → Contains (definitions K) (definition_of own c) → IsAdded (renumbered_class r c) old new → AreCollected m (D ++ map (definition_of own) xs) old.classes.items old.is_name.items
       → AreCollected m (D ++ map (definition_of own) (xs ++ c ∷ [])) new.classes.items new.is_name.items
   part_more D xs c old new known has added h =
-      let same : definition_of m (renumbered r c) ≡ definition_of own c = (part_stays c known).same in
-      let next : (D ++ map (definition_of own) xs) ++ definition_of m (renumbered r c) ∷ [] ≡ D ++ map (definition_of own) (xs ++ c ∷ []) =
-      append_assoc D (map (definition_of own) xs) (definition_of m (renumbered r c) ∷ []) ∙ ap (λ (x : Definition). D ++ (map (definition_of own) xs ++ x ∷ [])) same
+      let same : definition_of m (renumbered_class r c) ≡ definition_of own c = (part_stays c known).same in
+      let next : (D ++ map (definition_of own) xs) ++ definition_of m (renumbered_class r c) ∷ [] ≡ D ++ map (definition_of own) (xs ++ c ∷ []) =
+      append_assoc D (map (definition_of own) xs) (definition_of m (renumbered_class r c) ∷ []) ∙ ap (λ (x : Definition). D ++ (map (definition_of own) xs ++ x ∷ [])) same
       ∙ ap (λ (l : List Definition). D ++ l) (sym (map-append (definition_of own) xs (c ∷ []))) in
       subst (λ (l : List Definition). AreCollected m l new.classes.items new.is_name.items) next (added m (D ++ map (definition_of own) xs) h (part_stays c known).known (subst IsWellFormed (sym same) (formed (definition_of own c) has)))
 

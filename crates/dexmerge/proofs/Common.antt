@@ -17,7 +17,7 @@ pub use Rattle.dexpool.specs.NumberedSymbols.{type_at}
 pub use Rattle.dexclass.specs.Numbered.{NumberedClass, definition_of}
 pub use Rattle.dexclass.specs.Parents.{AreDepthsByName, ArePlaces, IsHierarchy, name_number, no_class, parent_numbers}
 pub use Rattle.dexclass.specs.Programs.{AreClassesOf, AreMergeable}
-pub use Rattle.dexclass.specs.Renumbering.{ClassHasPlaces, IsMappedClass, IsPartClass, MapsAllInto, StaysSame, remapped, renumbered}
+pub use Rattle.dexclass.specs.Renumbering.{ClassHasPlaces, IsMappedClass, IsPartClass, MapsAllInto, StaysSame, image_or_same, renumbered_class}
 pub use Rattle.dexclass.specs.Uses.{IsKnownClass, text_numbers, text_use, type_numbers, type_use}
 pub use Rattle.dexcode.specs.Numbered.{NumberedItem}
 pub use Rattle.dexcode.specs.Renumbering.{HasImages, renumbered_item}

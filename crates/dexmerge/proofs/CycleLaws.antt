@@ -1,7 +1,7 @@
 -- The depths of classes by name, and the first class without one, which has the least name that has none.
 use Rattle.dexmerge.proofs.Common.{◌≡◌, ℕ, ◌+◌, ◌<◌, true, List, length, get_or, map, refl, sym, ap, ◌∙◌, subst, arith, inl, inr, Option, Some, None, Less, All, IsSome, slice_set, Contains, cases_order, cases_lt, length-map, get_or_default, get_or-set_same, get_or-set_other, Text, text_cmp, same_text, Definition, AreSame, IsAcyclic, depth, is_defined, Mentions, IsCycle, list_any-member, depth-same, AreDepths, IsDepthOrNone, AllHaveDepths, IsFirstWithout, NumberedClass, type_at, definition_of, no_class, name_number, IsHierarchy, AreDepthsByName, false≢true}
 use Rattle.dexspec.proofs.lists.Mapped.{Contains-map_source}
-use Rattle.dexorder.specs.Definitions.{AreClassesOf}
+use Rattle.dexorder.specs.Definitions.{AreClassParents}
 use Rattle.dexorder.proofs.DefinitionDepths.{no_cycle, is_cycle, cycle_class, same_from_equal}
 use Rattle.dexorder.proofs.DefinitionOrder.{own_depths}
 use Rattle.dexclass.proofs.Classed.{name_is, one_number}
@@ -60,7 +60,7 @@ module _ (m : Mentions) (cs : List NumberedClass) (kept : AreKept m cs) where
   }
 
   module _ (H : List (List ℕ)) (h : IsHierarchy cs H) where
-    pub numbered : AreClassesOf D H
+    pub numbered : AreClassParents D H
     numbered = are_classes m cs kept.named H h
 
     count : length H ≡ length cs

@@ -1,5 +1,5 @@
 -- Candidates of one part that have the same interfaces.
-use Rattle.dexmerge.proofs.Common.{◌≡◌, ◌∙◌, ℕ, ◌<◌, List, length, get_or, get_or_default, map, sym, ap, subst, All-contains, AreIn, Contains-get_or, IsAt, Maps, remapped}
+use Rattle.dexmerge.proofs.Common.{◌≡◌, ◌∙◌, ℕ, ◌<◌, List, length, get_or, get_or_default, map, sym, ap, subst, All-contains, AreIn, Contains-get_or, IsAt, Maps, image_or_same}
 use Rattle.dexmerge.specs.{class_of}
 use Rattle.dexmerge.specs.declared.candidates.Candidate.{Candidate}
 use Rattle.dexmerge.specs.internal.CandidateLists.{AreByPart, HaveEqualInterfaces}
@@ -20,5 +20,5 @@ module _ (remaps : List Maps) (cs : List Candidate) (h : AreByPart remaps cs) wh
   pub equal_interfaces : (i j : ℕ) (x y : Candidate) → i < length cs → j < length cs → x ≡ get_or cs i x → y ≡ get_or cs j y → x.part ≡ y.part → x.class.now.interfaces ≡ y.class.now.interfaces → HaveEqualInterfaces cs j i
   equal_interfaces i j x y li lj ex ey part same d =
       let maps : x.remap.now ≡ y.remap.now = sym ((place_is i x li ex).is x.remap.now) ∙ ap (λ (p : ℕ). get_or remaps p x.remap.now) part ∙ (place_is j y lj ey).is x.remap.now in
-      let both : (class_of x).interfaces ≡ (class_of y).interfaces = λ k. map (remapped (maps k).types) (same k) in
+      let both : (class_of x).interfaces ≡ (class_of y).interfaces = λ k. map (image_or_same (maps k).types) (same k) in
       ap (λ (c : Candidate). (class_of c).interfaces) (get_or_default cs j d y lj ∙ sym ey) ∙ sym both ∙ ap (λ (c : Candidate). (class_of c).interfaces) (ex ∙ get_or_default cs i x d li)

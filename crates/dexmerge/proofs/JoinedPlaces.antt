@@ -1,5 +1,5 @@
 -- In a part of a union that is good under the greatest caps each number of a class maps to one that fits its place.
-use Rattle.dexmerge.proofs.Common.{◌≡◌, ℕ, ◌*◌, ◌^◌, ◌<◌, ◌≤◌, List, [], ◌∷◌, ◌++◌, length, map, refl, sym, ap, ◌∙◌, subst, arith, inl, inr, Option, Some, None, All, Contains, cases_lt, All-nil, All-cons, All-weaker, rank, text_cmp, Definition, Collection, definitions, AreWithin, Mentions, mentions, weight, IsGood, greatest_caps, HasShortString-within, mentions-same, Contains-nil, Contains-first, Contains-later, Contains-cons_cases, Contains-flat_map, Maps, AllMapTo, KeepOrder, IsMappedUse, ImagesFit, IsGreatest, IsNotTooLarge, MapsShort, NumberedMembers, members_uses, members_short_strings, MembersHavePlaces, all_back, NumberedClass, definition_of, IsKnownClass, type_use, text_use, type_numbers, text_numbers, renumbered, ClassHasPlaces, StaysSame}
+use Rattle.dexmerge.proofs.Common.{◌≡◌, ℕ, ◌*◌, ◌^◌, ◌<◌, ◌≤◌, List, [], ◌∷◌, ◌++◌, length, map, refl, sym, ap, ◌∙◌, subst, arith, inl, inr, Option, Some, None, All, Contains, cases_lt, All-nil, All-cons, All-weaker, rank, text_cmp, Definition, Collection, definitions, AreWithin, Mentions, mentions, weight, IsGood, greatest_caps, HasShortString-within, mentions-same, Contains-nil, Contains-first, Contains-later, Contains-cons_cases, Contains-flat_map, Maps, AllMapTo, KeepOrder, IsMappedUse, ImagesFit, IsGreatest, IsNotTooLarge, MapsShort, NumberedMembers, members_uses, members_short_strings, MembersHavePlaces, all_back, NumberedClass, definition_of, IsKnownClass, type_use, text_use, type_numbers, text_numbers, renumbered_class, ClassHasPlaces, StaysSame}
 use Rattle.dexspec.proofs.lists.Decided.{definition_same_or_not}
 use Rattle.dexspec.proofs.lists.Searches.{once_of}
 use Rattle.dexspec.proofs.size.SizeClasses.{mentions-cover}
@@ -63,7 +63,7 @@ module _ (maps_fit : MapsFit) (members_fit : MembersFit) (keep : KeepMeaning) (m
 
   module _ (c : NumberedClass) (known : IsKnownClass own c) (has : Contains (definitions K) (definition_of own c)) where
     abbrev to : NumberedClass
-    to = renumbered r c
+    to = renumbered_class r c
 
     stays : StaysSame own m r c
     stays = keep own m r c p.are_mapped.are_mapped (remapped_class maps_to K r c p.are_mapped.all known) known

@@ -1,5 +1,5 @@
 -- What the steps of a merge know.
-use Rattle.dexmerge.proofs.Common.{◌≡◌, ℕ, ◌<◌, List, [], ◌∷◌, length, get_or, map, sym, ap, ◌∙◌, subst, arith, Option, Some, None, All, MatchOption, ◌↔◌, AllZip, flat_map, length-map, get_or-map, Contains-get_or, AreDistinct, Definition, Collection, definitions, AreSame, Mentions, mentions, Caps, IsGood, IsFirstCause, Conflict, Cycle, mentions-same, first_cause-same, IsGood-within, AreRising, AreIn, Maps, NumberedClass, type_at, definition_of, no_class, name_number, ArePlaces, AreDepthsByName, renumbered, MapsAllInto, IsPartClass, All-contains}
+use Rattle.dexmerge.proofs.Common.{◌≡◌, ℕ, ◌<◌, List, [], ◌∷◌, length, get_or, map, sym, ap, ◌∙◌, subst, arith, Option, Some, None, All, MatchOption, ◌↔◌, AllZip, flat_map, length-map, get_or-map, Contains-get_or, AreDistinct, Definition, Collection, definitions, AreSame, Mentions, mentions, Caps, IsGood, IsFirstCause, Conflict, Cycle, mentions-same, first_cause-same, IsGood-within, AreRising, AreIn, Maps, NumberedClass, type_at, definition_of, no_class, name_number, ArePlaces, AreDepthsByName, renumbered_class, MapsAllInto, IsPartClass, All-contains}
 use Rattle.dexmerge.specs.{IsOfCap, AreMembers, IsOfPart, IsEqualCopy, IsFirstConflict, kept_classes, class_of, classes_of, class_at}
 use Rattle.dexmerge.specs.declared.candidates.Candidate.{Candidate}
 use Rattle.dexmerge.specs.internal.Cycles.{AreKept, AreAcyclic, IsFirstCycle}
@@ -21,7 +21,7 @@ are_copies parts m remaps cs j members of_parts = record { mentions_are = j.ment
 
 -- classes of two numberings are equal once remapped if and only if they denote the same
 abbrev pub Distinguishes : Type 0
-Distinguishes = (m n whole : Mentions) (r s : Maps) (c d : NumberedClass) → AreRising whole → IsPartClass whole m r c → IsPartClass whole n s d → (renumbered r c ≡ renumbered s d) ↔ (definition_of m c ≡ definition_of n d)
+Distinguishes = (m n whole : Mentions) (r s : Maps) (c d : NumberedClass) → AreRising whole → IsPartClass whole m r c → IsPartClass whole n s d → (renumbered_class r c ≡ renumbered_class s d) ↔ (definition_of m c ≡ definition_of n d)
 
 module _ (m : Mentions) (D : List Definition) (cs : List Candidate) (h : AreCopies m D cs) where
   abbrev Cs : List NumberedClass

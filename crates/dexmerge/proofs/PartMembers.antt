@@ -1,5 +1,5 @@
 -- The definitions of parts, one part after the other.
-use Rattle.dexmerge.proofs.Common.{◌≡◌, ℕ, Bor, ◌+◌, ◌<◌, List, [], ◌∷◌, ◌++◌, length, get_or, take, map, sym, ap, ◌∙◌, subst, inl, inr, Contains, AllZip, flat_map, take_more, map-append, append-nil, get_or-map, flat_map-append, All-append, All-map, All-nil, Contains-append_cases, Definition, Collection, definitions, AreWellFormed, in_class_order, Mentions, mentions, text_cmp, proto_cmp, field_cmp, method_cmp, Contains-nil, mentions-rising, rises-from_Rises, definitions-distinct, in_class_order-only, in_class_order-has, AreRising, Maps, AllMapTo, MapsAll, NumberedClass, definition_of, IsKnownClass, AreClassesOf, renumbered, MapsAllInto, IsMappedClass, StaysSame, AreAmong-append, zip_at, map_both}
+use Rattle.dexmerge.proofs.Common.{◌≡◌, ℕ, Bor, ◌+◌, ◌<◌, List, [], ◌∷◌, ◌++◌, length, get_or, take, map, sym, ap, ◌∙◌, subst, inl, inr, Contains, AllZip, flat_map, take_more, map-append, append-nil, get_or-map, flat_map-append, All-append, All-map, All-nil, Contains-append_cases, Definition, Collection, definitions, AreWellFormed, in_class_order, Mentions, mentions, text_cmp, proto_cmp, field_cmp, method_cmp, Contains-nil, mentions-rising, rises-from_Rises, definitions-distinct, in_class_order-only, in_class_order-has, AreRising, Maps, AllMapTo, MapsAll, NumberedClass, definition_of, IsKnownClass, AreClassesOf, renumbered_class, MapsAllInto, IsMappedClass, StaysSame, AreAmong-append, zip_at, map_both}
 use Rattle.dexmerge.specs.{AreMembers, IsOfPart}
 use Rattle.dexmerge.specs.declared.candidates.Candidate.{Candidate}
 
@@ -44,12 +44,12 @@ module _ (keep : KeepMeaning) (maps_to : MapClasses) (m : Mentions) (K : Collect
   stays c known = keep own m r c are_mapped.are_mapped (remapped_class maps_to K r c are_mapped.all known) known
 
   -- one part more
-  pub members_more : (D : List Definition) (cs ps : List NumberedClass) → AreMembers m D cs → AreClassesOf K ps → AreWellFormed (definitions K) → AreMembers m (D ++ definitions K) (cs ++ map (renumbered r) ps)
+  pub members_more : (D : List Definition) (cs ps : List NumberedClass) → AreMembers m D cs → AreClassesOf K ps → AreWellFormed (definitions K) → AreMembers m (D ++ definitions K) (cs ++ map (renumbered_class r) ps)
   members_more D cs ps h are formed =
-      let remapped : map (definition_of m) (map (renumbered r) ps) ≡ in_class_order (definitions K) = map_both (renumbered r) (definition_of m) (definition_of own) ps (λ i d lt. (stays (get_or ps i d) (are.known i d lt)).same) ∙ are.are in
-      let all : map (definition_of m) (cs ++ map (renumbered r) ps) ≡ map (definition_of m) cs ++ in_class_order (definitions K) = map-append (definition_of m) cs (map (renumbered r) ps) ∙ ap (λ (l : List Definition). map (definition_of m) cs ++ l) remapped in
+      let remapped : map (definition_of m) (map (renumbered_class r) ps) ≡ in_class_order (definitions K) = map_both (renumbered_class r) (definition_of m) (definition_of own) ps (λ i d lt. (stays (get_or ps i d) (are.known i d lt)).same) ∙ are.are in
+      let all : map (definition_of m) (cs ++ map (renumbered_class r) ps) ≡ map (definition_of m) cs ++ in_class_order (definitions K) = map-append (definition_of m) cs (map (renumbered_class r) ps) ∙ ap (λ (l : List Definition). map (definition_of m) cs ++ l) remapped in
       record {
-        known = All-append (IsKnownClass m) cs (map (renumbered r) ps) h.known (All-map (IsKnownClass m) (renumbered r) ps (λ i d lt. (stays (get_or ps i d) (are.known i d lt)).known));
+        known = All-append (IsKnownClass m) cs (map (renumbered_class r) ps) h.known (All-map (IsKnownClass m) (renumbered_class r) ps (λ i d lt. (stays (get_or ps i d) (are.known i d lt)).known));
         same = λ d. (
           λ c. AreAmong-append (map (definition_of m) cs) (in_class_order (definitions K)) D (definitions K) (λ e. (h.same e).0) (in_class_order-only (definitions K)) d (subst (λ (l : List Definition). Contains l d) all c),
           λ c. subst (λ (l : List Definition). Contains l d) (sym all) (AreAmong-append D (definitions K) (map (definition_of m) cs) (in_class_order (definitions K)) (λ e. (h.same e).1) (λ e. in_class_order-has (definitions K) e (definitions-distinct K)) d c),

@@ -9,12 +9,12 @@ use Rattle.dexpool.specs.Numberings.{AreRising}
 use Rattle.dexclass.specs.Numbered.{NumberedClass, definition_of}
 use Rattle.dexclass.specs.Uses.{IsKnownClass}
 use Rattle.dexclass.specs.Parents.{no_class, name_number}
-use Rattle.dexclass.specs.Renumbering.{renumbered, IsPartClass}
+use Rattle.dexclass.specs.Renumbering.{renumbered_class, IsPartClass}
 use Rattle.dexmerge.specs.declared.candidates.Candidate.{Candidate}
 
 -- the class with the numbers of the union
 abbrev pub class_of : Candidate → NumberedClass
-class_of c = renumbered c.remap.now c.class.now
+class_of c = renumbered_class c.remap.now c.class.now
 
 -- the classes of the candidates
 abbrev pub classes_of : List Candidate → List NumberedClass

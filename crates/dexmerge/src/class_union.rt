@@ -5,7 +5,7 @@ ghost use Rattle.dexspec.specs.Files.{Collection};
 ghost use Rattle.dexspec.specs.Mentions.{Mentions};
 ghost use Rattle.dexpool.specs.Numberings.{Maps};
 ghost use Rattle.dexclass.specs.Numbered.{NumberedClass};
-ghost use Rattle.dexclass.specs.Renumbering.{ClassHasPlaces, remapped, renumbered};
+ghost use Rattle.dexclass.specs.Renumbering.{ClassHasPlaces, image_or_same, renumbered_class};
 ghost use Rattle.dexmerge.specs.internal.Collecting.{IsPartOf, HasCollected, HasMarks, HasPushed, HasMarked};
 ghost use Rattle.dexmerge.specs.internal.Collecting.{HasPlaces, CollectsPart, AreMergeable, HasOneOfEach};
 
@@ -50,7 +50,7 @@ impl<'a> Collected<'a> {
     // Returns whether there is a class of the name that a class has in the union.
     fn has_name_of(&self, class: &Class<'a>, remap: &Remap) -> bool
         ensures { result ≡ slice_index_or self.now.is_name.items
-            (remapped remap.now.types class.now.name) false }
+            (image_or_same remap.now.types class.now.name) false }
     {
         let name = remap.or_same(SymbolKind::Typ, class.name());
         name < self.is_name.len() && self.is_name[name]
@@ -63,12 +63,13 @@ impl<'a> Collected<'a> {
         renumbering: &mut Renumbering<'_, 'a>,
     ) -> Result<(), AllocError>
         requires places { ClassHasPlaces renumbering.old class }
-        requires name { remapped renumbering.old.types class.name < length self.old.is_name.items }
+        requires name { image_or_same renumbering.old.types class.name
+            < length self.old.is_name.items }
         ensures kept { renumbering.new ≡ renumbering.old }
         ensures classes { OnOk result
-            (HasPushed (renumbered renumbering.old class.entry) self.old self.new) }
+            (HasPushed (renumbered_class renumbering.old class.entry) self.old self.new) }
         ensures names { OnOk result
-            (HasMarked (remapped renumbering.old.types class.entry.name) self.old self.new) }
+            (HasMarked (image_or_same renumbering.old.types class.entry.name) self.old self.new) }
     {
         renumbering.renumber(&mut class)?;
         self.is_name[class.name()] = true;

@@ -1,7 +1,7 @@
 -- For each type the class that it names, and the parents of a class, one element at a time.
 use Rattle.dexorder.proofs.Common.{◌≡◌, ℕ, ◌+◌, ◌-◌, ◌<◌, List, [], ◌∷◌, ◌++◌, length, get_or, take, drop, refl, sym, ap, ◌∙◌, subst, arith, inl, inr, length-take, map, Option, Some, None, IsSome, slice_set, cases_eq, cases_lt, get_or-set_same, get_or-set_other, take_more, length_push, get_or_append_left, get_or_push, map-append, length-map, present, same_Some, zero, suc, Contains, Contains-get_or, get_or-map, get_or_default}
 use Rattle.dexspec.proofs.sharing.Sharing.{present_source}
-use Rattle.dexorder.specs.{AreByType, AreWithin, HasNoClassFrom, IsFirstClassFrom, classes_of_types, parent_types}
+use Rattle.dexorder.specs.{AreByType, HasNoClassFrom, HaveParentsWithin, IsFirstClassFrom, classes_of_types, parent_types}
 use Rattle.dexorder.specs.declared.parents.InterfaceClass.{InterfaceClass}
 use Rattle.dexorder.specs.EqualLists.{AreFirstEqual}
 use Rattle.dexorder.specs.internal.Searching.{AreParentsWithin, HasNoParentFrom, HaveEqualParents, IsFirstParentFrom, interface_parents, parents_in, parents_of_all}
@@ -122,7 +122,7 @@ module _ {C : Type 0} (by_type : List (Option ℕ)) (superclass_of : C → Optio
   type_of_any (c ∷ cs) (suc i) k p e = type_of_any cs i k p e
 
   -- each of them is a class
-  pub parents_within : (cs : List C) → AreParentsWithin by_type (length cs) → AreWithin (map present (parents_of_all by_type superclass_of interfaces_of cs))
+  pub parents_within : (cs : List C) → AreParentsWithin by_type (length cs) → HaveParentsWithin (map present (parents_of_all by_type superclass_of interfaces_of cs))
   parents_within cs h i d lt k e less =
       let parents = parents_of_all by_type superclass_of interfaces_of cs in
       let few : i < length parents = omega (arith, lt, length-map parents present) in

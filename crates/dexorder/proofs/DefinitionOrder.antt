@@ -1,7 +1,7 @@
 -- The order of numbered classes is that of the definitions that they number.
 use Rattle.dexorder.proofs.Common.{◌≡◌, ◌≢◌, ℕ, ◌+◌, ◌<◌, true, List, [], ◌∷◌, length, map, get_or, Option, Some, None, Ordering, Less, Equal, Greater, refl, sym, ap, ◌∙◌, subst, arith, All, Contains, range_with_len, IsPermutation, IsSome, unwrap_or, nat_cmp, ordering_then, ordering_reverse, IsTotalOrder, ranked, nat_cmp_total, on_total, then_total, get_or_default, get_or-map, Contains-get_or, get_or-range_with_len, length-range_with_len, Contains-permutation, IsPermutation-sym, AreDistinct, rises, Text, text_cmp, Definition, depth, place_cmp, in_class_order, AreAmong, Contains-first, Contains-later, Contains-map, Contains-map_source, class_place as definition_place, in_class_order-only, in_class_order-has, class_places-rise, map-length, text_total, text_exact}
 use Rattle.dexspec.proofs.lists.InOrder.{Rises, Rises-from_rises, Rises-same}
-use Rattle.dexorder.specs.{IsDepthOrNone, AreDepths, class_place, class_cmp, name_at, AreClassesOf, AreDepthsOf, AreNamesOf}
+use Rattle.dexorder.specs.{IsDepthOrNone, AreDepths, class_place, class_cmp, defined_name, AreClassParents, AreDepthsOf, AreNamesOf}
 use Rattle.dexorder.proofs.DepthLaws.{Contains-range}
 use Rattle.dexorder.proofs.DefinitionDepths.{same_depth}
 use Rattle.dexorder.proofs.PlaceLaws.{class_total}
@@ -44,12 +44,12 @@ module _ (D : List Definition) (names : List ℕ) (h : AreNamesOf D names) where
   -- the numbers of different names are different
   pub names_distinct : AreDistinct (map (λ d. d.0) D) → AreDistinct names
   names_distinct distinct i j d ij lt e =
-      by (text_cmp (name_at D i) (name_at D j)) refl (sym (get_or_default names i d 0 (omega arith)) ∙ e ∙ (get_or_default names j d 0 lt)) (omega (arith, ij, lt, h.count)) (omega (arith, lt, h.count)) (distinct i j [] ij (omega (arith, map-length (λ (x : Definition). x.0) D, lt, h.count)))
+      by (text_cmp (defined_name D i) (defined_name D j)) refl (sym (get_or_default names i d 0 (omega arith)) ∙ e ∙ (get_or_default names j d 0 lt)) (omega (arith, ij, lt, h.count)) (omega (arith, lt, h.count)) (distinct i j [] ij (omega (arith, map-length (λ (x : Definition). x.0) D, lt, h.count)))
     where
-      by : (o : Ordering) → text_cmp (name_at D i) (name_at D j) ≡ o → get_or names i 0 ≡ get_or names j 0 → i < length D → j < length D → name_at D i ≢ name_at D j → ⊥
+      by : (o : Ordering) → text_cmp (defined_name D i) (defined_name D j) ≡ o → get_or names i 0 ≡ get_or names j 0 → i < length D → j < length D → defined_name D i ≢ defined_name D j → ⊥
       by Less f same a b ne = let l = (h.order i j a b).1 f in absurd (omega arith)
-      by Equal f same a b ne = ne (text_exact (name_at D i) (name_at D j) f)
-      by Greater f same a b ne = let l = (h.order j i b a).1 (text_total.antisymm (name_at D j) (name_at D i) ∙ ap ordering_reverse f) in absurd (omega arith)
+      by Equal f same a b ne = ne (text_exact (defined_name D i) (defined_name D j) f)
+      by Greater f same a b ne = let l = (h.order j i b a).1 (text_total.antisymm (defined_name D j) (defined_name D i) ∙ ap ordering_reverse f) in absurd (omega arith)
 
 -- ---- the order of definitions
 
@@ -61,22 +61,22 @@ pub definition_total : (D : List Definition) → IsTotalOrder (definition_cmp D)
 definition_total D = on_total (definition_place D) place_total
 
 -- if each class has a depth, the depths are those of the definitions
-pub own_depths : (D : List Definition) (classes : List (List ℕ)) (depths : List (Option ℕ)) → AreClassesOf D classes → AreDepths classes depths → All (λ o. IsSome o) depths → AreDepthsOf D depths
+pub own_depths : (D : List Definition) (classes : List (List ℕ)) (depths : List (Option ℕ)) → AreClassParents D classes → AreDepths classes depths → All (λ o. IsSome o) depths → AreDepthsOf D depths
 own_depths D classes depths h a some = record {
   count = a.count ∙ h.count;
   each = λ i lt. by i (get_or depths i None) (omega (arith, lt, h.count)) (a.is_depth i (omega (arith, lt, h.count))) (some i None (omega (arith, lt, h.count, a.count)));
 }
   where
-    by : (i : ℕ) (o : Option ℕ) → i < length classes → IsDepthOrNone classes i o → IsSome o → o ≡ Some (depth D (name_at D i))
+    by : (i : ℕ) (o : Option ℕ) → i < length classes → IsDepthOrNone classes i o → IsSome o → o ≡ Some (depth D (defined_name D i))
     by i None lt k s = absurd cc
     by i (Some e) lt k s = ap Some (sym (same_depth D classes h i e lt k))
 
 module _ (D : List Definition) (depths : List (Option ℕ)) (names : List ℕ) (a : AreDepthsOf D depths) (n : AreNamesOf D names) (d : Definition) where
   -- the depth that a class is ordered by is that of its definition
-  own_depth : (i : ℕ) → i < length D → unwrap_or (get_or depths i None) 0 ≡ depth D (name_at D i)
+  own_depth : (i : ℕ) → i < length D → unwrap_or (get_or depths i None) 0 ≡ depth D (defined_name D i)
   own_depth i lt = ap (λ o. unwrap_or o 0) (a.each i lt)
 
-  own_name : (i : ℕ) → i < length D → name_at D i ≡ (get_or D i d).0
+  own_name : (i : ℕ) → i < length D → defined_name D i ≡ (get_or D i d).0
   own_name i lt = get_or-map (λ (x : Definition). x.0) D i d [] lt
 
   -- a class before another is a definition before the other's

@@ -1,6 +1,6 @@
 -- Bounds on depths, and that each depth is less than the number of classes.
 use Rattle.dexorder.proofs.Common.{◌≡◌, ℕ, zero, suc, ◌+◌, ◌<◌, ◌≤◌, Bool, true, false, List, [], ◌∷◌, length, refl, ap, ◌∙◌, subst, arith, inl, inr, All, Contains, list_all, range_with_len, cases_lt, All-contains, All-get_or, length-range_with_len, Contains-nil, Contains-first, Contains-later, Contains-cons_cases, list_all-member, list_all-from_members, cases_Bool, both_ways, true_from_ne_false, list_all_at, length-among, some_or_none, AreDistinct-cons, AreDistinct}
-use Rattle.dexorder.specs.{parents_of, is_under, AreWithin, IsDepth, HasNone}
+use Rattle.dexorder.specs.{parents_of, is_under, HaveParentsWithin, IsDepth, HasNone}
 
 module _ (classes : List (List ℕ)) where
   -- less than n is less than n + 1
@@ -72,7 +72,7 @@ module _ (classes : List (List ℕ)) where
   parent_none i p c none zero = refl
   parent_none i p c none (suc n) = list_all-fails (is_under classes n) (parents_of classes i) p c (none n)
 
-module _ (classes : List (List ℕ)) (within : AreWithin classes) where
+module _ (classes : List (List ℕ)) (within : HaveParentsWithin classes) where
   -- a parent of a class is a class
   pub parent_within : (i p : ℕ) → i < length classes → Contains (parents_of classes i) p → p < length classes
   parent_within i p lt c = All-contains (λ k. k < length classes) (parents_of classes i) p (All-get_or (All (λ k. k < length classes)) classes i [] lt within) c

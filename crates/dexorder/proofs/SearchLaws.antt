@@ -7,7 +7,7 @@ use Rattle.dexorder.specs.declared.depths.Visit.{Visit}
 use Rattle.dexorder.specs.declared.depths.Search.{Search}
 use Rattle.dexorder.specs.declared.depths.Reached.{Reached}
 use Rattle.dexorder.specs.declared.depths.Reached.TheVariants.{Depth, Waiting}
-use Rattle.dexorder.specs.{parents_of, is_under, AreDepths, AreWithin, IsDepth, IsDepthOrNone, HasNone}
+use Rattle.dexorder.specs.{parents_of, is_under, AreDepths, HaveParentsWithin, IsDepth, IsDepthOrNone, HasNone}
 use Rattle.dexorder.specs.internal.Searching.{is_under_all, AreBelow, HasDepthBelow, HasReached, HasReachedIn, HasReachedWith, interface_parents, IsWaiting, IsVisit, IsWaitingFor, IsOn, IsSearch, IsDepthBelow, IsBegun, parents_at, work_left, work_unseen}
 use Rattle.std.specs.Prelude.{replicate}
 use Rattle.std.proofs.lemmas.List.{get_or-replicate, get_or_past, length-replicate}
@@ -217,7 +217,7 @@ module _ (parents : List (List (Option ℕ))) where
       is_parent : Contains (parents_of (map present parents) v.class) p
       is_parent = subst (λ ps. Contains ps p) (sym (parents_are v.class last_visit.within)) (present_has (parents_at parents v.class) k p few next)
 
-      pub next_within : AreWithin (map present parents) → p < length parents
+      pub next_within : HaveParentsWithin (map present parents) → p < length parents
       next_within within = omega (arith, length-map parents present, parent_within (map present parents) within v.class p (omega (arith, last_visit.within, length-map parents present)) is_parent)
 
       waits_next : IsWaitingFor (map present parents) p v
@@ -262,7 +262,7 @@ module _ (parents : List (List (Option ℕ))) where
 -- ---- the depths that are known
 
 -- are less than the number of classes
-pub known_below : (parents : List (List (Option ℕ))) (s : Search) (path : List Visit) → IsSearch parents s path → AreWithin (map present parents) → AreBelow (length s.depths.items) s.depths.items
+pub known_below : (parents : List (List (Option ℕ))) (s : Search) (path : List Visit) → IsSearch parents s path → HaveParentsWithin (map present parents) → AreBelow (length s.depths.items) s.depths.items
 known_below parents s path h within i d e = elim (cases_lt i (length s.depths.items)) [
   | inl lt ↦ omega (arith, depth_less (map present parents) within i d (omega (arith, lt, h.depth_count, length-map parents present)) (h.known i d e), h.depth_count, length-map parents present)
   | inr ge ↦ absurd (let n : None ≡ Some d = sym (get_or_past s.depths.items i None (omega (arith, ge))) ∙ e in cc)

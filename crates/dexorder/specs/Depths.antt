@@ -9,8 +9,8 @@ abbrev pub parents_of : List (List ℕ) → ℕ → List ℕ
 parents_of classes i = slice_index_or classes i []
 
 -- each parent is the number of a class
-abbrev pub AreWithin : List (List ℕ) → Type 0
-AreWithin classes = All (λ parents. All (λ p. p < length classes) parents) classes
+abbrev pub HaveParentsWithin : List (List ℕ) → Type 0
+HaveParentsWithin classes = All (λ parents. All (λ p. p < length classes) parents) classes
 
 -- The depth is less than n. A class without parents has depth 0. The depth of another class is one more than the
 -- greatest depth of its parents, if each of them has one.
@@ -51,4 +51,5 @@ PassesOnNone classes i p = Contains (parents_of classes i) p → HasNone classes
 
 -- a depth is less than the number of classes
 abbrev pub AreDepthsBounded : List (List ℕ) → Type 0
-AreDepthsBounded classes = (i d : ℕ) → AreWithin classes → i < length classes → IsDepth classes i d → d < length classes
+AreDepthsBounded classes =
+    (i d : ℕ) → HaveParentsWithin classes → i < length classes → IsDepth classes i d → d < length classes

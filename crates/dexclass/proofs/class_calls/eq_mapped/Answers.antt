@@ -1,5 +1,5 @@
 use Rattle.dexclass.proofs.Common.{refl, sym, ◌∙◌, arith, false≢true, ◌≡◌, ℕ, suc, ◌<◌, List, [], ◌∷◌, length, get_or, ap, map, length-map, get_or-map}
-use Rattle.dexclass.specs.{remapped}
+use Rattle.dexclass.specs.{image_or_same}
 use Rattle.dexclass.proofs.class_calls.eq_mapped.Goals as goal
 
 module _ (f g : ℕ → ℕ) where
@@ -18,8 +18,8 @@ module _ (f g : ℕ → ℕ) where
 pub returns-then-type_number : goal.returns-then-type_number
 returns-then-type_number c = (
   λ e. absurd (false≢true e),
-  λ e. absurd (c.if-type_number.true (c.type_number.ensures ∙ ap (remapped c.args.mine.now.types) c.at.ensures
-      ∙ equivalent_at (remapped c.args.mine.now.types) (remapped c.args.theirs.now.types) c.args.numbers.now c.args.others.now c.loop-k.k e (omega (arith, c.loop-k-test.true, c.len-k-end.ensures)) ∙ sym (c.type_number-in-loop-k.ensures ∙ ap (remapped c.args.theirs.now.types) c.at-in-loop-k.ensures))),
+  λ e. absurd (c.if-type_number.true (c.type_number.ensures ∙ ap (image_or_same c.args.mine.now.types) c.at.ensures
+      ∙ equivalent_at (image_or_same c.args.mine.now.types) (image_or_same c.args.theirs.now.types) c.args.numbers.now c.args.others.now c.loop-k.k e (omega (arith, c.loop-k-test.true, c.len-k-end.ensures)) ∙ sym (c.type_number-in-loop-k.ensures ∙ ap (image_or_same c.args.theirs.now.types) c.at-in-loop-k.ensures))),
 )
 
 pub returns : goal.returns
@@ -27,4 +27,4 @@ returns c =
     let xs = c.args.numbers.now in
     let ys = c.args.others.now in
     let same : length xs ≡ length ys = omega (arith, c.if-len.false, c.len.ensures, c.len-2.ensures) in
-    (λ e. equivalent (remapped c.args.mine.now.types) (remapped c.args.theirs.now.types) xs ys same (λ k lt. c.loop-k.invariant k (omega (arith, lt, c.loop-k-test.false, c.len-k-end.ensures))), λ e. refl)
+    (λ e. equivalent (image_or_same c.args.mine.now.types) (image_or_same c.args.theirs.now.types) xs ys same (λ k lt. c.loop-k.invariant k (omega (arith, lt, c.loop-k-test.false, c.len-k-end.ensures))), λ e. refl)

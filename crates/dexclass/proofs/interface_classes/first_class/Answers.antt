@@ -1,17 +1,17 @@
 use Rattle.std.specs.Borrow.{Bor}
 use Rattle.dexclass.proofs.Common.{◌≡◌, ◌∙◌, ◌+◌, ◌-◌, ◌<◌, ℕ, List, Option, None, Some, Maps, length, length-map, get_or, get_or-map, refl, ap, sym, arith}
-use Rattle.dexclass.specs.{remapped}
+use Rattle.dexclass.specs.{image_or_same}
 use Rattle.dexclass.specs.internal.InterfaceClasses.{type_of, types_of}
 use Rattle.dexclass.proofs.interface_classes.first_class.Goals as goal
 
 -- the numbers, each remapped if there is a map
 types_count : (remap : Option (Bor Maps)) (numbers : List ℕ) → length (types_of remap numbers) ≡ length numbers
 types_count None numbers = refl
-types_count (Some r) numbers = length-map numbers (remapped r.now.types)
+types_count (Some r) numbers = length-map numbers (image_or_same r.now.types)
 
 type_at : (remap : Option (Bor Maps)) (numbers : List ℕ) (k : ℕ) → k < length numbers → get_or (types_of remap numbers) k 0 ≡ type_of remap (get_or numbers k 0)
 type_at None numbers k lt = refl
-type_at (Some r) numbers k lt = get_or-map (remapped r.now.types) numbers k 0 0 lt
+type_at (Some r) numbers k lt = get_or-map (image_or_same r.now.types) numbers k 0 0 lt
 
 pub returns-in-Some : goal.returns-in-Some
 returns-in-Some c =

@@ -1,6 +1,6 @@
 use Rattle.dexclass.proofs.Common.{◌≡◌, map, take}
-use Rattle.dexclass.specs.{remapped}
+use Rattle.dexclass.specs.{image_or_same}
 use Rattle.dexclass.proofs.interface_lists.remapped_types.Given as goal
 
 abbrev pub invariant-loop-k : goal.invariant-loop-k
-invariant-loop-k l = l.images.items ≡ map (remapped l.remap.types) (take l.k l.numbers)
+invariant-loop-k l = l.images.items ≡ map (image_or_same l.remap.types) (take l.k l.numbers)

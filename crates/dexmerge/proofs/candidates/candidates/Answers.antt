@@ -1,4 +1,4 @@
-use Rattle.dexmerge.proofs.Common.{IsAt, ◌≡◌, ◌<◌, ◌++◌, ◌∙◌, List, length, get_or, take, map, sym, ap, subst, arith, refl, flat_map, length-map, append-nil, All, All-push, take_all, Definition, Collection, definitions, NumberedClass, renumbered}
+use Rattle.dexmerge.proofs.Common.{IsAt, ◌≡◌, ◌<◌, ◌++◌, ◌∙◌, List, length, get_or, take, map, sym, ap, subst, arith, refl, flat_map, length-map, append-nil, All, All-push, take_all, Definition, Collection, definitions, NumberedClass, renumbered_class}
 use Rattle.dexmerge.specs.{AreMembers, IsOfPart, classes_of, referents}
 use Rattle.dexmerge.specs.declared.candidates.Candidate.{Candidate}
 use Rattle.dexmerge.specs.internal.CandidateLists.{AreByPart}
@@ -39,7 +39,7 @@ loop-i-preserved c =
     let h = c.loop-class.invariant in
     let few : i < length Ks = omega (arith, c.loop-i-test.true, length-map c.args.parts.now (λ part. part.now)) in
     let at : K ≡ get_or Ks i K = part_at c.args.parts.now i c.index-parts-i.result c.loop-i-test.true c.index-parts-i.is in
-    let all : classes_of c.loop-class.candidates.items ≡ h.0 ++ map (renumbered r) ps = h.2 ∙ ap (λ (l : List NumberedClass). h.0 ++ map (renumbered r) l) (take_all c.loop-class.class-index ps (omega arith)) in
+    let all : classes_of c.loop-class.candidates.items ≡ h.0 ++ map (renumbered_class r) ps = h.2 ∙ ap (λ (l : List NumberedClass). h.0 ++ map (renumbered_class r) l) (take_all c.loop-class.class-index ps (omega arith)) in
     record {
       members = λ m zip.
           subst (λ (D : List Definition). AreMembers m D (classes_of c.loop-class.candidates.items)) (sym (parts_more Ks i K few ∙ ap (λ (L : Collection). flat_map definitions (take i Ks) ++ definitions L) (sym at)))

@@ -1,4 +1,4 @@
-use Rattle.dexmerge.proofs.Common.{◌≡◌, ◌++◌, List, All, map, take, flat_map, definitions, Mentions, NumberedClass, renumbered}
+use Rattle.dexmerge.proofs.Common.{◌≡◌, ◌++◌, List, All, map, take, flat_map, definitions, Mentions, NumberedClass, renumbered_class}
 use Rattle.dexmerge.specs.{AreMembers, IsOfPart, classes_of, referents}
 use Rattle.dexmerge.specs.internal.CandidateLists.{AreMapped, AreByPart}
 use Rattle.dexmerge.proofs.candidates.candidates.Given as goal
@@ -15,6 +15,6 @@ abbrev pub invariant-loop-class : goal.invariant-loop-class
 invariant-loop-class l =
     (before : List NumberedClass)
     × ((m : Mentions) → AreMapped m (referents l.parts) l.remaps → AreMembers m (flat_map definitions (take l.i (referents l.parts))) before)
-    × (classes_of l.candidates.items ≡ before ++ map (renumbered l.remap) (take l.class-index l.class-items))
+    × (classes_of l.candidates.items ≡ before ++ map (renumbered_class l.remap) (take l.class-index l.class-items))
     × ((m : Mentions) → AreMapped m (referents l.parts) l.remaps → All (IsOfPart m) l.candidates.items)
     × AreByPart l.remaps l.candidates.items

@@ -1,4 +1,4 @@
-use Rattle.dexmerge.proofs.Common.{refl, append-nil, Definition, ◌∙◌, ◌<◌, ◌∷◌, [], ap, Bool, true, length-set, slice_set, ◌++◌, List, length, map, sym, subst, arith, Contains, map-id, YieldsList-from_vec, YieldsList-turn, YieldsList-end, definitions, mentions, NumberedClass, definition_of, renumbered, remapped}
+use Rattle.dexmerge.proofs.Common.{refl, append-nil, Definition, ◌∙◌, ◌<◌, ◌∷◌, [], ap, Bool, true, length-set, slice_set, ◌++◌, List, length, map, sym, subst, arith, Contains, map-id, YieldsList-from_vec, YieldsList-turn, YieldsList-end, definitions, mentions, NumberedClass, definition_of, renumbered_class, image_or_same}
 use Rattle.dexpool.specs.Numberings.{Maps}
 use Rattle.dexclass.specs.Renumbering.{ClassHasPlaces}
 use Rattle.dexmerge.specs.internal.Collecting.{AreCollected}
@@ -28,16 +28,16 @@ push-requires-clause-places c =
 
 pub push-requires-clause-name : goal.push-requires-clause-name
 push-requires-clause-name c =
-    subst (λ (r : Maps). remapped r.types c.in-Some.class.name < length c.loop-class.self.is_name.items) (sym c.loop-class.invariant.kept)
+    subst (λ (r : Maps). image_or_same r.types c.in-Some.class.name < length c.loop-class.self.is_name.items) (sym c.loop-class.invariant.kept)
     (name_within c.renumbering_law.ensures.same c.renumbering_law.ensures.all c.requires.0 c.args.part c.args.remap.now c.requires.1 c.is_good.ensures.formed c.in-Some.class c.loop-class.self.is_name.items
     (class_known _ _ _ c.into_classes-classes.ensures (member (goal.at.push-requires-clause-name c).In-Some)) (c.loop-class.invariant.count ∙ c.requires.2))
 
 pub loop-class-preserved-in-Continue-branch-2 : goal.loop-class-preserved-in-Continue-branch-2
 loop-class-preserved-in-Continue-branch-2 c =
     let has = member (goal.at.loop-class-preserved-in-Continue-branch-2 c).In-Some in
-    let x = renumbered c.args.remap.now c.in-Some.class in
-    let classes = c.in_ok-push.ensures.classes ∙ ap (λ (r : Maps). c.loop-class.self.classes.items ++ renumbered r c.in-Some.class ∷ []) c.loop-class.invariant.kept in
-    let names = c.in_ok-push.ensures.names ∙ ap (λ (r : Maps). slice_set c.loop-class.self.is_name.items (remapped r.types c.in-Some.class.name) true) c.loop-class.invariant.kept in
+    let x = renumbered_class c.args.remap.now c.in-Some.class in
+    let classes = c.in_ok-push.ensures.classes ∙ ap (λ (r : Maps). c.loop-class.self.classes.items ++ renumbered_class r c.in-Some.class ∷ []) c.loop-class.invariant.kept in
+    let names = c.in_ok-push.ensures.names ∙ ap (λ (r : Maps). slice_set c.loop-class.self.is_name.items (image_or_same r.types c.in-Some.class.name) true) c.loop-class.invariant.kept in
     record {
       kept = c.push.ensures.kept ∙ c.loop-class.invariant.kept;
       count = ap (λ (l : List Bool). length l) names ∙ length-set c.loop-class.self.is_name.items x.name true ∙ c.loop-class.invariant.count;
@@ -48,7 +48,7 @@ loop-class-preserved-in-Continue-branch-2 c =
 pub loop-class-preserved : goal.loop-class-preserved
 loop-class-preserved c =
     let has = member (goal.at.loop-class-preserved c).In-Some in
-    let x = renumbered c.args.remap.now c.in-Some.class in
+    let x = renumbered_class c.args.remap.now c.in-Some.class in
     record {
       kept = c.loop-class.invariant.kept;
       count = c.loop-class.invariant.count;

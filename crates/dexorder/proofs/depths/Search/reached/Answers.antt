@@ -1,5 +1,5 @@
 use Rattle.dexorder.proofs.Common.{◌≡◌, ◌<◌, ◌∷◌, ◌++◌, [], ℕ, List, Option, ap, arith, get_or, length, length-map, map, present, subst, sym}
-use Rattle.dexorder.specs.{AreWithin}
+use Rattle.dexorder.specs.{HaveParentsWithin}
 use Rattle.dexorder.specs.declared.depths.Search.{Search}
 use Rattle.dexorder.specs.declared.depths.Visit.{Visit}
 use Rattle.dexorder.specs.internal.Searching.{AreBelow, AreParentsWithin, HasReached, HasReachedWith, IsSearch, parents_at, parents_in, parents_of_all}
@@ -19,7 +19,7 @@ within_classes g by_type cs s v h = omega (arith, (last_visit (parents g by_type
 one : (g : Over) (by_type : List (Option ℕ)) (cs : List g.row.C.Denot) (s : Search) (v : Visit) (x : g.row.C.Denot) → IsSearch (parents g by_type cs) s (s.path.items ++ v ∷ []) → x ≡ get_or cs v.class x → parents_in by_type (g.C.HasParents.superclass_of x) (g.C.HasParents.interfaces_of x) ≡ parents_at (parents g by_type cs) v.class
 one g by_type cs s v x h is = sym (parents_of_one by_type g.C.HasParents.superclass_of g.C.HasParents.interfaces_of cs v.class x (within_classes g by_type cs s v h) is)
 
-within : (g : Over) (by_type : List (Option ℕ)) (cs : List g.row.C.Denot) → AreParentsWithin by_type (length cs) → AreWithin (map present (parents g by_type cs))
+within : (g : Over) (by_type : List (Option ℕ)) (cs : List g.row.C.Denot) → AreParentsWithin by_type (length cs) → HaveParentsWithin (map present (parents g by_type cs))
 within g by_type cs h = parents_within by_type g.C.HasParents.superclass_of g.C.HasParents.interfaces_of cs h
 
 pub continued_with-requires-clause-below : goal.continued_with-requires-clause-below

@@ -1,6 +1,6 @@
 use Rattle.dexorder.proofs.Common.{set, Some, ◌≡◌, ◌∙◌, ◌<◌, ℕ, List, Option, false, length, length-map, map, present, refl, sym, ap, subst, arith, get_or_read}
 use Rattle.std.specs.Vec.{with_item}
-use Rattle.dexorder.specs.{AreWithin}
+use Rattle.dexorder.specs.{HaveParentsWithin}
 use Rattle.dexorder.specs.declared.depths.Search.{Search}
 use Rattle.dexorder.specs.declared.depths.Visit.{Visit}
 use Rattle.dexorder.specs.internal.Searching.{AreBelow, AreKnownDepths, AreParentsWithin, HasReachedIn, IsSearch, IsWaiting, work_left, parents_at, parents_in, parents_of_all}
@@ -14,7 +14,7 @@ use Rattle.dexorder.proofs.depths.Search.step.Goals.{In-Depth, In-Waiting}
 abbrev parents : (g : Over) → List (Option ℕ) → List g.row.C.Denot → List (List (Option ℕ))
 parents g by_type cs = parents_of_all by_type g.C.HasParents.superclass_of g.C.HasParents.interfaces_of cs
 
-within : (g : Over) (by_type : List (Option ℕ)) (cs : List g.row.C.Denot) → AreParentsWithin by_type (length cs) → AreWithin (map present (parents g by_type cs))
+within : (g : Over) (by_type : List (Option ℕ)) (cs : List g.row.C.Denot) → AreParentsWithin by_type (length cs) → HaveParentsWithin (map present (parents g by_type cs))
 within g by_type cs h = parents_within by_type g.C.HasParents.superclass_of g.C.HasParents.interfaces_of cs h
 
 -- the parent that it waits for

@@ -40,8 +40,8 @@ is_stage_placed Placed = true
 is_stage_placed Failed = false
 
 -- it is moved to its path
-abbrev pub IsPlaced : {R F D : Type 0} → AtomicFile R F D → Type 0
-IsPlaced file = file.stage ≡ Placed
+abbrev pub IsPlacedFile : {R F D : Type 0} → AtomicFile R F D → Type 0
+IsPlacedFile file = file.stage ≡ Placed
 
 -- nothing is moved to its path
 abbrev pub IsUnplaced : {R F D : Type 0} → AtomicFile R F D → Type 0

@@ -3,7 +3,7 @@
 ghost use Rattle.std.specs.Prelude.{◌≡◌, OnOk, OnErr, IfOk, None, string_bytes};
 ghost use Rattle.std.specs.Io.{WritesAtMost};
 ghost use Rattle.std.specs.Io.KnownBytes.{WriteAppends};
-ghost use Rattle.dexcmd.specs.Atomic.{atomic_path, temporary_name, IsUnmade, IsUnplaced, IsPlaced, IsMadeAs, IsMade, IsNamed, IsPutInto};
+ghost use Rattle.dexcmd.specs.Atomic.{atomic_path, temporary_name, IsUnmade, IsUnplaced, IsPlacedFile, IsMadeAs, IsMade, IsNamed, IsPutInto};
 
 use std::alloc::{AllocError, Global};
 use std::fs::{OpenFile, OpenOptions};
@@ -116,7 +116,7 @@ impl<'a, R: Files> AtomicFile<'a, R> {
     /// removed.
     pub fn place(&mut self) -> io::Result<()>
         ensures path { atomic_path self.new ≡ atomic_path self.old }
-        ensures placed { OnOk result (IsPlaced self.new) }
+        ensures placed { OnOk result (IsPlacedFile self.new) }
         ensures failed { OnErr result (IsUnplaced self.old → IsUnplaced self.new) }
     {
         self.open()?;

@@ -17,7 +17,7 @@ use Rattle.dexmerge.specs.Faults.{IsPlanned}
 use Rattle.dexmerge.specs.declared.measuring.Counts.{Counts}
 use Rattle.dexcanon.specs.Digests.{class_digests}
 use Rattle.dexruns.specs.Fans.{IsFanPlan}
-use Rattle.dexruns.specs.Merges.{IsFileOf, kept}
+use Rattle.dexruns.specs.Merges.{IsFileOf, stripped_if}
 use Rattle.dexkit_c.specs.declared.counting.Numbers.{Numbers}
 use Rattle.dexkit_c.specs.declared.merging.CapNumbers.{CapNumbers}
 
@@ -58,8 +58,8 @@ pub record IsMergedOf (caps : Caps) (fan : Option ℕ) (is_stripped : Bool) (fil
   pub fanned : IsFanPlan (length files) fan plan
   pub whole : Collection
   pub merged : IsPlanned caps collections plan whole
-  pub read_back : IsFileOf (kept is_stripped whole)
-  pub written : out ≡ canonical (kept is_stripped whole)
+  pub read_back : IsFileOf (stripped_if is_stripped whole)
+  pub written : out ≡ canonical (stripped_if is_stripped whole)
 
 -- ---- counts
 

@@ -16,7 +16,7 @@ use Rattle.dexlisting.specs.declared.listing.Detail.{Detail}
 use Rattle.dexlisting.specs.Detailed.{listing_in_of}
 use Rattle.dexlisting.proofs.Chosen.{chosen_lines}
 use Rattle.dexruns.specs.Faults.{fault_of_store}
-use Rattle.dexruns.specs.Listings.{is_among, printed_names, class_listing, AreClassNames, IsFirstUnknown, IsListed, IsClassListingPrefix}
+use Rattle.dexruns.specs.Listings.{is_among, printed_names, class_listing, AreClassNames, IsFirstUnknown, IsDumped, IsClassListingPrefix}
 use Rattle.dexruns.specs.Runs.{IsLeftWith}
 use Rattle.dexruns.specs.declared.dumping.Listed.TheVariants.{Done}
 use Rattle.dexruns.specs.internal.Choices.{IsFirstFalse}
@@ -57,9 +57,9 @@ module _ (one : (b : List ℕ) (K L : Collection) → Denotes b K → Denotes b 
   unknown_read i K same denotes unknown = subst (λ J. IsFirstUnknown names J i) (read_is one b bytes K L same encodes denotes) unknown
 
   module _ (flags : List Bool) (known : AreClassNames names L) (are : flags ≡ map (is_among names) (printed_names L)) where
-    pub classes_written : (detail : Detail) (writes : Type 0) (old new : List ℕ) (K : Collection) → bytes ≡ b → Denotes b K → (writes → new ≡ old ++ listing_in_of detail flags L) → IsListed detail names K writes old new Done
+    pub classes_written : (detail : Detail) (writes : Type 0) (old new : List ℕ) (K : Collection) → bytes ≡ b → Denotes b K → (writes → new ≡ old ++ listing_in_of detail flags L) → IsDumped detail names K writes old new Done
     classes_written detail writes old new K same denotes put =
-        subst (λ J. IsListed detail names J writes old new Done) (read_is one b bytes K L same encodes denotes) (known, (λ w. put w ∙ ap (λ text. old ++ text) (chosen_listing detail names L flags are)))
+        subst (λ J. IsDumped detail names J writes old new Done) (read_is one b bytes K L same encodes denotes) (known, (λ w. put w ∙ ap (λ text. old ++ text) (chosen_listing detail names L flags are)))
 
     -- what is left after a fault of writing
     pub left_by_classes : {W : Type 0} (detail : Detail) (reads writes : Type 0) (old new : W) (taken : W → List ℕ) (f : StoreFault) → (reads → bytes ≡ b) → written.HasLeft writes old new taken (listing_in_of detail flags L) f →

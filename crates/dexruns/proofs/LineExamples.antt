@@ -4,26 +4,26 @@ use Rattle.std.specs.Prelude.{codes}
 use Rattle.std.specs.Fmt.{digits}
 use Rattle.dexhead.specs.declared.refusal.Refusal.{Refusal}
 use Rattle.dexruns.specs.declared.lines.Verdict.TheVariants.{Accepted, Refused}
-use Rattle.dexruns.specs.Lines.{check_line, condition_name, cap_name}
+use Rattle.dexruns.specs.Lines.{check_line, condition_name_by_number, cap_name_by_number}
 use Rattle.dexout.specs.Printed.{shown}
 use Rattle.dexruns.specs.Digests.{digest_line}
-use Rattle.dexruns.specs.Names.{named}
+use Rattle.dexruns.specs.Names.{name_in_form}
 use Rattle.dexruns.specs.declared.names.NameForm.TheVariants.{Escaped, Null}
 use Rattle.dexruns.specs.Counts.{cap_line, number_line}
 
-pub accepted_line : check_line (named Escaped (codes "a.dex") (codes ": ")) (Accepted 1) ≡ codes "a.dex: ok classes=1\n"
+pub accepted_line : check_line (name_in_form Escaped (codes "a.dex") (codes ": ")) (Accepted 1) ≡ codes "a.dex: ok classes=1\n"
 unfolding digits
 accepted_line = refl
 
-pub refused_line : check_line (named Escaped (codes "a.dex") (codes ": ")) (Refused (record { number = 3; place = 38 })) ≡ codes "a.dex: refused 3 Version at 38\n"
-unfolding digits condition_name
+pub refused_line : check_line (name_in_form Escaped (codes "a.dex") (codes ": ")) (Refused (record { number = 3; place = 38 })) ≡ codes "a.dex: refused 3 Version at 38\n"
+unfolding digits condition_name_by_number
 refused_line = refl
 
-pub forged_line : check_line (named Escaped (codes "a\nb\\") (codes ": ")) (Accepted 1) ≡ codes "a\\u000ab\\: ok classes=1\n"
+pub forged_line : check_line (name_in_form Escaped (codes "a\nb\\") (codes ": ")) (Accepted 1) ≡ codes "a\\u000ab\\: ok classes=1\n"
 unfolding digits
 forged_line = refl
 
-pub null_line : check_line (named Null (codes "a\nb") (codes ": ")) (Accepted 1) ≡ codes "a\nb\0ok classes=1\n"
+pub null_line : check_line (name_in_form Null (codes "a\nb") (codes ": ")) (Accepted 1) ≡ codes "a\nb\0ok classes=1\n"
 unfolding digits
 null_line = refl
 
@@ -34,6 +34,6 @@ pub counted : cap_line (codes "methods") 65603 65536 ≡ codes "methods 65603 of
 unfolding cap_line digits
 counted = refl
 
-pub digested : digest_line (named Escaped (codes "a.dex") (codes "\n")) (0xa9 ∷ 0x09 ∷ []) (codes "LA;") ≡ codes "a909\tLA;\ta.dex\n"
+pub digested : digest_line (name_in_form Escaped (codes "a.dex") (codes "\n")) (0xa9 ∷ 0x09 ∷ []) (codes "LA;") ≡ codes "a909\tLA;\ta.dex\n"
 unfolding digest_line
 digested = refl

@@ -19,8 +19,8 @@ use Rattle.dexruns.specs.declared.faults.RunFault.{RunFault}
 use Rattle.dexruns.specs.declared.faults.RunFault.TheVariants as run
 use Rattle.dexruns.specs.declared.names.NameForm.{NameForm}
 use Rattle.dexruns.specs.Digests.{hexadecimal}
-use Rattle.dexruns.specs.Names.{named}
-use Rattle.dexruns.specs.Merges.{AreReadFrom, IsRefusedAt, kept}
+use Rattle.dexruns.specs.Names.{name_in_form}
+use Rattle.dexruns.specs.Merges.{AreReadFrom, IsRefusedAt, stripped_if}
 
 -- ---- the copies of a class
 
@@ -61,7 +61,7 @@ unfoldable pub copy_line : NameForm → List (List ℕ) → Text → ClassCopy �
 copy_line form files name copy =
     shown name
     ++ (codes "\t"
-    ++ (hexadecimal copy.digest ++ (codes "\t" ++ named form (slice_index_or files copy.file []) (codes "\n"))))
+    ++ (hexadecimal copy.digest ++ (codes "\t" ++ name_in_form form (slice_index_or files copy.file []) (codes "\n"))))
 
 -- the lines of a conflict: one for each copy of a class of which not all copies are equal, and none of another class
 abbrev pub conflict_lines : NameForm → List (List ℕ) → Text → List ClassCopy → List ℕ
@@ -91,9 +91,9 @@ change_lines name None = []
 change_lines name (Some change) = change_line name change
 
 -- what is reported of a class
-abbrev pub class_lines : Comparison → List (List ℕ) → Text → List ClassCopy → List ℕ
-class_lines (Conflicts form) files name copies = conflict_lines form files name copies
-class_lines (Changes old) files name copies = change_lines name (change_of old copies)
+abbrev pub comparison_lines : Comparison → List (List ℕ) → Text → List ClassCopy → List ℕ
+comparison_lines (Conflicts form) files name copies = conflict_lines form files name copies
+comparison_lines (Changes old) files name copies = change_lines name (change_of old copies)
 
 -- ---- the lines of files
 
@@ -117,7 +117,7 @@ pub record AreCompared {R : Type 0} (reports : R → Type 0) (to_come : R → Li
   pub collections : List Collection
   pub read : AreReadFrom reports to_come inputs collections
   pub lines : List ℕ
-  pub are : AreClassLines (map (kept is_stripped) collections) lines_of lines
+  pub are : AreClassLines (map (stripped_if is_stripped) collections) lines_of lines
   pub is : Is lines
 
 -- what a fault says of the inputs, and of what was written where the writer failed

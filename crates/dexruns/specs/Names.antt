@@ -20,9 +20,9 @@ escaped_name name = flat_map name_byte name
 
 -- a name as it is printed, and what follows it: with control characters escaped and then as the line goes on, or as it
 -- is and then a zero byte in place of that
-abbrev pub named : NameForm → List ℕ → List ℕ → List ℕ
-named Escaped name after = escaped_name name ++ after
-named Null name after = name ++ (0 ∷ [])
+abbrev pub name_in_form : NameForm → List ℕ → List ℕ → List ℕ
+name_in_form Escaped name after = escaped_name name ++ after
+name_in_form Null name after = name ++ (0 ∷ [])
 
 -- a control character is at the place, and none before it
 pub record IsFirstControl (bytes : List ℕ) (place : ℕ) : Type 0 where

@@ -5,7 +5,7 @@ ghost use Rattle.std.specs.List.{AllZip, flat_map};
 ghost use Rattle.dexspec.specs.Depth.{in_class_order};
 ghost use Rattle.dexspec.specs.Files.{Collection, definitions};
 ghost use Rattle.dexspec.specs.Texts.{Text as Units};
-ghost use Rattle.dexruns.specs.Comparisons.{copies_in, copy_line, conflict_lines, change_of, change_word, change_line, change_lines, class_lines, AreClassLines, compared_status, AreCompared, IsCompareFault};
+ghost use Rattle.dexruns.specs.Comparisons.{copies_in, copy_line, conflict_lines, change_of, change_word, change_line, change_lines, comparison_lines, AreClassLines, compared_status, AreCompared, IsCompareFault};
 ghost use Rattle.dexruns.specs.Inputs.{IsReadNoFurther};
 ghost use Rattle.dexruns.specs.Merges.{IsAppended, IsPrefixAppended, IsReadEachFault, IsOfDevices};
 ghost use Rattle.dexruns.specs.Runs.{AllWork, IsLeft};
@@ -137,7 +137,7 @@ fn push_class(
     text: &mut String,
 ) -> Result<(), AllocError>
     ensures { OnOk result (string_bytes text.new ≡ string_bytes text.old
-        ++ class_lines comparison (map (λ file. file.now) files.now) name.now
+        ++ comparison_lines comparison (map (λ file. file.now) files.now) name.now
         (copies_list copies.now)) }
 {
     match comparison {
@@ -163,7 +163,7 @@ fn table_lines(
     table: &CopyTable,
 ) -> Result<String, AllocError>
     ensures { IfOk result (λ text. (Ks : List Collection) → HoldsCopies Ks table.now.classes
-        → AreClassLines Ks (class_lines comparison (map (λ file. file.now) files.now))
+        → AreClassLines Ks (comparison_lines comparison (map (λ file. file.now) files.now))
         (string_bytes text)) }
 {
     let mut text = String::new(alloc);
@@ -266,12 +266,12 @@ pub fn compare_run<R: Source, W: Sink>(
     requires out { W.has_failed out.old ≡ false }
     ensures compared { IfOk result
         (λ status. AreCompared R.reports R.to_come inputs.old options.now.is_stripped
-        (class_lines options.now.comparison (map (λ name. name.now) options.now.names.now))
+        (comparison_lines options.now.comparison (map (λ name. name.now) options.now.names.now))
         (λ lines. IsAppended (W.reports out.old) (W.taken out.old) (W.taken out.new) lines
         × (status ≡ compared_status lines))) }
     ensures fault { IfErr result
         (IsCompareFault R.reports R.to_come inputs.old options.now.is_stripped
-        (class_lines options.now.comparison (map (λ name. name.now) options.now.names.now))
+        (comparison_lines options.now.comparison (map (λ name. name.now) options.now.names.now))
         (IsPrefixAppended (W.reports out.old) (W.taken out.old) (W.taken out.new))) }
     ensures left { IfErr result (IsLeft out.old out.new) }
     ensures reports { W.reports out.old → W.reports out.new }

@@ -7,7 +7,7 @@ ghost use Rattle.dexspec.specs.Accepted.{IsAccepted};
 ghost use Rattle.dexspec.specs.Files.{Collection, Denotes};
 ghost use Rattle.dexspec.specs.Texts.{text_cmp};
 ghost use Rattle.dexruns.specs.Inputs.{bytes_read, ExpectsAll, IsReadNoFurther};
-ghost use Rattle.dexruns.specs.Listings.{is_among, printed_names, IsListed, IsUnlisted, IsClassListingPrefix};
+ghost use Rattle.dexruns.specs.Listings.{is_among, printed_names, IsDumped, IsUnlisted, IsClassListingPrefix};
 ghost use Rattle.dexruns.specs.Runs.{IsMemoryOf, IsOfInput, IsLeftWith};
 ghost use Rattle.dexruns.specs.internal.Choices.{IsFirstFalse, IsChoice};
 ghost use Rattle.dexruns.specs.declared.faults.RunFault.TheVariants.{Read, Write};
@@ -122,7 +122,7 @@ pub fn dump_classes_run<R: Source, W: Sink>(
         → IsAccepted (bytes_read (R.to_come input.old))) }
     ensures listed { IfOk result (λ listed. R.reports input.old → (K : Collection)
         → Denotes (bytes_read (R.to_come input.old)) K
-        → IsListed detail (map string_bytes names.now) K
+        → IsDumped detail (map string_bytes names.now) K
         (W.reports out.old) (W.taken out.old) (W.taken out.new) listed) }
     ensures unlisted { IfOk result (IsUnlisted (length names.now) out.old out.new) }
     ensures fault { IfErr result

@@ -1,7 +1,7 @@
 //! The names of files in lines.
 
 ghost use Rattle.std.specs.Prelude.{◌≡◌, ◌++◌, All, false, IfOk, OnOk, MatchOption, string_bytes};
-ghost use Rattle.dexruns.specs.Names.{is_control, escaped_name, named, IsFirstControl};
+ghost use Rattle.dexruns.specs.Names.{is_control, escaped_name, name_in_form, IsFirstControl};
 
 use crate::lines::{push_sign, push_signs};
 use dexstr::escaped;
@@ -57,7 +57,7 @@ pub(crate) fn push_named(
     text: &mut String,
 ) -> Result<(), AllocError>
     ensures { OnOk result (string_bytes text.new
-        ≡ string_bytes text.old ++ named form name.now after.now) }
+        ≡ string_bytes text.old ++ name_in_form form name.now after.now) }
 {
     match form {
         NameForm::Escaped => {
@@ -79,7 +79,7 @@ pub(crate) fn push_named(
 /// Source: this project's rule.
 #[tactic(auto, using(crate::proofs::NamesShown::plain_name))]
 pub fn named(alloc: Global, form: NameForm, name: &str, after: &str) -> Result<String, AllocError>
-    ensures named { IfOk result (λ text. string_bytes text ≡ named form name.now after.now) }
+    ensures named { IfOk result (λ text. string_bytes text ≡ name_in_form form name.now after.now) }
     ensures plain { All (λ byte. is_control byte ≡ false) (escaped_name name.now) }
 {
     let mut text = String::new(alloc);

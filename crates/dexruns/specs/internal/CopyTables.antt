@@ -6,7 +6,7 @@ use Rattle.dexspec.specs.Files.{Collection}
 use Rattle.dexruns.specs.declared.copies.ClassCopy.{ClassCopy}
 use Rattle.dexruns.specs.declared.copies.Copies.{Copies}
 use Rattle.dexruns.specs.Comparisons.{copies_of}
-use Rattle.dexruns.specs.Merges.{AreReadFrom, kept}
+use Rattle.dexruns.specs.Merges.{AreReadFrom, stripped_if}
 
 -- the copies, in order
 abbrev pub copies_list : Copies → List ClassCopy
@@ -34,4 +34,4 @@ pub record HaveCopies {R : Type 0} (reports : R → Type 0) (to_come : R → Lis
     (classes : BTreeMap Text Copies) : Type 0 where
   pub collections : List Collection
   pub read : AreReadFrom reports to_come inputs collections
-  pub copies : HoldsCopies (map (kept is_stripped) collections) classes
+  pub copies : HoldsCopies (map (stripped_if is_stripped) collections) classes

@@ -2,7 +2,7 @@ use Rattle.std.proofs.Common.{◌≡◌, arith, get_or, refl}
 use Rattle.std.proofs.lemmas.Result.{IfErr-weaker}
 use Rattle.std.specs.Prelude.{codes}
 use Rattle.dexruns.specs.Inputs.{bytes_read}
-use Rattle.dexruns.specs.Names.{named}
+use Rattle.dexruns.specs.Names.{name_in_form}
 use Rattle.dexcmd.specs.EachFile.{IsFileDigested, IsFileCountedBy}
 use Rattle.dexcmd.specs.declared.each_file.Task.TheVariants as task
 use Rattle.dexcmd.proofs.Done.{check_named, input_named, ended_named}
@@ -10,7 +10,7 @@ use Rattle.dexcmd.proofs.EachFile.{of_one, one_checked, run_works}
 use Rattle.dexcmd.proofs.each_file.run_over.Goals as goal
 
 pub returns-in-Check-clause-ran : goal.returns-in-Check-clause-ran
-returns-in-Check-clause-ran g c = rw c.in-Check.is (one_checked g.R.Source.reports g.R.Source.to_come g.R.Source.expected_len g.R.Source.has_failed g.W.Sink.reports g.W.Sink.taken g.W.Sink.has_failed (named c.in-Check.form c.args.file.now (codes ": ")) c.args.inputs.now c.check_run.new.inputs c.args.out.now c.check_run.new.out c.args.conditions.now c.check_run.new.conditions c.check_run.result
+returns-in-Check-clause-ran g c = rw c.in-Check.is (one_checked g.R.Source.reports g.R.Source.to_come g.R.Source.expected_len g.R.Source.has_failed g.W.Sink.reports g.W.Sink.taken g.W.Sink.has_failed (name_in_form c.in-Check.form c.args.file.now (codes ": ")) c.args.inputs.now c.check_run.new.inputs c.args.out.now c.check_run.new.out c.args.conditions.now c.check_run.new.conditions c.check_run.result
     c.requires.one (omega (arith, c.check_run.auto.inputs, c.requires.one))
     (record {
       lines = c.check_run.ensures.lines;
@@ -27,7 +27,7 @@ returns-in-Check-clause-named g c =
     IfErr-weaker c.check_run.result _ _ (check_named g.R.Source.has_failed c.check_run.new.inputs (g.W.Sink.has_failed c.check_run.new.out) 1 (omega (arith, c.check_run.auto.inputs, c.requires.one))) c.check_run.ensures.fault
 
 pub returns-in-Digest-clause-ran : goal.returns-in-Digest-clause-ran
-returns-in-Digest-clause-ran g c = rw c.in-Digest.is (of_one (λ input left. IsFileDigested g.R.Source.reports g.R.Source.to_come g.R.Source.expected_len g.R.Source.has_failed g.W.Sink.reports g.W.Sink.taken g.W.Sink.has_failed c.in-Digest.is_stripped (named c.in-Digest.form c.args.file.now (codes "\n")) input left c.args.out.now c.digest_or_strip_run.new.out c.done.result × (c.args.conditions.now ≡ c.args.conditions.now))
+returns-in-Digest-clause-ran g c = rw c.in-Digest.is (of_one (λ input left. IsFileDigested g.R.Source.reports g.R.Source.to_come g.R.Source.expected_len g.R.Source.has_failed g.W.Sink.reports g.W.Sink.taken g.W.Sink.has_failed c.in-Digest.is_stripped (name_in_form c.in-Digest.form c.args.file.now (codes "\n")) input left c.args.out.now c.digest_or_strip_run.new.out c.done.result × (c.args.conditions.now ≡ c.args.conditions.now))
     c.args.inputs.now c.index-inputs-0.result c.digest_or_strip_run.new.input c.requires.one (
       record {
         ended = c.digest_or_strip_run.result;
@@ -45,7 +45,7 @@ pub returns-in-Digest-clause-works : goal.returns-in-Digest-clause-works
 returns-in-Digest-clause-works g c = rw c.in-Digest.is (run_works (task.Digest c.in-Digest.form c.in-Digest.is_stripped) (g.W.Sink.has_failed c.digest_or_strip_run.new.out) c.digest_or_strip_run.result c.done.result refl c.done.ensures c.digest_or_strip_run.ensures.write)
 
 pub returns-in-Count-clause-ran : goal.returns-in-Count-clause-ran
-returns-in-Count-clause-ran g c = rw c.in-Count.is (of_one (λ input left. IsFileCountedBy g.R.Source.reports g.R.Source.to_come g.R.Source.expected_len g.R.Source.has_failed g.W.Sink.reports g.W.Sink.taken g.W.Sink.has_failed (named c.in-Count.form c.args.file.now (codes "\n")) input left c.args.out.now c.count_file_run.new.out c.done-in-Count.result × (c.args.conditions.now ≡ c.args.conditions.now))
+returns-in-Count-clause-ran g c = rw c.in-Count.is (of_one (λ input left. IsFileCountedBy g.R.Source.reports g.R.Source.to_come g.R.Source.expected_len g.R.Source.has_failed g.W.Sink.reports g.W.Sink.taken g.W.Sink.has_failed (name_in_form c.in-Count.form c.args.file.now (codes "\n")) input left c.args.out.now c.count_file_run.new.out c.done-in-Count.result × (c.args.conditions.now ≡ c.args.conditions.now))
     c.args.inputs.now c.index-inputs-0-in-Count.result c.count_file_run.new.input c.requires.one (
       record {
         ended = c.count_file_run.result;

@@ -2,7 +2,7 @@ use Rattle.std.proofs.Common.{◌≡◌, map, ap, ◌∙◌, length, arith, stri
 use Rattle.std.proofs.lemmas.List.{length-map}
 use Rattle.std.proofs.lemmas.Result.{IfOk-weaker}
 use Rattle.dexruns.specs.Fans.{IsFanPlan}
-use Rattle.dexruns.specs.Merges.{IsPrefixAppended, kept}
+use Rattle.dexruns.specs.Merges.{IsPrefixAppended, stripped_if}
 use Rattle.dexmerge.specs.Plans.{plan_of}
 use Rattle.dexcmd.specs.Reports.{done}
 use Rattle.dexcmd.specs.Ran.{IsMergeRun}
@@ -14,7 +14,7 @@ pub report-requires-clause-named : goal.report-requires-clause-named
 report-requires-clause-named g c =
     let same : length c.args.inputs.now ≡ length c.as_slice-names.result.now = omega (arith, c.requires.count, texts_count string_bytes (λ name. name.now) c.args.job.now.files.now c.as_slice-names.result.now c.in_ok-texts.texts.items c.as_slice-names.ensures.value c.in_ok-texts.ensures) in
     ended_named (length c.as_slice-names.result.now) _ (merge_named g.R.Source.reports g.R.Source.to_come c.args.inputs.now (length c.as_slice-names.result.now) same
-    c.args.job.now.caps.now (plan_of c.in_ok-plan.plan) (kept c.args.job.now.is_stripped) (IsPrefixAppended (g.W.Sink.reports c.args.out.now) (g.W.Sink.taken c.args.out.now) (g.W.Sink.taken c.merge_or_strip_run.new.out)))
+    c.args.job.now.caps.now (plan_of c.in_ok-plan.plan) (stripped_if c.args.job.now.is_stripped) (IsPrefixAppended (g.W.Sink.reports c.args.out.now) (g.W.Sink.taken c.args.out.now) (g.W.Sink.taken c.merge_or_strip_run.new.out)))
     c.merge_or_strip_run.result c.done-outcome.result c.done-outcome.ensures c.merge_or_strip_run.ensures.fault
 
 pub returns-clause-done : goal.returns-clause-done

@@ -1,4 +1,4 @@
-use Rattle.dexruns.proofs.Common.{arith, ◌≡◌, ◌<◌, ◌+◌, ◌∙◌, [], ◌∷◌, ◌++◌, refl, subst, false, length, drop-set-lt, All-set, AllZip-long, drop_more_same, err_from_is_err_and, length-take-le, IsReadAs, bytes_read, IsReadNoFurther, IsReadFrom, kept}
+use Rattle.dexruns.proofs.Common.{arith, ◌≡◌, ◌<◌, ◌+◌, ◌∙◌, [], ◌∷◌, ◌++◌, refl, subst, false, length, drop-set-lt, All-set, AllZip-long, drop_more_same, err_from_is_err_and, length-take-le, IsReadAs, bytes_read, IsReadNoFurther, IsReadFrom, stripped_if}
 use Rattle.dexruns.proofs.Moved.{same_head, none_moved, moved_now}
 use Rattle.dexruns.proofs.Merged.{held_first, read_more}
 use Rattle.dexruns.proofs.Unread.{each_unread, each_refused}
@@ -56,6 +56,6 @@ loop-i-preserved g c =
         read = read_more (IsReadFrom g.R.Source.reports g.R.Source.to_come) c.args.inputs.now c.loop-i.i c.index-inputs-i.result before.collections c.in_ok-whole.whole (omega arith) before.read
             (held_first (λ x. IsReadFrom g.R.Source.reports g.R.Source.to_come x c.in_ok-whole.whole) c.loop-i.inputs c.args.inputs.now c.loop-i.i c.index-inputs-i.result c.loop-i.invariant.rest (omega arith) (omega arith) c.index-inputs-i.is
             (λ t. subst (λ b. IsReadAs b c.in_ok-whole.whole) (c.as_slice.ensures.value ∙ c.in_ok-bytes.ensures.bytes t) c.in_ok-whole.ensures.accepted));
-        copies = file_more (kept c.args.is_stripped) before.collections c.in_ok-whole.whole c.in_ok-program.program c.loop-i.i c.loop-i.table.classes c.add_classes.new.table.classes c.in_ok-program.ensures many before.copies c.in_ok-add_classes.ensures;
+        copies = file_more (stripped_if c.args.is_stripped) before.collections c.in_ok-whole.whole c.in_ok-program.program c.loop-i.i c.loop-i.table.classes c.add_classes.new.table.classes c.in_ok-program.ensures many before.copies c.in_ok-add_classes.ensures;
       };
     }

@@ -5,7 +5,7 @@ use Rattle.dexruns.proofs.OutOfMemory.{unread_memory, frame_memory, accepted_mem
 use Rattle.dexruns.proofs.Unread.{of_input}
 use Rattle.std.specs.Prelude.{codes}
 use Rattle.dexruns.specs.Counts.{file_line}
-use Rattle.dexruns.specs.Names.{named}
+use Rattle.dexruns.specs.Names.{name_in_form}
 use Rattle.dexruns.proofs.counting.count_file_run.Goals as goal
 
 pub returns-in_err-program-clause-fault : goal.returns-in_err-program-clause-fault
@@ -16,7 +16,7 @@ returns-in_err-program-clause-fault g c =
 
 pub returns-clause-written : goal.returns-clause-written
 returns-clause-written g c = λ reads K denotes.
-    counted_is c.one_collection.ensures (named c.args.form c.args.name.now (codes "\n")) _ _ _ K _ _ (IsAppended (g.W.Sink.reports c.args.out.now) (g.W.Sink.taken c.args.out.now) (g.W.Sink.taken c.write_output.new.out))
+    counted_is c.one_collection.ensures (name_in_form c.args.form c.args.name.now (codes "\n")) _ _ _ K _ _ (IsAppended (g.W.Sink.reports c.args.out.now) (g.W.Sink.taken c.args.out.now) (g.W.Sink.taken c.write_output.new.out))
     (c.as_slice.ensures.value ∙ c.in_ok-bytes.ensures.bytes reads) c.in_ok-program.ensures.accepted denotes c.in_ok-counts.ensures.counts
     (c.as_bytes.ensures.value ∙ c.in_ok-line.ensures ∙ ap (λ file. file_line file c.in_ok-counts.counts) (c.as_str.ensures.value ∙ c.in_ok-file.ensures.named)) c.in_ok-write_output.ensures.written
 
@@ -26,7 +26,7 @@ returns-in_err-write_output-clause-left g c =
     rw (p.1, p.2, c.in_err-write_output.ensures.fault) (λ reads. (
       accepted_file _ _ _ (c.as_slice.ensures.value ∙ c.in_ok-bytes.ensures.bytes reads) c.in_ok-program.ensures.accepted,
       (λ K denotes.
-          counted_is c.one_collection.ensures (named c.args.form c.args.name.now (codes "\n")) _ _ _ K _ _ (IsPrefixAppended (g.W.Sink.reports c.args.out.now) (g.W.Sink.taken c.args.out.now) (g.W.Sink.taken c.write_output.new.out))
+          counted_is c.one_collection.ensures (name_in_form c.args.form c.args.name.now (codes "\n")) _ _ _ K _ _ (IsPrefixAppended (g.W.Sink.reports c.args.out.now) (g.W.Sink.taken c.args.out.now) (g.W.Sink.taken c.write_output.new.out))
           (c.as_slice.ensures.value ∙ c.in_ok-bytes.ensures.bytes reads) c.in_ok-program.ensures.accepted denotes c.in_ok-counts.ensures.counts
           (c.as_bytes.ensures.value ∙ c.in_ok-line.ensures ∙ ap (λ file. file_line file c.in_ok-counts.counts) (c.as_str.ensures.value ∙ c.in_ok-file.ensures.named)) c.in_err-write_output.ensures.prefix),
     ))

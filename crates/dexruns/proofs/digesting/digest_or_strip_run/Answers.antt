@@ -1,9 +1,9 @@
-use Rattle.dexruns.proofs.Common.{ap, ◌∙◌, digest_lines, err_from_is_err_and, bytes_read, kept, ◌≡◌, subst, ExpectsAll, IsFrame}
+use Rattle.dexruns.proofs.Common.{ap, ◌∙◌, digest_lines, err_from_is_err_and, bytes_read, stripped_if, ◌≡◌, subst, ExpectsAll, IsFrame}
 use Rattle.dexruns.proofs.Digested.{accepted_file, written_is, prefix_is}
 use Rattle.dexruns.proofs.OutOfMemory.{unread_memory, frame_memory, accepted_memory}
 use Rattle.dexruns.proofs.Unread.{of_input}
 use Rattle.std.specs.Prelude.{codes}
-use Rattle.dexruns.specs.Names.{named}
+use Rattle.dexruns.specs.Names.{name_in_form}
 use Rattle.dexruns.proofs.digesting.digest_or_strip_run.Goals as goal
 
 pub returns-in_err-whole-clause-fault : goal.returns-in_err-whole-clause-fault
@@ -14,7 +14,7 @@ returns-in_err-whole-clause-fault g c =
 
 pub returns-clause-written : goal.returns-clause-written
 returns-clause-written g c = λ reads writes K denotes.
-    written_is c.one_collection.ensures (kept c.args.is_stripped) (named c.args.form c.args.name.now (codes "\n")) _ _ _ K _ _ _ _ (c.as_slice.ensures.value ∙ c.in_ok-bytes.ensures.bytes reads) c.in_ok-whole.ensures.accepted denotes c.in_ok-program.ensures
+    written_is c.one_collection.ensures (stripped_if c.args.is_stripped) (name_in_form c.args.form c.args.name.now (codes "\n")) _ _ _ K _ _ _ _ (c.as_slice.ensures.value ∙ c.in_ok-bytes.ensures.bytes reads) c.in_ok-whole.ensures.accepted denotes c.in_ok-program.ensures
     (c.as_bytes.ensures.value ∙ c.in_ok-lines.ensures ∙ ap (λ file. digest_lines file c.in_ok-program.program) (c.as_str.ensures.value ∙ c.in_ok-file.ensures.named)) (c.in_ok-write_output.ensures.written writes)
 
 pub returns-in_err-write_output-clause-left : goal.returns-in_err-write_output-clause-left
@@ -23,7 +23,7 @@ returns-in_err-write_output-clause-left g c =
     rw (p.1, p.2, c.in_err-write_output.ensures.fault) (λ reads. (
       accepted_file _ _ _ (c.as_slice.ensures.value ∙ c.in_ok-bytes.ensures.bytes reads) c.in_ok-whole.ensures.accepted,
       (λ writes K denotes.
-          prefix_is c.one_collection.ensures (kept c.args.is_stripped) (named c.args.form c.args.name.now (codes "\n")) _ _ _ K _ _ _ _ (c.as_slice.ensures.value ∙ c.in_ok-bytes.ensures.bytes reads) c.in_ok-whole.ensures.accepted denotes c.in_ok-program.ensures
+          prefix_is c.one_collection.ensures (stripped_if c.args.is_stripped) (name_in_form c.args.form c.args.name.now (codes "\n")) _ _ _ K _ _ _ _ (c.as_slice.ensures.value ∙ c.in_ok-bytes.ensures.bytes reads) c.in_ok-whole.ensures.accepted denotes c.in_ok-program.ensures
           (c.as_bytes.ensures.value ∙ c.in_ok-lines.ensures ∙ ap (λ file. digest_lines file c.in_ok-program.program) (c.as_str.ensures.value ∙ c.in_ok-file.ensures.named)) (c.in_err-write_output.ensures.prefix writes)),
     ))
 

@@ -1,7 +1,7 @@
 //! Items put again: a word for the item, and `FILE OFFSET HEX`, the bytes that are put for the item at the offset, with
 //! the numbers of the file's own pools. The words are `value`, `statics`, `debug`, `annotations` (the annotations of
-//! the set, one after the other), `code` (`FILE OFFSET DEBUG_OFF HEX`) and `set` (`FILE OFFSET FIRST HEX`, with the
-//! annotations from FIRST on).
+//! the set, one after the other), `code` (`FILE OFFSET DEBUG_OFF HEX`), `set` (`FILE OFFSET FIRST HEX`, with the
+//! annotations from FIRST on) and `members` (`FILE ROW HEX`, the initial values of the static fields of a class row).
 
 ghost use Rattle.dexpool.specs.Pools.{ArePools};
 
@@ -30,6 +30,8 @@ pub enum Put {
     Code(u32),
     /// A set whose annotations are at this offset, one after the other.
     Set(u32),
+    /// The initial values of the static fields of a class row.
+    StaticValues,
 }
 
 impl Put {
@@ -52,6 +54,7 @@ impl Put {
             "annotations" => Ok(Put::Annotations),
             "code" => Ok(Put::Code(off)),
             "set" => Ok(Put::Set(off)),
+            "members" => Ok(Put::StaticValues),
             _ => Err(CaseFault::Form),
         }
     }
@@ -64,6 +67,7 @@ impl Put {
             Put::Debug => ItemKind::Debug,
             Put::Code(_) => ItemKind::Code,
             Put::Annotations | Put::Set(_) => ItemKind::Set,
+            Put::StaticValues => ItemKind::Members,
         }
     }
 
@@ -110,7 +114,8 @@ impl Put {
                 Put::Code(debug_off) => return append_code(code, debug_off, numbering, out),
                 _ => return Ok(false),
             },
-            Item::Directory(_) | Item::Members(_) => return Ok(false),
+            Item::Members(members) => members.put_static_values(numbering, out)?,
+            Item::Directory(_) => return Ok(false),
         }
         Ok(true)
     }

@@ -236,7 +236,7 @@ impl Search {
 /// among the classes has depth 0. The depth of another class is one more than the greatest depth of its parents.
 ///
 /// Each of `firsts` is a class with the same interfaces: the class itself, or one before it. The interfaces of classes
-/// that share theirs are gone over three times, however many classes they are.
+/// that share theirs are gone over three times, however many classes they are, if all that are classes have a depth.
 ///
 /// Condition: the name of each class is below `types`, the number of types. The time is linear in the number of types,
 /// classes and parents; no parents are copied. Error: an allocation failed.
